@@ -37,7 +37,8 @@ complete -o filenames -F _studio studio
 # The words that the Tab key completes in lines: the first words, sides, and the sounds of a folder.
 _studio_line_words() {
     printf '%s\n' track drop level side mute put ramp delete split-delete silence trim gain copy cut split-cut paste \
-        paste-over undo redo purge show mix envelope tracks reclaim compact import export both left right
+        paste-over undo redo purge purge-to show mix envelope tracks reclaim compact import export bounce both left \
+        right
     find "$1/sounds" -maxdepth 1 -type f -printf '%f\n' 2>/dev/null
 }
 

@@ -99,6 +99,13 @@ impl Cache {
         let _ = self.headers.put(key, ());
     }
 
+    // Has the header of a block give its place before all others.
+    pub(crate) fn release_header(&mut self, key: PageKey)
+        ensures { SameCache self.old self.new }
+    {
+        let _ = self.headers.demote(&key);
+    }
+
     // Copies samples of a page from a number on, where the page is there, and answers whether it is.
     pub(crate) fn copy_samples(&mut self, key: PageKey, skip: usize, out: &mut [i16]) -> bool
         requires { skip + length out.old ≤ page_len key }

@@ -19,6 +19,9 @@ use pcm_base::BlockRef;
 /// How many samples are read at a time.
 const PIECE: usize = 4096;
 
+/// How many samples are few.
+const FEW: usize = 256;
+
 /// Reads samples whose bytes fit the buffer.
 fn read_piece<S: Store>(
     store: &mut S,
@@ -80,6 +83,31 @@ fn read_pieces<S: Store>(
     Ok(())
 }
 
+/// Reads so few samples that a small buffer has room for them: it is made sooner than one of a page.
+fn read_few<S: Store>(
+    store: &mut S,
+    block: BlockRef,
+    from: usize,
+    out: &mut [i16],
+) -> Result<(), BlockFault>
+    requires len { block.len ≤ MAX_BLOCK_SAMPLES }
+    requires few { length out.old ≤ 256 }
+    requires some { 0 < length out.old }
+    requires within { from + length out.old ≤ block.len }
+    ensures whole { IsTrue (S.tells store.old) → OnOk result (0 < length out.old
+        → 16 + 2 * (from + length out.old) ≤ length (bytes_of (S.reads store.old block.id))) }
+    ensures samples { IsTrue (S.tells store.old)
+        → OnOk result (out.new ≡ samples_in (bytes_of (S.reads store.old block.id)) (16 + 2 * from) (length out.old)) }
+    ensures damaged { IsTrue (S.tells store.old)
+        → IfErr result (λ e. IsEarly block.id block.len (end_of (length out.old) (16 + 2 * (from + length out.old)))
+        (bytes_of (S.reads store.old block.id)) e) }
+    ensures kept { Kept S.Store store.old store.new }
+    ensures faults { Counted result (S.read_fault_count store.old) (S.read_fault_count store.new) }
+{
+    let mut buf = [0u8; 2 * FEW];
+    read_piece(store, block, from, &mut buf, out)
+}
+
 /// Reads samples as `read_samples` does, of a block whose header was compared: it is not read again.
 pub fn read_compared_samples<S: Store>(
     store: &mut S,
@@ -109,6 +137,9 @@ pub fn read_compared_samples<S: Store>(
     ensures kept { Kept S.Store store.old store.new }
     ensures faults { Counted result (S.read_fault_count store.old) (S.read_fault_count store.new) }
 {
+    if !out.is_empty() && out.len() <= FEW {
+        return read_few(store, block, from as usize, out);
+    }
     read_pieces(store, block, from as usize, out)
 }
 

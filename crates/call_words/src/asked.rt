@@ -7,7 +7,7 @@ pub struct NewProject {
     pub rate: u32,
     /// How many samples a block has at most: even, from 4 to 262,144.
     pub block_size: u32,
-    /// How many points the history keeps: from 1 to 4,096.
+    /// How many points the history keeps: from 1 to 65,536.
     pub depth: u32,
 }
 

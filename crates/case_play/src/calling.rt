@@ -4,7 +4,7 @@ use super::gates::HoldingGate;
 use super::program::{Left, Program};
 use super::world::{Asked, Manner, World};
 use case_text::{Fault, Line, goes_on, is_like, last_told};
-use disk_model::RamStore;
+use memory_disk::RamStore;
 use std::alloc::Global;
 use std::sync::Wait;
 use std::thread::Threads;

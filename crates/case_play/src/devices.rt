@@ -39,7 +39,7 @@ fn mic_of(alloc: Global, bytes: &Option<Vec<u8>>, fails: &[u64]) -> Result<MemSo
 // A vault without sounds, with room for some.
 fn new_vault(alloc: Global, fails: &[u64]) -> Result<MemVault, Fault> {
     let fails = numbers_in(alloc, fails)?;
-    let vault = MemVault::new(alloc, 4, 131_072, fails)?;
+    let vault = MemVault::new(alloc, 4, 524_288, fails)?;
     Ok(vault)
 }
 

@@ -3,7 +3,7 @@ use super::playing::play;
 use super::program::Program;
 use super::world::World;
 use case_text::{Fault, Section, first_word};
-use disk_model::RamStore;
+use memory_disk::RamStore;
 use std::sync::Wait;
 use std::thread::Threads;
 

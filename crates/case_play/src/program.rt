@@ -3,8 +3,8 @@ ghost use Rattle.std.specs.Thread.{IsSync};
 
 use super::gates::HoldingGate;
 use super::said::SaidVault;
-use disk_model::RamStore;
 use edit_ports::{MemSink, MemSource};
+use memory_disk::RamStore;
 use pcm_base::Numbers;
 use std::alloc::Global;
 use std::sync::Wait;

@@ -3,7 +3,7 @@ use super::gates::Hold;
 use super::program::Left;
 use super::sounds::Sound;
 use case_text::{Fault, Line};
-use disk_model::RamStore;
+use memory_disk::RamStore;
 use pcm_base::Numbers;
 use std::alloc::Global;
 use std::mem;

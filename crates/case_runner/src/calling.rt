@@ -1,7 +1,8 @@
 // The studio as the program of a case.
 use case_play::{Devices, HoldingGate, Left, Program, SaidVault};
-use disk_model::{RamStore, Store};
+use disk_model::Store;
 use edit_ports::{Gate, MemSink, MemSource, Sink, Source, Vault};
+use memory_disk::RamStore;
 use session_run::{Ending, studio_call};
 use std::alloc::Global;
 use std::sync::Wait;

@@ -22,6 +22,9 @@ use pcm_base::{BlockRef, Cell};
 /// How many samples are read at a time.
 const PIECE: usize = 4096;
 
+/// How many samples are few.
+const FEW: usize = 512;
+
 fn put_samples(samples: &[i16], out: &mut [Cell])
     requires { length out.old ≡ length samples.now }
     ensures { out.new ≡ map Sample samples.now }
@@ -58,6 +61,30 @@ fn read_piece<S: Store>(
     Ok(())
 }
 
+/// Reads samples of a block as cells, so few that a small buffer has room for them: it is made sooner.
+fn read_few<S: Store>(
+    store: &mut S,
+    cache: &mut Cache,
+    block: BlockRef,
+    from: u32,
+    out: &mut [Cell],
+) -> Result<(), BlockFault>
+    requires block { IsBlock block.id block.len }
+    requires cached { IsTrue (S.tells store.old) → IsCacheOf (S.reads store.old) cache.old }
+    requires few { length out.old ≤ 512 }
+    requires within { from + length out.old ≤ block.len }
+    ensures cache { KeepsCache (S.tells store.old) (S.reads store.old) (block ∷ []) cache.old cache.new }
+    ensures stored { IsTrue (S.tells store.old) → OnOk result (out.new ≡ map Sample
+        (samples_in (bytes_of (S.reads store.old block.id)) (16 + 2 * from) (length out.old))) }
+    ensures damaged { IsTrue (S.tells store.old)
+        → IfErr result (λ e. IsFault block.id block.len (bytes_of (S.reads store.old block.id)) e) }
+    ensures kept { Kept S.Store store.old store.new }
+    ensures faults { Counted result (S.read_fault_count store.old) (S.read_fault_count store.new) }
+{
+    let mut buf = [0i16; FEW];
+    read_piece(store, cache, block, from, &mut buf, out)
+}
+
 /// Reads samples of a block as cells, a buffer at a time.
 fn read_pieces<S: Store>(
     store: &mut S,
@@ -77,6 +104,9 @@ fn read_pieces<S: Store>(
     ensures kept { Kept S.Store store.old store.new }
     ensures faults { Counted result (S.read_fault_count store.old) (S.read_fault_count store.new) }
 {
+    if out.len() <= FEW {
+        return read_few(store, cache, block, from, out);
+    }
     let mut buf = [0i16; PIECE];
     let mut done = 0;
     'pieces: while done < out.len() {

@@ -1,6 +1,6 @@
 // Lists of events of a studio on a disk in memory.
 ghost use Rattle.std.specs.Prelude.{ℕ};
-ghost use Rattle.pcm_base.specs.Form.{IsCallInForm, IsInForm};
+ghost use Rattle.pcm_base.specs.Form.{IsCallInForm, IsInForm, IsTurn};
 ghost use Rattle.editor_core.specs.Core.{core_of};
 ghost use Rattle.editor_core.specs.Studios.{IsStudio};
 
@@ -15,7 +15,8 @@ use std::process::Abort;
 use std::test::*;
 
 fn line(command: Command) -> Event
-    requires { IsInForm command }
+    requires form { IsInForm command }
+    requires turn { IsTurn command }
     ensures { (commit : ℕ) → IsCallInForm commit result.call }
 {
     Event {

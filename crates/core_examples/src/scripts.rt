@@ -37,7 +37,7 @@ fn reply_of(told: Result<Reply, Refusal>) -> Reply {
     }
 }
 
-// The answer to a command.
+// The answer to a command. A `bounce` takes several turns, so a studio alone is not asked for one.
 fn apply<S: Store, V: Vault>(
     alloc: Global,
     studio: &mut Studio<S>,
@@ -48,6 +48,12 @@ fn apply<S: Store, V: Vault>(
     requires in_form { IsInForm command.now }
     ensures { IsStudio S.Store (core_of studio.new) }
 {
+    if let Command::Bounce { .. } = command {
+        return Answer {
+            commit: studio.commit_number(),
+            reply: reply_of(Err(Refusal::BadLine { column: 1 })),
+        };
+    }
     let mut answer = Answer {
         commit: studio.commit_number(),
         reply: Reply::Copied,

@@ -3,9 +3,10 @@ ghost use Rattle.std.specs.Prelude.{◌≤◌, IfOk};
 ghost use Rattle.editor_core.specs.Core.{core_of};
 ghost use Rattle.editor_core.specs.Studios.{IsStudio};
 
-use disk_model::{RamStore, Store};
+use disk_model::Store;
 use editor_core::*;
 use layout_uses::Tally;
+use memory_disk::RamStore;
 use pcm_base::Numbers;
 use project_journal::create;
 use project_state::Point;
@@ -27,7 +28,7 @@ pub(crate) fn new_studio<S: Store + Drop>(
     mut store: S,
     depth: u32,
 ) -> Result<Studio<S>, Fail>
-    requires depth { (1 ≤ depth) × (depth ≤ 4096) }
+    requires depth { (1 ≤ depth) × (depth ≤ 65536) }
     ensures studio { IfOk result (λ s. IsStudio S.Store (core_of s)) }
 {
     if let Err(_) = create(&mut store, 8000, 4, depth) {
@@ -47,7 +48,7 @@ pub(crate) fn new_studio<S: Store + Drop>(
         next_layout: 1,
         commit_number: 0,
         file: 0,
-        version: 2,
+        version: 3,
         generation: 0,
         journal_end: 80,
     };

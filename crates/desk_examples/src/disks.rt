@@ -6,9 +6,10 @@ ghost use Rattle.pin_turn.specs.Calls.{known};
 ghost use Rattle.studio_seats.specs.Desks.{IsAt, start_at};
 ghost use Rattle.seat_examples.specs.Jobs.{IsReady};
 
-use disk_model::{RamStore, Store};
+use disk_model::Store;
 use editor_core::Studio;
 use editor_recovery::{check, create, open_store};
+use memory_disk::RamStore;
 use pcm_base::{Cell, Numbers};
 use seat_examples::{RamDesk, RamSeat, Session, begin};
 use std::alloc::Global;

@@ -1,7 +1,7 @@
 // A desk whose disk stops while four threads work at it.
 use super::desk_tests::MIX;
 use super::disks::{commits_in, fresh, has_named_files, opened, seated};
-use disk_model::RamStore;
+use memory_disk::RamStore;
 use pcm_base::Refusal;
 use seat_examples::{End, by_four};
 use std::alloc::Global;

@@ -6,7 +6,6 @@ use Rattle.pcm_base.specs.declared.limits.TheConstants.{COUNTER_LIMIT}
 use Rattle.pcm_base.specs.declared.command.Call.{Call}
 use Rattle.pcm_base.specs.declared.command.Call.TheVariants.{Unpin}
 use Rattle.pcm_base.specs.Counters.{commits_of}
-use Rattle.pcm_base.specs.Run.{Follows}
 use Rattle.disk_model.specs.declared.store.Store.{Ghosts}
 use Rattle.edit_ports.specs.declared.source.Source as source
 use Rattle.edit_ports.specs.declared.vault.Vault as vault
@@ -18,17 +17,18 @@ use Rattle.pin_turn.proofs.Sums.{Each-left}
 use Rattle.editor_core.specs.Core.{Core}
 use Rattle.studio_seats.specs.declared.deed.Deed.{Deed}
 use Rattle.studio_seats.specs.declared.held.Held.{Held}
-use Rattle.studio_seats.specs.Deeds.{actor_of, entries_of, number_after}
+use Rattle.studio_seats.specs.Deeds.{actor_of, number_after}
 use Rattle.studio_seats.specs.Desks.{IsFirst}
 use Rattle.studio_seats.specs.Merge.{Commits, Numbers, any_seat, by_seat, deeds_of, numbers_of}
 use Rattle.studio_seats.specs.Leads.{HadTurn}
-use Rattle.studio_seats.specs.Onward.{Asks, IsLine, places_of}
+use Rattle.studio_seats.specs.Onward.{Asks, places_of}
 use Rattle.studio_seats.specs.Pieces.{pieces_by}
 use Rattle.studio_seats.specs.Stands.{StandsFor, origin}
 use Rattle.studio_seats.specs.Faults.{AllServed}
 use Rattle.studio_seats.proofs.FaultLemmas.{desks_serve}
 use Rattle.studio_seats.proofs.Grown.{leads}
 use Rattle.studio_seats.proofs.MergeLemmas.{merged_numbers}
+use Rattle.script_session.specs.Calls.{IsOfScript}
 use Rattle.script_session.specs.Served.{IsUndisturbed, TellsNoDevice}
 use Rattle.script_session.proofs.ServedLemmas.{sessions_serve}
 use Rattle.script_session.specs.Added.{Adds}
@@ -174,14 +174,15 @@ module _ {D V M P : Type 0} (k : Kinds D V M P) (start final : Core D) (mid : V)
     pin_is = subst (λ (a : ℕ). PinDeed w.used_up a opened.pin o.pin_own) first.number
         (pin_later v.used_up w.used_up u.number opened.pin o.pin_own known_later o.pin);
     all = list.all_rest n pieces reads x s.seats (quiet opened.pin) own counts;
-    lines = subst (λ (a : ℕ). Asks IsLine a rest) is_zero
+    lines = subst (λ (a : ℕ). Asks IsOfScript a rest) is_zero
         (list.asks_lines n pieces reads x s.seats (quiet opened.pin) own counts);
     pieces = list.asks_pieces n pieces reads x s.seats (quiet opened.pin) own counts;
     reads = list.asks_reads n pieces reads x s.seats (quiet opened.pin) own counts;
   }
 
   abbrev p : Place
-  p = place_behind n v.seen v.used_up (vaults.tells before) (vaults.holds before) (vaults.fault_count before)
+  p = place_behind n start.rate v.seen v.used_up (vaults.tells before) (vaults.holds before)
+      (vaults.fault_count before)
 
   abbrev q : Place
   q = place_of start s.script s.ran.0 told.commits (vaults.tells after) (vaults.holds after)
@@ -191,6 +192,7 @@ module _ {D V M P : Type 0} (k : Kinds D V M P) (start final : Core D) (mid : V)
   begins = λ i. record {
     seat = is_zero i;
     first = start.commit_number;
+    rate = start.rate;
     seen = v.seen;
     last = is_last i;
     commits = [];
@@ -217,7 +219,8 @@ module _ {D V M P : Type 0} (k : Kinds D V M P) (start final : Core D) (mid : V)
   script_numbers : told.commits ≡ numbers_of (by_seat 0) (number_after n v.seen) s.seats.by_script.added
   script_numbers = adds.numbers ∙ ap (numbers_of (by_seat 0) (number_after n v.seen)) more_is
 
-  scripted : IsScripted vaults w.used_up (record { first = n; opening = v.seen; rest = rest }) lent told
+  scripted : IsScripted vaults w.used_up (record { first = n; rate = start.rate; opening = v.seen; rest = rest }) lent
+      told
   scripted = record {
     read = s.ran.1.read;
     lines = s.ran.1.lines;
@@ -243,8 +246,9 @@ module _ {D V M P : Type 0} (k : Kinds D V M P) (start final : Core D) (mid : V)
         (Each-left HadTurn q.seen s.seats.more_script
         (subst (λ (l : List Deed). Each HadTurn l) (sym whole ∙ s.seats.script_is) had)) told);
     ends = (refl, refl, refl);
-    sounds = λ is. subst (λ (l : List Deed). Follows (vaults.holds before) (entries_of l) (vaults.holds after)) own_is
-        (adds.sounds is);
+    line_deeds = adds.lines;
+    own = sym own_is ∙ adds.own;
+    sounds = adds.sounds;
   }
 
   piece_numbers_are : numbers_of (by_seat s.recorder.number) (number_after n v.seen) s.seats.by_recorder.part.added

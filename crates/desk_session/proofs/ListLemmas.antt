@@ -14,10 +14,11 @@ use Rattle.studio_seats.specs.declared.deed.Deed.{Deed}
 use Rattle.studio_seats.specs.Deeds as deeds
 use Rattle.studio_seats.specs.Deeds.{actor_of, commits, is_commit, number_after, raised_by}
 use Rattle.studio_seats.specs.Merge.{Merged, SplitsIn, any_seat, by_seat, deeds_of, numbers_if, numbers_of, one_if}
-use Rattle.studio_seats.specs.Onward.{Asks, IsLine, places_of}
+use Rattle.studio_seats.specs.Onward.{Asks, places_of}
 use Rattle.studio_seats.proofs.FreeingLemmas.{same_seat}
 use Rattle.studio_seats.proofs.MergeLemmas.{deeds_append, deeds_others, numbers_append, numbers_others}
 use Rattle.studio_seats.proofs.OnwardLemmas.{asks_others, each_append}
+use Rattle.script_session.specs.Calls.{IsOfScript}
 use Rattle.desk_session.specs.Makers.{Apart, Made, Parts, Seats, is_by}
 use Rattle.desk_session.specs.Parts.{Parted, Rejoined}
 use Rattle.desk_session.proofs.PartLemmas.{parts_made}
@@ -165,9 +166,9 @@ module _ {D V : Type 0} (first : ℕ) (pieces reads : Call → Type 0) (x : Part
       (Each-left (λ e. is_by seats e ≡ true) x.seat.seen rest
       (subst (λ (l : List Deed). Each (λ e. is_by seats e ≡ true) l) whole made.all))
 
-  pub asks_lines : Asks IsLine x.seat.number rest
-  asks_lines = asked_in IsLine x.seat.number rest h.by_script.added h.more_script refl
-      (subst (λ (n : ℕ). Asks IsLine n h.by_script.added) h.script_number h.by_script.asks) made.script
+  pub asks_lines : Asks IsOfScript x.seat.number rest
+  asks_lines = asked_in IsOfScript x.seat.number rest h.by_script.added h.more_script refl
+      (subst (λ (n : ℕ). Asks IsOfScript n h.by_script.added) h.script_number h.by_script.asks) made.script
 
   pub asks_pieces : Asks pieces x.recorder.number rest
   asks_pieces = asked_in pieces x.recorder.number rest h.by_recorder.part.added h.more_recorder recorder_rest

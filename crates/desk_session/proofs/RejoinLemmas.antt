@@ -15,8 +15,9 @@ use Rattle.studio_seats.specs.declared.deed.Deed.{Deed}
 use Rattle.studio_seats.specs.declared.held.Held.{Held}
 use Rattle.studio_seats.specs.Deeds.{actor_of}
 use Rattle.studio_seats.specs.Merge.{by_seat}
-use Rattle.studio_seats.specs.Onward.{Asks, IsLine, Onward, places_of}
+use Rattle.studio_seats.specs.Onward.{Asks, Onward, places_of}
 use Rattle.studio_seats.proofs.OnwardLemmas.{places_others}
+use Rattle.script_session.specs.Calls.{IsOfScript}
 use Rattle.desk_session.specs.Parts.{NewPart, Part, Rejoined}
 use Rattle.desk_session.proofs.PartLemmas.{places_behind}
 
@@ -96,7 +97,7 @@ module _ {D V : Type 0} where
       (new : r ≡ record v { number = r.number; mine = []; away = [] }) (number : IsNewNumber actor_of v r.number)
       (kept2 : v2 ≡ record v1 { away = v1.away ++ p.number ∷ [] })
       (new2 : p ≡ record v1 { number = p.number; mine = []; away = [] }) (number2 : IsNewNumber actor_of v1 p.number)
-      (on : Onward IsLine v2 script) (rec : Onward pieces r recorder) (play : Onward reads p player) where
+      (on : Onward IsOfScript v2 script) (rec : Onward pieces r recorder) (play : Onward reads p player) where
     -- the player's seat may be taken in
     pub first_join : (0 < times player.number script.away) × (player.away ≡ [])
         × ((joined script player).away ≡ v1.away)
@@ -133,7 +134,7 @@ module _ {D V : Type 0} where
         (subst (λ (l : List ℕ). Each (λ k. k < p.number) l) (ap (λ (z : View (Held D V) Deed). z.away) kept)
         number2.above_away) in
         record {
-          by_script = part_of IsLine v v2 script seen2 (λ is. ap (λ (z : View (Held D V) Deed). z.used_up) kept2
+          by_script = part_of IsOfScript v v2 script seen2 (λ is. ap (λ (z : View (Held D V) Deed). z.used_up) kept2
               ∙ (ap (λ (z : View (Held D V) Deed). z.used_up) kept ∙ is)) on;
           script_number = on.number ∙ number_2;
           by_recorder = new_part pieces v r recorder new number.above_own number.above_makers rec;
@@ -160,7 +161,7 @@ module _ {D V : Type 0} where
           recorder_spent = λ h. w_used ∙ (ap (λ (b : Bool). j.used_up || b) h ∙ or_true j.used_up);
           player_spent = λ h. w_used ∙ ap (λ (b : Bool). b || recorder.used_up) (j_used
               ∙ (ap (λ (b : Bool). script.used_up || b) h ∙ or_true script.used_up));
-          script_mine = λ own. own_mine IsLine v2 script on
+          script_mine = λ own. own_mine IsOfScript v2 script on
               (mine2 ∙ (own ∙ (λ i. places_of (by_seat (sym number_2 i)) 0 (sym seen2 i))))
               ∙ ap (λ (n : ℕ). places_of (by_seat n) 0 script.seen) number_2;
         }

@@ -6,7 +6,8 @@ use Rattle.pin_turn.specs.Counts.{Each}
 use Rattle.studio_seats.specs.declared.deed.Deed.{Deed}
 use Rattle.studio_seats.specs.declared.held.Held.{Held}
 use Rattle.studio_seats.specs.Merge.{by_seat}
-use Rattle.studio_seats.specs.Onward.{Asks, IsLine, places_of}
+use Rattle.studio_seats.specs.Onward.{Asks, places_of}
+use Rattle.script_session.specs.Calls.{IsOfScript}
 
 -- What a seat knew before others were split from it; what it, the recorder's and the player's knew before they were
 -- joined; and what it knew then.
@@ -35,7 +36,7 @@ module _ {D V : Type 0} where
 
   -- The seat went on by lines, a recorder's and a player's by what fits them, and then it had seen what each had seen.
   pub record Rejoined (pieces reads : Call → Type 0) (x : Parted D V) : Type 0 where
-    pub by_script : Part IsLine x.seat x.script
+    pub by_script : Part IsOfScript x.seat x.script
     pub script_number : x.script.number ≡ x.seat.number
     pub by_recorder : NewPart pieces x.seat x.recorder
     pub by_player : NewPart reads x.seat x.player

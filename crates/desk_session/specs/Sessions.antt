@@ -1,24 +1,25 @@
 -- A session at a desk: a script, and beside it a recording and a playback, where they were asked for.
 use Rattle.std.specs.Prelude.{◌≡◌, ℕ, Bool, true, IsTrue, List, [], ◌∷◌, ◌++◌, length, None, IsSomeAnd}
-use Rattle.std.specs.List.{list_any}
+use Rattle.std.specs.List.{flat_map, list_any}
 use Rattle.pcm_base.specs.declared.limits.TheConstants.{COUNTER_LIMIT}
 use Rattle.pcm_base.specs.declared.answer.Answer.{Answer}
 use Rattle.pcm_base.specs.Outside.{Sounds}
-use Rattle.pcm_base.specs.Run.{Follows}
 use Rattle.edit_ports.specs.declared.vault.Vault as vault
 use Rattle.edit_ports.specs.Told.{preceded}
 use Rattle.pin_turn.specs.Counts.{Each}
 use Rattle.pin_turn.specs.Rule.{ByOthers}
 use Rattle.editor_core.specs.Core.{Core}
 use Rattle.studio_seats.specs.declared.deed.Deed.{Deed}
-use Rattle.studio_seats.specs.Deeds.{actor_of, entries_of, number_after}
+use Rattle.studio_seats.specs.Deeds.{actor_of, number_after}
 use Rattle.studio_seats.specs.Faults.{AllServed}
 use Rattle.studio_seats.specs.Leads.{HadTurn}
 use Rattle.studio_seats.specs.Merge.{Numbers, any_seat, by_seat, deeds_of, numbers_of}
-use Rattle.studio_seats.specs.Onward.{Asks, IsLine}
+use Rattle.studio_seats.specs.Onward.{Asks}
 use Rattle.studio_seats.specs.Pieces.{pieces_by}
 use Rattle.studio_seats.specs.Shows.{IsMixOf}
 use Rattle.studio_seats.specs.Stands.{StandsFor, origin}
+use Rattle.script_session.specs.Added.{FollowsLines}
+use Rattle.script_session.specs.Calls.{IsOfScript}
 use Rattle.script_session.specs.Change.{change}
 use Rattle.script_session.specs.Place.{Place}
 use Rattle.script_session.specs.Progress.{IsCut, WritesAnswers, outcome_of, says_no}
@@ -33,9 +34,9 @@ use Rattle.desk_session.specs.Opening.{PinDeed, TrackDeed, play_calls, record_ca
 use Rattle.desk_session.specs.Sides.{WhereMade}
 use Rattle.desk_session.specs.Sounds.{Played, Recorded, piece_numbers}
 
--- The deeds of a session, by their makers: the first seat made the opening, and then the lines; a second one made the
--- pieces of the recording, and reclaims, and a third one read the pin and released it. Where one of them made no turn,
--- none was left.
+-- The deeds of a session, by their makers: the first seat made the opening, and then the lines, and the turns of those
+-- that bounce. A second one made the pieces of the recording, and reclaims, and a third one read the pin and released
+-- it. Where one of them made no turn, none was left.
 pub record IsMadeOf (spent : Bool) (track : ℕ) (opened : Opened) (deeds : List Deed) : Type 0 where
   pub seats : Seats
   pub script_seat : seats.script ≡ 0
@@ -49,15 +50,16 @@ pub record IsMadeOf (spent : Bool) (track : ℕ) (opened : Opened) (deeds : List
   pub track_is : TrackDeed spent 0 opened.recording track_own
   pub pin_is : PinDeed spent 0 opened.pin pin_own
   pub all : Each (λ d. is_by seats d ≡ true) rest
-  pub lines : Asks IsLine 0 rest
+  pub lines : Asks IsOfScript 0 rest
   pub pieces : Asks (record_calls track opened.recording) seats.recorder rest
   pub reads : Asks (play_calls opened.pin) seats.player rest
 
 -- where a script begins that has seen the opening
-abbrev pub place_behind : ℕ → List Deed → Bool → Bool → Sounds → ℕ → Place
-place_behind first opening used_up tells sounds faults = record {
+abbrev pub place_behind : ℕ → ℕ → List Deed → Bool → Bool → Sounds → ℕ → Place
+place_behind first rate opening used_up tells sounds faults = record {
   seat = 0;
   first = first;
+  rate = rate;
   seen = opening;
   last = number_after first opening;
   commits = [];
@@ -67,9 +69,11 @@ place_behind first opening used_up tells sounds faults = record {
   faults = faults;
 }
 
--- The commit number with which a session began, the deeds of its opening, and those after them.
+-- The commit number with which a session began, the project's frames in a second, the deeds of its opening, and those
+-- after them.
 pub record Split : Type 0 where
   pub first : ℕ
+  pub rate : ℕ
   pub opening : List Deed
   pub rest : List Deed
 
@@ -87,7 +91,7 @@ pub record IsScripted {V M P : Type 0} (vaults : vault.Ghosts V) (spent : Bool) 
   -- each answer tells the commit number after its turn, and where it took none the one that was told last
   pub used_up : Bool
   pub last : Place
-  pub session : Session (place_behind deeds.first deeds.opening used_up (vaults.tells lent.vault.before)
+  pub session : Session (place_behind deeds.first deeds.rate deeds.opening used_up (vaults.tells lent.vault.before)
       (vaults.holds lent.vault.before) (vaults.fault_count lent.vault.before)) lines answers last
   -- what its seat saw at last begins the list, and after that nothing is by it
   pub later : List Deed
@@ -100,9 +104,11 @@ pub record IsScripted {V M P : Type 0} (vaults : vault.Ghosts V) (spent : Bool) 
   -- the last place is that of the vault as it came back, and of the numbers that were returned
   pub ends : (last.sounds ≡ vaults.holds lent.vault.now) × (last.faults ≡ vaults.fault_count lent.vault.now)
       × (last.commits ≡ told.commits)
-  -- the sounds of a vault that tells its bytes follow its deeds
-  pub sounds : IsTrue (vaults.tells lent.vault.before) → Follows (vaults.holds lent.vault.before)
-      (entries_of (deeds_of (by_seat 0) deeds.rest)) (vaults.holds lent.vault.now)
+  -- the sounds of a vault that reports its bytes follow its lines, each by its own deeds
+  pub line_deeds : List (List Deed)
+  pub own : deeds_of (by_seat 0) deeds.rest ≡ flat_map (λ (ds : List Deed). ds) line_deeds
+  pub sounds : IsTrue (vaults.tells lent.vault.before) → FollowsLines deeds.rate (vaults.holds lent.vault.before)
+      line_deeds (vaults.holds lent.vault.now)
 
 -- A session took the studio from `start` to `final`, which stands for its deeds, in one list: a run of the model.
 pub record IsSession {D V M P : Type 0} (k : Kinds D V M P) (start final : Core D) (lent : Lent V M P) (out : Outcome)
@@ -113,8 +119,12 @@ pub record IsSession {D V M P : Type 0} (k : Kinds D V M P) (start final : Core 
   pub spent : Bool
   pub turns : spent ≡ true → length deeds ≡ COUNTER_LIMIT
   pub made : IsMadeOf spent start.next_track out.opened deeds
-  pub scripted : IsScripted k.vaults spent
-      (record { first = start.commit_number; opening = made.opening; rest = made.rest }) lent out.told
+  pub scripted : IsScripted k.vaults spent (record {
+    first = start.commit_number;
+    rate = start.rate;
+    opening = made.opening;
+    rest = made.rest;
+  }) lent out.told
   -- a recording that was asked for and has its track; else the microphone is as it was
   pub recorded : WhereMade out.opened.recording (λ tag. IsSomeAnd out.kept (Recorded k.mics lent.mic
       (change [] (pieces_by start.next_track tag made.seats.recorder start.commit_number deeds)) spent

@@ -7,7 +7,8 @@ use Rattle.pin_turn.specs.declared.view.View.{View}
 use Rattle.editor_core.specs.Core.{Core}
 use Rattle.studio_seats.specs.declared.deed.Deed.{Deed}
 use Rattle.studio_seats.specs.declared.held.Held.{Held}
-use Rattle.studio_seats.specs.Onward.{IsLine, Onward, worker}
+use Rattle.studio_seats.specs.Onward.{Onward, worker}
+use Rattle.script_session.specs.Calls.{IsOfScript}
 use Rattle.studio_seats.specs.Pieces.{pieces_by}
 use Rattle.studio_seats.specs.Reads.{ReadsOn}
 use Rattle.studio_seats.specs.Recording.{RecordsOn, recorder}
@@ -58,7 +59,7 @@ pieces_seen s tag v = pieces_by s.track tag v.number s.start.commit_number v.see
 -- The lines were run, and beside them a recording where there is a track and a playback where there is a pin.
 pub record Works {D V M P : Type 0} (k : Kinds D V M P) (s : Working D V) (lent : Lent V M P) (out : Outcome)
     : Type 0 where
-  pub goes : Onward IsLine s.script.before s.script.now
+  pub goes : Onward IsOfScript s.script.before s.script.now
   pub ran : RanScript k.vaults (record { start = s.start; last = s.last; seat = s.script }) lent out.told
   pub records : WhereMade out.opened.recording
       (λ tag. (told : Option Refusal)

@@ -1,7 +1,8 @@
 // Reads of a block whose file is damaged, too long or too short. The program opens no project with such a file.
 use super::disks::disk;
 use block_store::{BlockFault, compare_header, read_samples};
-use disk_model::{RamStore, Store};
+use disk_model::Store;
+use memory_disk::RamStore;
 use pcm_base::BlockRef;
 use std::alloc::Global;
 use std::test::*;

@@ -1,5 +1,5 @@
 // Disks in memory.
-use disk_model::RamStore;
+use memory_disk::RamStore;
 use pcm_base::Numbers;
 use std::alloc::Global;
 use std::test::*;

@@ -1,14 +1,6 @@
 pub mod Disk
-pub mod History
-pub mod Calls
 pub mod Room
-pub mod Ram
-pub mod Histories
-pub mod Images
 pub mod Faults
-pub mod Settled
 pub mod Moment
 pub mod MomentLaws
-pub mod Index
-pub mod ByFile
 pub mod Frames

@@ -11,6 +11,10 @@ pub record Room : Type 0 where
 abbrev pub raised : ℕ → ℕ → ℕ
 raised n more = max n (min (n + more) (2 ^ 64 - 1))
 
+-- one more; a u64 counts no further than to its end
+abbrev pub counted : ℕ → ℕ
+counted n = min (n + 1) (2 ^ 64 - 1)
+
 -- one more where a write meets an absent file
 abbrev pub met : {A : Type 0} → Option A → ℕ → ℕ
 met None n = raised n 1

@@ -1,29 +1,13 @@
 //! Files on a disk as a trait, `Store`, with what each call does to them and what a stop of the machine at any moment
-//! may leave of them; and a disk in memory, `RamStore`, that keeps to it and gives such images.
+//! may leave of them.
 //!
 //! Every promise about crashes stands on the clauses of `Store`: the layers above are generic over it and use what it
 //! reads, its images, and that a call answers `Failed` only where its count of faults rose. What a real disk does is
 //! not proved here; `docs/DISK.md` says what is asked of it.
 #![tactic(auto)]
 
-mod build;
-mod by_file;
-mod call;
-mod chain;
-mod draws;
-mod heads;
-mod image;
-mod index;
-mod listing;
-mod log;
-mod overlay;
-mod ram;
-mod record;
-mod replay;
 mod store;
-mod tally;
 mod through;
 
-pub use ram::RamStore;
 pub use store::{ListFault, Store};
 pub use through::{remove_through, sync_file, write_through};

@@ -26,6 +26,7 @@ use Rattle.editor_core.specs.Exports.{moved_from}
 use Rattle.editor_core.specs.Exchanges.{reads_sound}
 use Rattle.editor_core.specs.Imports.{IsCutShort, VaultCounted, left_as}
 use Rattle.editor_core.specs.Left.{Left, MayRemove, Untouched}
+use Rattle.editor_core.specs.Purges.{Purges}
 use Rattle.editor_core.specs.Studios.{IsStudio}
 use Rattle.editor_core.specs.Took.{Exchange, Took, exchange_of, freeing, number_behind, told_by, with_sound}
 use Rattle.editor_core.proofs.Leaving.{IsPlain, left_plain}
@@ -54,6 +55,7 @@ module _ {D : Type 0} (disk : Ghosts D) (s : Core D) where
     changed = took.changed;
     frees = took.frees;
     ids = took.ids;
+    purges = took.purges;
     untouched = took.untouched;
     stops = took.stops;
     left = took.left;
@@ -61,9 +63,9 @@ module _ {D : Type 0} (disk : Ghosts D) (s : Core D) where
 
   -- nothing was done
   pub lasts_idle : IsStudio disk s → Fewer disk s.store → (call : Call) → RemovesNone call → (sound : SoundMove)
-      (why : Refusal) → IsPlain why
+      (why : Refusal) → IsPlain why → Purges s.history call (Err why)
       → Lasts disk s (with_sound call sound (Err why)) s
-  lasts_idle is fewer call none sound why plain = record {
+  lasts_idle is fewer call none sound why plain purges = record {
     studio = is;
     number = refl;
     rests = λ some. refl;
@@ -73,6 +75,7 @@ module _ {D : Type 0} (disk : Ghosts D) (s : Core D) where
     changed = changed_none s.store (others_none s.next_block s.next_block (MayRemove call s.counts)) fewer;
     frees = frees_refused disk s call why s none;
     ids = ids_same s s refl refl;
+    purges = purges;
     untouched = λ device. kept_none s.store fewer;
     stops = inl (refl, refl);
     left = left_plain disk s s.store why plain;
@@ -82,11 +85,11 @@ module _ {D : Type 0} (disk : Ghosts D) (s : Core D) where
   pub lasts_looked : (is : IsStudio disk s) (call : Call) → RemovesNone call → PacksNone call → (sound : SoundMove)
       → s.stopped ≡ None
       → (store : D) (kept : Kept disk s.store store) (cache : Entries) → ReadsNamed disk s cache
-      → (told : Result Reply Refusal)
+      → (told : Result Reply Refusal) → Purges s.history call told
       → s.commit_number ≡ number_behind told call s.commit_number
       → IfErr told (Left disk s (record s { store = store; cache = cache }))
       → Lasts disk s (with_sound call sound told) (record s { store = store; cache = cache })
-  lasts_looked is call none plain sound going store kept cache keeps told number left = record {
+  lasts_looked is call none plain sound going store kept cache keeps told purges number left = record {
     studio = looked_studio disk s is store kept cache keeps;
     number = number;
     rests = λ some. absurd (stopped_not s.stopped some going);
@@ -96,6 +99,7 @@ module _ {D : Type 0} (disk : Ghosts D) (s : Core D) where
     changed = changed_kept (others_none s.next_block s.next_block (MayRemove call s.counts)) kept;
     frees = frees_none disk s call told (record s { store = store; cache = cache }) none plain;
     ids = ids_same s (record s { store = store; cache = cache }) refl refl;
+    purges = purges;
     untouched = kept_untouched disk s (record s { store = store; cache = cache }) call told kept;
     stops = inl (refl, kept.same_faults);
     left = left;
@@ -161,9 +165,11 @@ pub counted_told : {A : Type 0} (f : A → Reply) (answer : Result A Refusal) (o
 counted_told f (Ok x) old new counted = counted
 counted_told f (Err why) old new counted = counted
 
--- every line but an import and an export names no sound
+-- every line but an import, an export and a bounce names no sound
 pub names_none : (c : Command) → ((name : List ℕ) → c ≡ command.Import name → ⊥)
-    → ((name : List ℕ) → c ≡ command.Export name → ⊥) → name_in_line c ≡ None
-names_none (command.Import name) a b = absurd (a name refl)
-names_none (command.Export name) a b = absurd (b name refl)
-names_none c a b = refl
+    → ((name : List ℕ) → c ≡ command.Export name → ⊥) → ((name : List ℕ) → c ≡ command.Bounce name → ⊥)
+    → name_in_line c ≡ None
+names_none (command.Import name) a b d = absurd (a name refl)
+names_none (command.Export name) a b d = absurd (b name refl)
+names_none (command.Bounce name) a b d = absurd (d name refl)
+names_none c a b d = refl

@@ -10,10 +10,10 @@ use Rattle.block_ledger.specs.Entries.{count_of}
 use Rattle.clip_track.specs.declared.clips.Clip.{Clip}
 use Rattle.clip_track.specs.Clips.{layout_blocks}
 use Rattle.project_state.specs.declared.track.Track.{Track}
-use Rattle.project_state.specs.Kept.{history_blocks, point_blocks}
-use Rattle.project_state.specs.KeptSound.{IsSoundTagged}
-use Rattle.project_state.specs.Sound.{AllClipsGiven, AllGiven, AllSoundTracks}
-use Rattle.project_state.proofs.KeptBounds.{all_append}
+use Rattle.project_state.specs.Meaning.{history_blocks, point_blocks}
+use Rattle.record_body.specs.KeptSound.{IsSoundTagged}
+use Rattle.record_body.specs.Sound.{AllClipsGiven, AllGiven, AllSoundTracks}
+use Rattle.record_body.proofs.KeptBounds.{all_append}
 use Rattle.editor_core.specs.Parts.{AreParts, HasParts, assembled}
 use Rattle.block_cache.proofs.CarriedLaws.{carried_none}
 use Rattle.layout_uses.specs.Layouts.{AreDrawn, AreNumbered, history_tracks}

@@ -7,29 +7,32 @@ use Rattle.pcm_base.specs.Pieces.{Sources}
 use Rattle.pcm_base.specs.Sizes.{project_body_most}
 use Rattle.project_journal.specs.Header.{form_of}
 use Rattle.project_journal.specs.Journal.{rows_length}
-use Rattle.project_state.specs.declared.body.Body.{Body}
-use Rattle.project_state.specs.declared.body.Body.TheVariants.{Edit, Undo, Redo, Purge}
+use Rattle.record_body.specs.declared.body.Body.{Body}
+use Rattle.record_body.specs.declared.body.Body.TheVariants.{Edit, Undo, Redo, Purge}
 use Rattle.project_state.specs.declared.track.Track.{Track}
-use Rattle.project_state.specs.Batches.{with_point}
-use Rattle.project_state.specs.Changes.{delta_spelling, spelling_in}
-use Rattle.project_state.specs.Kept.{IsNextIn, Kept, MayFollow, before_of, current_tracks, meant, version_of}
-use Rattle.project_state.specs.Laws.{EndsShort, HasShortEnds}
-use Rattle.project_state.specs.Numbers.{unnumbered, unnumbered_body, unnumbered_history}
-use Rattle.project_state.specs.Sound.{IsSound, IsSoundPoint}
-use Rattle.project_state.specs.Spelling.{spelling}
+use Rattle.record_body.specs.Batches.{with_point}
+use Rattle.record_body.specs.Changes.{delta_spelling, spelling_in}
+use Rattle.record_body.specs.Kept.{IsNextIn, Kept, MayFollow, before_of, current_tracks, version_of}
+use Rattle.project_state.specs.Meaning.{meant}
+use Rattle.record_body.specs.Laws.{EndsShort, HasShortEnds}
+use Rattle.project_state.specs.Numbers.{unnumbered, unnumbered_history}
+use Rattle.record_body.specs.Numbers.{unnumbered_body}
+use Rattle.record_body.specs.Sound.{IsSound, IsSoundPoint}
+use Rattle.record_body.specs.Spelling.{spelling}
 use Rattle.project_state.specs.Tracks.{track_of}
-use Rattle.project_state.proofs.Batched.{next_in}
-use Rattle.project_state.proofs.Unnumbered.{current_alike, delta_spelled_alike, found_alike, spelled_alike}
+use Rattle.record_body.proofs.Batched.{next_in}
+use Rattle.record_body.proofs.Unnumbered.{current_alike, delta_spelled_alike, found_alike, spelled_alike}
 use Rattle.editor_core.specs.Bodies.{IsLength, bodies_by, body_bytes, bytes_by, single, whole_by}
 use Rattle.editor_core.specs.Core.{Core, form_at}
 use Rattle.editor_core.specs.Studios.{AreJournalNumbers}
 use Rattle.editor_core.proofs.Lengths.{record_most, told_most}
 
-pub version_at : (version file : ℕ) → 1 ≤ version → version ≤ 2 → version_of (form_of version file) ≡ version
+pub version_at : (version file : ℕ) → 1 ≤ version → version ≤ 3 → version_of (form_of version file) ≡ version
 version_at zero file least most = absurd (omega (arith, least))
 version_at (suc zero) file least most = refl
 version_at (suc (suc zero)) file least most = refl
-version_at (suc (suc (suc n))) file least most = absurd (omega (arith, most))
+version_at (suc (suc (suc zero))) file least most = refl
+version_at (suc (suc (suc (suc n)))) file least most = absurd (omega (arith, most))
 
 -- ---- several records
 

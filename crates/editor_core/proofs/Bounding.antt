@@ -24,9 +24,9 @@ use Rattle.clip_track.proofs.Strips.{length-strip_cells}
 use Rattle.model_laws.specs.Bounds.{AreRising, IsClipboard, IsPin, IsPoint, IsProject, IsShort, IsTrack, ids_of}
 use Rattle.model_laws.proofs.Trimming.{trimmed-sample, trimmed-samples}
 use Rattle.project_state.specs.declared.track.Track.{Track}
-use Rattle.project_state.specs.Kept.{meant, meant_track}
-use Rattle.project_state.specs.KeptSound.{IsSoundPoint, IsSoundTagged}
-use Rattle.project_state.specs.Sound.{AllSoundTracks}
+use Rattle.project_state.specs.Meaning.{meant, meant_track}
+use Rattle.record_body.specs.KeptSound.{IsSoundPoint, IsSoundTagged}
+use Rattle.record_body.specs.Sound.{AllSoundTracks}
 use Rattle.project_state.specs.Tracks.{AreAbove}
 use Rattle.editor_core.specs.Bounded.{IsBounded}
 use Rattle.editor_core.specs.Core.{Core}

@@ -9,11 +9,11 @@ use Rattle.clip_track.specs.declared.clips.Clip.{Clip}
 use Rattle.clip_track.specs.Clips.{AreClips, IsLayout, end_of, clip_end}
 use Rattle.clip_track.specs.Clips.{layout_blocks}
 use Rattle.project_state.specs.declared.track.Track.{Track}
-use Rattle.project_state.specs.Sound.{AllSoundTracks}
+use Rattle.record_body.specs.Sound.{AllSoundTracks}
 use Rattle.disk_model.specs.declared.store.Store.{Ghosts}
 use Rattle.block_ledger.specs.Counts.{occurrences}
-use Rattle.project_state.specs.Kept.{point_blocks, history_blocks}
-use Rattle.project_state.specs.KeptSound.{IsSoundPoint, IsSoundTagged}
+use Rattle.project_state.specs.Meaning.{point_blocks, history_blocks}
+use Rattle.record_body.specs.KeptSound.{IsSoundPoint, IsSoundTagged}
 use Rattle.editor_core.specs.Core.{Core}
 use Rattle.editor_core.specs.declared.studio.Pin.{Pin}
 use Rattle.editor_core.specs.Occurrences.{times_named}
@@ -68,7 +68,7 @@ parts_few f [] h = omega arith
 parts_few f (x ∷ xs) h = omega (arith, h.0, parts_few f xs h.1, length-append (f x) (flat_map f xs))
 
 module _ {D : Type 0} (disk : Ghosts D) (s : Core D) (is : IsStudio disk s) where
-  history_few : length (history_blocks s.history) ≤ 2 ^ 50
+  history_few : length (history_blocks s.history) ≤ 2 ^ 54
   history_few =
       let each = all_so (IsSoundTagged s.block_size s.next_block s.next_track s.commit_number)
       (λ p. length (point_blocks p.0) ≤ 2 ^ 38)

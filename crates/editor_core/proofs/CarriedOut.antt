@@ -3,8 +3,8 @@ use Rattle.std.proofs.Common.{◌≡◌, subst, ℕ, suc, ◌+◌, List, [], len
 use Rattle.pcm_base.specs.declared.refusal.Refusal.{Refusal}
 use Rattle.disk_model.specs.declared.store.Store.{Ghosts}
 use Rattle.edit_ops.specs.declared.types.NewBlock.{NewBlock}
-use Rattle.project_state.specs.declared.body.Body.{Body}
-use Rattle.project_state.specs.declared.body.Body.TheVariants.{Edit}
+use Rattle.record_body.specs.declared.body.Body.{Body}
+use Rattle.record_body.specs.declared.body.Body.TheVariants.{Edit}
 use Rattle.project_state.specs.declared.track.Track.{Track}
 use Rattle.editor_core.specs.Bodies.{Writing, all_bytes, whole_len}
 use Rattle.editor_core.specs.Core.{Core}

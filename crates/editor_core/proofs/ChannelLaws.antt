@@ -13,7 +13,7 @@ use Rattle.pcm_base.specs.Step.{channels_in, channels_of}
 use Rattle.pcm_base.proofs.Pieces.{length-stretch}
 use Rattle.envelope_view.specs.Answers.{IsUndamaged}
 use Rattle.project_state.specs.declared.track.Track.{Track}
-use Rattle.project_state.specs.Sound.{AllSoundTracks}
+use Rattle.record_body.specs.Sound.{AllSoundTracks}
 use Rattle.project_state.specs.Tracks.{AllBelow, AreAbove}
 use Rattle.editor_core.specs.Imports.{HasChannels, IsInside}
 use Rattle.editor_core.specs.Imports.{channels_refusal, parts_from, total_of}

@@ -25,9 +25,10 @@ use Rattle.clip_track.specs.Clips.{layout_blocks}
 use Rattle.edit_ops.specs.declared.types.NewBlock.{NewBlock}
 use Rattle.edit_ops.specs.Plans.{AllNewFrom, AreWritten}
 use Rattle.project_state.specs.declared.track.Track.{Track}
-use Rattle.project_state.specs.Kept.{current_tracks, history_blocks, meant, meant_history, meant_track, point_blocks}
-use Rattle.project_state.specs.KeptSound.{IsSoundPoint}
-use Rattle.project_state.proofs.KeptBounds.{all_append}
+use Rattle.record_body.specs.Kept.{current_tracks}
+use Rattle.project_state.specs.Meaning.{history_blocks, meant, meant_history, meant_track, point_blocks}
+use Rattle.record_body.specs.KeptSound.{IsSoundPoint}
+use Rattle.record_body.proofs.KeptBounds.{all_append}
 use Rattle.project_state.proofs.MeantHistories.{meant_recorded}
 use Rattle.layout_uses.specs.Drawing.{HasNumbers}
 use Rattle.editor_core.specs.declared.carrying.Planned.{Planned}

@@ -31,10 +31,11 @@ use Rattle.clip_track.specs.declared.items.Item.{Item}
 use Rattle.clip_track.specs.Items.{strip_cells}
 use Rattle.edit_ops.specs.Runs.{longest_of, copy_tests, AreCopies}
 use Rattle.project_state.specs.declared.track.Track.{Track}
-use Rattle.project_state.specs.Kept.{current_tracks, meant_track, history_blocks}
-use Rattle.project_state.specs.Sound.{AllSoundTracks}
+use Rattle.record_body.specs.Kept.{current_tracks}
+use Rattle.project_state.specs.Meaning.{meant_track, history_blocks}
+use Rattle.record_body.specs.Sound.{AllSoundTracks}
 use Rattle.project_state.specs.Tracks.{track_of}
-use Rattle.project_state.proofs.KeptBounds.{all_append}
+use Rattle.record_body.proofs.KeptBounds.{all_append}
 use Rattle.editor_core.specs.declared.copies.RunRange.{RunRange}
 use Rattle.editor_core.specs.Copies.{run_of, Copies, strips_blocks}
 use Rattle.editor_core.specs.Core.{Core}

@@ -3,6 +3,7 @@ use Rattle.std.proofs.Common.{◌≡◌, inl, inr, ⊎_elim, refl, sym, ap, subs
 use Rattle.std.proofs.Common.{Option, None, Err}
 use Rattle.std.proofs.Common.{◌∙◌, arith}
 use Rattle.std.proofs.lemmas.Bool.{true≢false}
+use Rattle.pcm_base.specs.declared.answer.Reply.TheVariants.{Done}
 use Rattle.pcm_base.specs.declared.block.BlockRef.{BlockRef}
 use Rattle.pcm_base.specs.declared.command.Call.{Call}
 use Rattle.pcm_base.specs.declared.entry.SoundMove.{SoundMove}
@@ -17,7 +18,7 @@ use Rattle.disk_model.proofs.Frames.{Fewer, changed_wider}
 use Rattle.sample_block.specs.Sources.{IsWhole}
 use Rattle.clip_track.specs.declared.items.Item.{Item}
 use Rattle.project_state.specs.declared.track.Track.{Track}
-use Rattle.project_state.specs.Kept.{Kept}
+use Rattle.record_body.specs.Kept.{Kept}
 use Rattle.editor_core.specs.Adding.{AddsBody, Exceeds, ExceedsBy, stopped_by}
 use Rattle.editor_core.specs.Bodies.{IsLength, Writing, all_len, whole_len}
 use Rattle.editor_core.specs.Core.{Core}
@@ -32,6 +33,7 @@ use Rattle.editor_core.proofs.Lists.{all_left}
 use Rattle.editor_core.proofs.Leaving.{left_stopped}
 use Rattle.editor_core.proofs.Others.{NoneGoes, others_record}
 use Rattle.editor_core.proofs.Premises.{TookWhere, took_so}
+use Rattle.editor_core.proofs.PurgeNumbers.{other_purges}
 use Rattle.editor_core.proofs.Removing.{commit_frees, commit_leaves_journal, commit_removes_none, ids_same}
 use Rattle.editor_core.proofs.Removing.{begun_untouched}
 use Rattle.editor_core.proofs.Removing.{broken_begins}
@@ -76,7 +78,7 @@ module _ {D : Type 0} {Has : Type 0} {disk : Ghosts D} {s : Core D} {made : List
     failed = record {
       studio = stopped_studio disk s t.is mid.store;
       held = failed_held;
-      step = λ has. inr (record {
+      step = λ has. inr (inr (record {
         breaks = record {
           going = t.going;
           blocks = 0;
@@ -95,7 +97,7 @@ module _ {D : Type 0} {Has : Type 0} {disk : Ghosts D} {s : Core D} {made : List
             reads = adds.read_faults;
           },
         );
-      });
+      }));
       any_moment = λ _ has. flight t (Err refusal.DiskFault) mid adds has adds.fields.1 adds.fields.3;
       refused = λ _ has still. absurd (some_none _ still);
       now = λ still has. absurd (some_none _ still);
@@ -104,6 +106,7 @@ module _ {D : Type 0} {Has : Type 0} {disk : Ghosts D} {s : Core D} {made : List
       len = len;
       needs = λ has. (0, t.move.needs has len (inr refl));
       records = λ off. adds.fields.3;
+      purges = other_purges s.history c refusal.DiskFault tt;
       changed =
           changed_wider (others_record s.file s.next_block s.next_block NoneGoes t.is.journal.among)
           (record_within (with_sound c sound (Err refusal.DiskFault)) (disk.reads s.store s.file) s.block_size
@@ -152,6 +155,8 @@ module _ {D : Type 0} (disk : Ghosts D) (s : Core D) (made : List BlockRef) (c :
           next_track = refl;
           commit = refl;
         }));
+        reply = Done;
+        answers = move.call.done s.rate (studio_of disk s).state;
         means = λ held. ap (λ (z : State). z.history) (move.model held);
       },
     );

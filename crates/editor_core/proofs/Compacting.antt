@@ -20,10 +20,10 @@ use Rattle.disk_model.proofs.Moments.{each_on}
 use Rattle.sample_block.specs.Sources.{sources_of}
 use Rattle.project_journal.specs.Choice.{other_file}
 use Rattle.project_journal.specs.Gate.{EachNow, EachSince}
-use Rattle.project_journal.specs.Header.{Form, form_2}
+use Rattle.project_journal.specs.Header.{Form, form_3}
 use Rattle.project_journal.specs.Journal.{IsAt, Log}
 use Rattle.project_journal.specs.Packing.{AreShort, HasEither, MayPack, OnlyJournals, Tells, pack_room}
-use Rattle.project_state.specs.Kept.{Keeps}
+use Rattle.record_body.specs.Kept.{Keeps}
 use Rattle.editor_core.specs.Adding.{HasFailed}
 use Rattle.editor_core.specs.Compacts.{Compacts}
 use Rattle.editor_core.specs.Core.{Core, form_at}
@@ -60,7 +60,7 @@ pub record Packs {D T E : Type 0} (disk : Ghosts D) (file : ℕ) (there : Bool) 
   pub any_moment : (form : Form) (log into : Log) → MayPack disk old file there text form log into
       → EachSince disk old new (HasEither form log into)
   pub done : (form : Form) (log into : Log) → MayPack disk old file there text form log into
-      → OnOk result (IsAt (form_2 (other_file file)) disk new (length text) into)
+      → OnOk result (IsAt (form_3 (other_file file)) disk new (length text) into)
   pub alone : IsTrue (disk.tells old) → Tells there (other_file file) (disk.reads old)
       → OnOk result (disk.reads new (other_file file) ≡ Some (1 ∷ text))
   pub gone : IsTrue (disk.tells old) → OnOk result (disk.reads new file ≡ None)
@@ -213,7 +213,7 @@ module _ {D : Type 0} (disk : Ghosts D) (old : Core D) (is : IsStudio disk old) 
                 took = record {
                   studio = halted_studio disk old is going new (length (packed_text old)) all_changed halt;
                   held = halted_held disk old is going new (length (packed_text old)) all_changed halt;
-                  step = λ on. inr (record {
+                  step = λ on. inr (inr (record {
                     breaks = record {
                       going = going;
                       blocks = 0;
@@ -232,7 +232,7 @@ module _ {D : Type 0} (disk : Ghosts D) (old : Core D) (is : IsStudio disk old) 
                         reads = packs.read_faults ∙ reads;
                       },
                     );
-                  });
+                  }));
                   any_moment = λ _ on c since. inl (keeps_since on c since);
                   refused = λ _ on unstopped c since. keeps_since on c since;
                   now = λ unstopped. absurd (some_none halted.stopped halt refl unstopped);
@@ -248,6 +248,7 @@ module _ {D : Type 0} (disk : Ghosts D) (old : Core D) (is : IsStudio disk old) 
                       (record { files = omega arith; bytes = omega (arith, size); calls = omega arith }) all_changed;
                   frees = (refl, packs_refused disk old refusal.DiskFault halted);
                   ids = ids_same old halted refl refl;
+                  purges = tt;
                   untouched = off_untouched disk old.store new refusal.DiskFault refl;
                   stops = inr (refl, failed, refl);
                   left = record { same = refl; so = inr failed };
@@ -260,7 +261,7 @@ module _ {D : Type 0} (disk : Ghosts D) (old : Core D) (is : IsStudio disk old) 
         module _ (changes : disk.change_fault_count new ≡ disk.change_fault_count store)
             (done : (form : Form) (log into : Log)
             → MayPack disk store old.file there (packed_text old) form log into
-            → IsAt (form_2 (other_file old.file)) disk new (length (packed_text old)) into)
+            → IsAt (form_3 (other_file old.file)) disk new (length (packed_text old)) into)
             (alone : IsTrue (disk.tells store) → Tells there (other_file old.file) (disk.reads store)
             → disk.reads new (other_file old.file) ≡ Some (1 ∷ packed_text old))
             (gone : IsTrue (disk.tells store) → disk.reads new old.file ≡ None)
@@ -348,6 +349,7 @@ module _ {D : Type 0} (disk : Ghosts D) (old : Core D) (is : IsStudio disk old) 
                       (record { files = omega arith; bytes = omega (arith, size); calls = omega arith }) all_changed;
                   frees = (refl, packs_so bytes answer);
                   ids = ids_same old after refl refl;
+                  purges = tt;
                   untouched = tt;
                   stops = inl (refl, changes ∙ kept.same_faults);
                   left = tt;

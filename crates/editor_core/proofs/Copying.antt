@@ -21,10 +21,10 @@ use Rattle.clip_track.proofs.Layouts.{length-layout}
 use Rattle.edit_ops.specs.Runs.{longest_of, AreCopies, AreClips}
 use Rattle.edit_ops.specs.Strips.{ItemsFrom}
 use Rattle.project_state.specs.declared.track.Track.{Track}
-use Rattle.project_state.specs.Kept.{meant, point_blocks}
-use Rattle.project_state.specs.Sound.{AllSoundTracks}
+use Rattle.project_state.specs.Meaning.{meant, point_blocks}
+use Rattle.record_body.specs.Sound.{AllSoundTracks}
 use Rattle.project_state.specs.Tracks.{AreAbove, track_of}
-use Rattle.project_state.proofs.KeptBounds.{all_append}
+use Rattle.record_body.proofs.KeptBounds.{all_append}
 use Rattle.editor_core.specs.Copies.{run_of, strips_blocks}
 use Rattle.editor_core.proofs.Lists.{all_left, all_right}
 

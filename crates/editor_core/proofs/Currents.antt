@@ -14,10 +14,11 @@ use Rattle.clip_track.specs.declared.clips.Clip.{Clip}
 use Rattle.clip_track.specs.Clips.{IsLayout, layout_blocks, layout_cells}
 use Rattle.disk_model.specs.declared.store.Store.{Ghosts}
 use Rattle.project_state.specs.declared.track.Track.{Track}
-use Rattle.project_state.specs.Kept.{first_tracks, current_tracks, Kept, meant, point_blocks}
-use Rattle.project_state.specs.KeptSound.{IsSoundPoint, IsSoundTagged}
+use Rattle.record_body.specs.Kept.{first_tracks, current_tracks, Kept}
+use Rattle.project_state.specs.Meaning.{meant, point_blocks}
+use Rattle.record_body.specs.KeptSound.{IsSoundPoint, IsSoundTagged}
 use Rattle.project_state.specs.Tracks.{track_of}
-use Rattle.project_state.proofs.KeptBounds.{IsBlockRef, sound_blocks}
+use Rattle.record_body.proofs.KeptBounds.{IsBlockRef, sound_blocks}
 use Rattle.editor_core.specs.Core.{Core}
 use Rattle.editor_core.specs.Edits.{AreAmong}
 use Rattle.editor_core.specs.Points.{lacks}

@@ -21,15 +21,16 @@ use Rattle.block_ledger.specs.Counts.{Counts}
 use Rattle.clip_track.specs.declared.items.Item.{Item}
 use Rattle.edit_ops.specs.declared.types.NewBlock.{NewBlock}
 use Rattle.edit_ops.specs.Plans.{AreWritten}
-use Rattle.project_state.specs.declared.body.Body.{Body}
-use Rattle.project_state.specs.declared.body.Body.TheVariants.{Edit}
+use Rattle.record_body.specs.declared.body.Body.{Body}
+use Rattle.record_body.specs.declared.body.Body.TheVariants.{Edit}
 use Rattle.project_state.specs.declared.track.Track.{Track}
-use Rattle.project_state.specs.Kept.{current_tracks, Kept, before_of, meant, point_blocks, history_blocks}
-use Rattle.project_state.specs.KeptSound.{IsSoundPoint, IsSoundTagged}
+use Rattle.record_body.specs.Kept.{current_tracks, Kept, before_of}
+use Rattle.project_state.specs.Meaning.{meant, point_blocks, history_blocks}
+use Rattle.record_body.specs.KeptSound.{IsSoundPoint, IsSoundTagged}
 use Rattle.project_state.specs.Numbers.{unnumbered}
-use Rattle.project_state.specs.Sound.{AllSoundTracks, IsSound}
-use Rattle.project_state.proofs.KeptBounds.{all_append, tagged_more}
-use Rattle.project_state.proofs.Unnumbered.{are_unnumbered, recorded_alike, sound_alike}
+use Rattle.record_body.specs.Sound.{AllSoundTracks, IsSound}
+use Rattle.record_body.proofs.KeptBounds.{all_append, tagged_more}
+use Rattle.record_body.proofs.Unnumbered.{are_unnumbered, recorded_alike, sound_alike}
 use Rattle.editor_core.specs.Bodies.{IsLength, Writing}
 use Rattle.editor_core.specs.Core.{Core}
 use Rattle.editor_core.specs.Edits.{IsEdit, IsPlanned, alone, beside, blocks_with, TaggedEdit, clip_behind}

@@ -17,7 +17,7 @@ use Rattle.disk_model.proofs.Frames.{Fewer}
 use Rattle.block_ledger.specs.Counts.{Counts}
 use Rattle.clip_track.specs.declared.items.Item.{Item}
 use Rattle.edit_ops.specs.declared.types.NewBlock.{NewBlock}
-use Rattle.project_state.specs.declared.body.Body.TheVariants.{Edit}
+use Rattle.record_body.specs.declared.body.Body.TheVariants.{Edit}
 use Rattle.project_state.specs.declared.track.Track.{Track}
 use Rattle.editor_core.specs.Bodies.{Writing, all_bytes, all_len}
 use Rattle.editor_core.specs.Core.{Core}

@@ -16,9 +16,9 @@ use Rattle.disk_model.proofs.Frames.{Fewer}
 use Rattle.block_ledger.specs.Counts.{Counts}
 use Rattle.clip_track.specs.declared.items.Item.{Item}
 use Rattle.edit_ops.specs.declared.types.NewBlock.{NewBlock}
-use Rattle.project_state.specs.declared.body.Body.TheVariants.{Edit}
+use Rattle.record_body.specs.declared.body.Body.TheVariants.{Edit}
 use Rattle.project_state.specs.declared.track.Track.{Track}
-use Rattle.project_state.specs.Kept.{current_tracks}
+use Rattle.record_body.specs.Kept.{current_tracks}
 use Rattle.editor_core.specs.Adding.{Adds, AddsBody, stopped_by}
 use Rattle.editor_core.specs.Bodies.{Writing, all_bytes, all_len, whole_len}
 use Rattle.editor_core.specs.Core.{Core}
@@ -122,7 +122,7 @@ module _ {D : Type 0} (disk : Ghosts D) (s : Core D) (is : IsStudio disk s) (goi
         }) in
         subst (λ (z : Core D). Took disk s (with_sound c sound (Err refusal.DiskFault)) z) (sym adds.fields.0)
         (from_start disk s is going e plan c sound edit fewer prepared store counts making reads synced
-        (Err refusal.DiskFault) here (failed tested new adds) refl (λ held. inr (record {
+        (Err refusal.DiskFault) here (failed tested new adds) refl (λ held. inr (inr (record {
           breaks = record {
             going = going;
             blocks = n;
@@ -141,7 +141,7 @@ module _ {D : Type 0} (disk : Ghosts D) (s : Core D) (is : IsStudio disk s) (goi
               reads = adds.read_faults ∙ reads;
             },
           );
-        }))
+        })))
         (all_ids disk s given makes prepared.blocks c sound store counts making new.store adds.fields.2) tt tt
         (begun_untouched disk s.store new.store c refusal.DiskFault (broken_begins c refusal.DiskFault refl))
         (inr (refl, failed_change, refl))

@@ -19,26 +19,28 @@ use Rattle.disk_model.specs.declared.store.Store.{Ghosts}
 use Rattle.sample_block.specs.Sources.{sources_of}
 use Rattle.block_ledger.specs.Entries.{count_of}
 use Rattle.clip_track.specs.declared.items.Item.{Item}
-use Rattle.project_state.specs.declared.body.Body.{Body}
-use Rattle.project_state.specs.declared.body.Body.TheVariants.{Edit}
+use Rattle.record_body.specs.declared.body.Body.{Body}
+use Rattle.record_body.specs.declared.body.Body.TheVariants.{Edit}
 use Rattle.project_state.specs.declared.track.Track.{Track}
-use Rattle.project_state.specs.Batches.{after_bodies, bodies_in}
-use Rattle.project_state.specs.Kept.{current_tracks}
-use Rattle.project_state.specs.Kept.{Kept, IsNextIn, LeadIn, MayFollow, before_of, meant, meant_history, point_blocks}
-use Rattle.project_state.specs.Kept.{history_blocks, version_of}
-use Rattle.project_state.specs.KeptSound.{IsSoundPoint, IsSoundTagged}
-use Rattle.project_state.specs.Sound.{AllSoundTracks, IsSound}
+use Rattle.record_body.specs.Batches.{after_bodies, bodies_in}
+use Rattle.record_body.specs.Kept.{current_tracks, Kept, IsNextIn, LeadIn, MayFollow, before_of, version_of}
+use Rattle.project_state.specs.Meaning.{meant, meant_history, point_blocks, history_blocks}
+use Rattle.record_body.specs.KeptSound.{IsSoundPoint, IsSoundTagged}
+use Rattle.record_body.specs.Sound.{AllSoundTracks, IsSound}
 use Rattle.project_state.specs.Tracks.{AllBelow, track_of}
-use Rattle.project_state.proofs.Batched.{leads}
-use Rattle.project_state.proofs.KeptBounds.{tagged_more}
+use Rattle.record_body.proofs.Batched.{leads}
+use Rattle.record_body.proofs.KeptBounds.{tagged_more}
 use Rattle.project_state.proofs.MeantHistories.{meant_edited}
-use Rattle.project_state.proofs.ShortEnds.{sound_ends}
-use Rattle.project_state.specs.Numbers.{unnumbered, unnumbered_body}
-use Rattle.project_state.proofs.Unnumbered.{are_unnumbered, current_alike, edited_alike, sound_alike}
+use Rattle.record_body.proofs.ShortEnds.{sound_ends}
+use Rattle.project_state.specs.Numbers.{AgreeById, unnumbered}
+use Rattle.record_body.specs.Numbers.{unnumbered_body}
+use Rattle.record_body.proofs.Unnumbered.{are_unnumbered, current_alike, edited_alike, sound_alike}
 use Rattle.layout_uses.specs.declared.tally.Tally.{Tally}
 use Rattle.layout_uses.specs.Drawing.{HasNumbers}
 use Rattle.layout_uses.specs.Layouts.{AreDrawn, AreNumbered, history_tracks}
 use Rattle.layout_uses.specs.Tallies.{AreCounts, Becomes, MayBecome}
+use Rattle.layout_uses.proofs.Numbers.{agree_by_id}
+use Rattle.layout_uses.proofs.Putting.{same_numbers}
 use Rattle.editor_core.specs.Bodies.{IsLength, all_bytes, bodies_by, body_bytes, bytes_by, single}
 use Rattle.editor_core.specs.Core.{Core, form_at}
 use Rattle.editor_core.specs.Points.{lacks}
@@ -210,6 +212,13 @@ module _ {D : Type 0} (disk : Ghosts D) (s : Core D) (is : IsStudio disk s) wher
   pub came_drawn : (p : List Track) (after : ℕ) → HasNumbers old s.next_layout p after
       → AreDrawn after (p ++ (history_tracks s.history ++ pin_tracks s.pins))
   came_drawn p after has = has.drawn (studio_tracks s) is.drawn (current_among s)
+
+  -- they agree with the current ones by the numbers of their layouts, and so do the current ones
+  pub came_agrees : (p : List Track) (after : ℕ) → HasNumbers old s.next_layout p after → AgreeById old p
+  came_agrees p after has = agree_by_id old p (studio_tracks s) (came_numbered p after has) (current_among s)
+
+  pub current_agrees : AgreeById old old
+  current_agrees = came_agrees old s.next_layout (same_numbers old s.next_layout)
 
   pub came_few : (p : List Track) → length p ≤ 64
       → length p + length (history_tracks s.history ++ pin_tracks s.pins) < 2 ^ 128

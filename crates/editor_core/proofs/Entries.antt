@@ -13,15 +13,15 @@ use Rattle.pcm_base.specs.declared.refusal.Refusal.TheVariants as refusal
 use Rattle.pcm_base.specs.Outside.{Outside}
 use Rattle.pcm_base.specs.Run.{Answers, Run, Step, outside, result_of}
 use Rattle.pcm_base.specs.Shape.{Shape, NewTrack, DropTrack, SetTrack, PutIn, EditRange, CutRun, CopyRun, PasteRun}
-use Rattle.pcm_base.specs.Shape.{MoveTo, Purge, Look, Reclaim, Compact, Import, Export, View, Cells, Frames}
-use Rattle.pcm_base.specs.Shape.{Columns, Tracks, shape_of}
+use Rattle.pcm_base.specs.Shape.{MoveTo, Purge, PurgeTo, Look, Reclaim, Compact, Import, Export, Bounce, View, Cells}
+use Rattle.pcm_base.specs.Shape.{Frames, Columns, Tracks, shape_of}
 use Rattle.pcm_base.specs.State.{State}
 use Rattle.pcm_base.specs.Step.{MayAnswer, MayReplyBy, seen}
 use Rattle.pcm_base.specs.Studio as model
 use Rattle.disk_model.specs.Disk.{Files}
 use Rattle.disk_model.specs.declared.store.Store.{Ghosts}
 use Rattle.project_journal.specs.Gate.{EachSince}
-use Rattle.project_state.specs.Kept.{Keeps}
+use Rattle.record_body.specs.Kept.{Keeps}
 use Rattle.editor_core.specs.Applied.{reply_of}
 use Rattle.editor_core.specs.Core.{Core}
 use Rattle.editor_core.specs.Events.{KeepsPrefix, MayFly, NextInFlight}
@@ -52,11 +52,13 @@ line_plain out s (CopyRun id n from to) r h = subst Plain (sym h) tt
 line_plain out s (PasteRun id at placing) r h = subst Plain (sym h) tt
 line_plain out s (MoveTo move) r h = subst Plain (sym h) tt
 line_plain out s (Purge n) r h = subst Plain (sym h) tt
+line_plain out s (PurgeTo bytes) r h = subst Plain (sym h.1) tt
 line_plain out s (Look view) r h = subst Plain (sym h) (view_plain s view)
 line_plain out s (Reclaim limit) r h = subst Plain (sym h.1) tt
 line_plain out s Compact r h = subst Plain (sym h.1) tt
 line_plain out s (Import name) r h = subst Plain (sym h) tt
 line_plain out s (Export name) r h = subst Plain (sym h) tt
+line_plain out s (Bounce name) r h = absurd h
 
 pub plain : (out : Outside) (s : State) (c : Call) (r : Reply) → MayAnswer out s c r → Plain r
 plain out s (call.Line c) r h = line_plain out s (shape_of c) r h
@@ -64,6 +66,7 @@ plain out s (call.Piece track tag samples) r h = subst Plain (sym h) tt
 plain out s call.Pin r h = subst Plain (sym h) tt
 plain out s (call.PinLen pin) r h = subst Plain (sym h.2) tt
 plain out s (call.ReadPin pin from count) r h = subst Plain (sym h.2) tt
+plain out s (call.LoadPin pin from count) r h = subst Plain (sym h.2) tt
 plain out s (call.Unpin pin) r h = subst Plain (sym h) tt
 
 pub plain_result : (r : Reply) → Plain r → result_of r ≡ Ok r
@@ -75,9 +78,11 @@ plain_result (reply.Columns columns) h = refl
 plain_result (reply.Tracks tracks) h = refl
 plain_result (reply.Freed count) h = refl
 plain_result (reply.Packed bytes) h = refl
+plain_result (reply.Purged n) h = refl
 plain_result (reply.Wrote bytes) h = refl
 plain_result (reply.Pinned pin) h = refl
 plain_result (reply.Length frames) h = refl
+plain_result (reply.Loaded tracks) h = refl
 plain_result (reply.Refused why) h = absurd h
 
 pub step_of : (t u : model.Studio) (c : Call) (sound : SoundMove) (told : Result Reply Refusal) → Answers t c sound told u

@@ -237,6 +237,7 @@ other_of (call.Piece track tag samples) not_line = tt
 other_of call.Pin not_line = tt
 other_of (call.PinLen pin) not_line = tt
 other_of (call.ReadPin pin from count) not_line = tt
+other_of (call.LoadPin pin from count) not_line = tt
 other_of (call.Unpin pin) not_line = tt
 
 pub other_none : (c : Call) → IsOther c → name_in c ≡ None
@@ -245,4 +246,5 @@ other_none (call.Piece track tag samples) other = refl
 other_none call.Pin other = refl
 other_none (call.PinLen pin) other = refl
 other_none (call.ReadPin pin from count) other = refl
+other_none (call.LoadPin pin from count) other = refl
 other_none (call.Unpin pin) other = refl

@@ -8,10 +8,10 @@ use Rattle.pcm_base.specs.Recordings.{bytes_of_frame, frame_bytes}
 use Rattle.pcm_base.specs.Wave.{wav_text}
 use Rattle.clip_track.proofs.Layouts.{length-layout}
 use Rattle.project_state.specs.declared.track.Track.{Track}
-use Rattle.project_state.specs.Sound.{AllSoundTracks}
+use Rattle.record_body.specs.Sound.{AllSoundTracks}
 use Rattle.mix_view.specs.Tracks.{mix_length_of}
 use Rattle.mix_view.proofs.TrackLaws.{longest_first}
-use Rattle.project_state.specs.Kept.{meant}
+use Rattle.project_state.specs.Meaning.{meant}
 
 length_frames : (frames : List Frame) → length (frame_bytes frames) ≡ 4 * length frames
 length_frames [] = refl

@@ -29,7 +29,8 @@ use Rattle.block_store.specs.declared.fault.BlockFault.{BlockFault}
 use Rattle.block_store.specs.declared.fault.BlockFault.TheVariants as fault
 use Rattle.project_journal.specs.Gate.{EachSince}
 use Rattle.mix_view.specs.Tracks.{mix_length_of}
-use Rattle.project_state.specs.Kept.{current_tracks, Keeps, meant}
+use Rattle.record_body.specs.Kept.{current_tracks, Keeps}
+use Rattle.project_state.specs.Meaning.{meant}
 use Rattle.wav_pcm.specs.Wavs.{FitsFile}
 use Rattle.wav_pcm.specs.Written.{MayBegin}
 use Rattle.sound_export.specs.declared.fault.ExportFault.{ExportFault}
@@ -149,6 +150,7 @@ module _ {D : Type 0} (disk : Ghosts D) (s : Core D) (is : IsStudio disk s) (nam
       changed = changed_kept (others_none s.next_block s.next_block NoneGoes) kept;
       frees = refl;
       ids = ids_same s here refl refl;
+      purges = tt;
       untouched = tt;
       stops = inl (refl, kept.same_faults);
       left = tt;
@@ -174,6 +176,7 @@ module _ {D : Type 0} (disk : Ghosts D) (s : Core D) (is : IsStudio disk s) (nam
       changed = changed_kept (others_none s.next_block s.next_block NoneGoes) kept;
       frees = refl;
       ids = ids_same s here refl refl;
+      purges = tt;
       untouched = λ device. kept;
       stops = inl (refl, kept.same_faults);
       left = left_read disk s store cache why so;
@@ -276,19 +279,20 @@ module _ {D : Type 0} (disk : Ghosts D) (s : Core D) (is : IsStudio disk s) (nam
           quiet = ⊎_elim (λ of. absurd of) (λ same. same) untouched;
         }))
     export_failed (Block fault.DiskFault) len faults faults' long of counted untouched begun named =
-        failed refusal.DiskFault (inl (record { rose = counted.0.0; later = counted.0.1 })) tt (λ held. inr (record {
+        failed refusal.DiskFault (inl (record { rose = counted.0.0; later = counted.0.1 })) tt
+        (λ held. inr (inr (record {
           breaks = breaks begun held;
           cause = inl (record { goes_on = going; rose = counted.0.0; later = counted.0.1; changes = kept.same_faults });
-        }))
+        })))
     export_failed (Block (fault.Damaged file found)) len faults faults' long of counted untouched begun named =
-        failed (refusal.Damaged file found.at found.want found.have) named tt (λ held. inr (record {
+        failed (refusal.Damaged file found.at found.want found.have) named tt (λ held. inr (inr (record {
           breaks = breaks begun held;
           stopped = going;
           reads = counted.0;
           changes = kept.same_faults;
-        }))
+        })))
     export_failed VaultFault len faults faults' long of counted untouched begun named =
-        failed refusal.VaultFault tt tt (λ held. inr (
+        failed refusal.VaultFault tt tt (λ held. inr (inr (
           refl,
           record {
             breaks = breaks begun held;
@@ -296,4 +300,4 @@ module _ {D : Type 0} (disk : Ghosts D) (s : Core D) (is : IsStudio disk s) (nam
             reads = counted.0;
             changes = kept.same_faults;
           },
-        ))
+        )))

@@ -21,12 +21,14 @@ use Rattle.sample_block.specs.Sources.{sources_of, IsWhole, AllWhole}
 use Rattle.clip_track.specs.declared.items.Item.{Item}
 use Rattle.project_journal.specs.Gate.{EachNow, EachSince}
 use Rattle.project_state.specs.declared.track.Track.{Track}
-use Rattle.project_state.specs.Batches.{after_bodies}
-use Rattle.project_state.specs.Kept.{Kept, LeadIn, meant_history, history_blocks, Keeps, version_of}
-use Rattle.project_state.specs.KeptSound.{IsSoundTagged}
-use Rattle.project_state.specs.Numbers.{unnumbered_body, unnumbered_history}
-use Rattle.project_state.proofs.Unnumbered.{history_blocks_alike, history_meant_alike}
-use Rattle.project_state.proofs.KeptBounds.{all_append}
+use Rattle.record_body.specs.Batches.{after_bodies}
+use Rattle.record_body.specs.Kept.{Kept, LeadIn, Keeps, version_of}
+use Rattle.project_state.specs.Meaning.{meant_history, history_blocks}
+use Rattle.record_body.specs.KeptSound.{IsSoundTagged}
+use Rattle.record_body.specs.Numbers.{unnumbered_body}
+use Rattle.project_state.specs.Numbers.{unnumbered_history}
+use Rattle.record_body.proofs.Unnumbered.{history_blocks_alike, history_meant_alike}
+use Rattle.record_body.proofs.KeptBounds.{all_append}
 use Rattle.editor_core.specs.Adding.{AddsBody}
 use Rattle.editor_core.specs.Bodies.{IsLength, Writing, all_bytes, all_len}
 use Rattle.editor_core.specs.Core.{Core, form_at}

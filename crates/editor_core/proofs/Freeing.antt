@@ -16,7 +16,7 @@ use Rattle.project_journal.specs.Gate.{EachSince}
 use Rattle.project_journal.specs.Choice.{other_file}
 use Rattle.project_journal.specs.Journal.{HasLog}
 use Rattle.project_journal.proofs.Kept.{SameJournals, is_at_still, each_since}
-use Rattle.project_state.specs.Kept.{Keeps}
+use Rattle.record_body.specs.Kept.{Keeps}
 use Rattle.block_cache.specs.Caches.{Entries}
 use Rattle.block_cache.specs.Carried.{HasCache}
 use Rattle.editor_core.specs.Core.{Core, form_at}

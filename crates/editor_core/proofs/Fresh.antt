@@ -7,11 +7,12 @@ use Rattle.disk_model.specs.declared.store.Store.{Ghosts}
 use Rattle.sample_block.specs.Sources.{AllWhole}
 use Rattle.block_ledger.specs.Entries.{count_of}
 use Rattle.undo_history.specs.Stored.{Stored}
-use Rattle.project_journal.specs.Header.{IsFormat, form_2}
+use Rattle.project_journal.specs.Header.{IsFormat, form_3}
 use Rattle.project_journal.specs.Journal.{IsAt, fresh}
-use Rattle.project_state.specs.Kept.{history_blocks, new_project}
-use Rattle.project_state.specs.KeptSound.{IsSoundTagged}
-use Rattle.project_state.proofs.NewProjects.{fresh_begins}
+use Rattle.project_state.specs.Meaning.{history_blocks}
+use Rattle.record_body.specs.Kept.{new_project}
+use Rattle.record_body.specs.KeptSound.{IsSoundTagged}
+use Rattle.record_body.proofs.NewProjects.{fresh_begins}
 use Rattle.project_state.specs.Numbers.{unnumbered_history}
 use Rattle.project_state.specs.declared.track.Track.{Track}
 use Rattle.layout_uses.specs.declared.tally.Tally.{Tally}
@@ -38,7 +39,7 @@ parts_of rate m depth h tally = record {
   next_layout = 1;
   commit_number = 0;
   file = 0;
-  version = 2;
+  version = 3;
   generation = 0;
   journal_end = 80;
 }
@@ -79,7 +80,7 @@ module _ (rate m depth : ℕ) (h : Stored (List Track)) (tally : Tally) (is : h.
 
   -- a disk with the journal of a new project, and no block
   pub fresh_has : {D : Type 0} (disk : Ghosts D) (store : D) → IsTrue (disk.tells store)
-      → IsAt (form_2 0) disk store 80 (fresh rate m depth) → ((id : ℕ) → 16 ≤ id → disk.reads store id ≡ None)
+      → IsAt (form_3 0) disk store 80 (fresh rate m depth) → ((id : ℕ) → 16 ≤ id → disk.reads store id ≡ None)
       → HasParts disk store (parts_of rate m depth h tally)
   fresh_has disk store tells at absent = record {
     tells = tells;

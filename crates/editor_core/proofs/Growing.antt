@@ -19,9 +19,10 @@ use Rattle.sample_block.specs.Sources.{IsWhole}
 use Rattle.block_ledger.specs.Counts.{Counts}
 use Rattle.clip_track.specs.declared.items.Item.{Item}
 use Rattle.project_journal.specs.Journal.{IsAt, with_bodies}
-use Rattle.project_state.specs.Batches.{after_bodies}
+use Rattle.record_body.specs.Batches.{after_bodies}
 use Rattle.project_state.specs.declared.track.Track.{Track}
-use Rattle.project_state.specs.Kept.{Kept, LeadIn, meant_history, version_of}
+use Rattle.record_body.specs.Kept.{Kept, LeadIn, version_of}
+use Rattle.project_state.specs.Meaning.{meant_history}
 use Rattle.editor_core.specs.Adding.{AddsBody}
 use Rattle.editor_core.specs.Bodies.{Writing, all_bytes, all_len}
 use Rattle.editor_core.specs.Core.{Core, form_at}
@@ -32,12 +33,14 @@ use Rattle.editor_core.specs.Studios.{pin_blocks, studio_by, studio_of}
 use Rattle.editor_core.specs.Took.{Took, with_sound}
 use Rattle.editor_core.proofs.Flights.{IsCommit, IsTested, flight, images_still, matches, passes, whole_still}
 use Rattle.editor_core.proofs.StudioCache.{cache_by_record}
-use Rattle.project_state.specs.Numbers.{unnumbered_body, unnumbered_history}
+use Rattle.record_body.specs.Numbers.{unnumbered_body}
+use Rattle.project_state.specs.Numbers.{unnumbered_history}
 use Rattle.editor_core.proofs.Grown.{CountsAfter, LeadsOn, led_studio, named_led}
 use Rattle.editor_core.proofs.Images.{keeps_now}
 use Rattle.editor_core.proofs.Leading.{begins_more, lead_all}
 use Rattle.editor_core.proofs.Others.{NoneGoes, others_record}
 use Rattle.editor_core.proofs.Premises.{TookWhere, took_so}
+use Rattle.editor_core.proofs.PurgeNumbers.{done_purges}
 use Rattle.editor_core.proofs.Removing.{commit_leaves_journal, commit_removes_none, ids_still, none_given}
 use Rattle.editor_core.proofs.Sounds.{sources_elsewhere}
 use Rattle.editor_core.proofs.Spaces.{commit_bytes}
@@ -211,6 +214,7 @@ module _ {D : Type 0} {Has : Type 0} {disk : Ghosts D} {s : Core D} {made : List
         subst (λ (k : ℕ). Says s.next_block k h' w.body) (sym tracked)
             (subst (λ (z : History (List Track)). Says s.next_block track_then z w.body) (sym moved) t.move.says),
       );
+      purges = done_purges s.history c;
       changed =
           changed_wider (others_record s.file s.next_block s.next_block NoneGoes t.is.journal.among)
           (record_within (with_sound c sound (Ok Done)) (disk.reads s.store s.file) s.block_size

@@ -10,9 +10,9 @@ use Rattle.block_ledger.specs.Counts.{Counts}
 use Rattle.clip_track.specs.declared.items.Item.{Item}
 use Rattle.project_journal.specs.Header.{IsFormat}
 use Rattle.project_state.specs.declared.track.Track.{Track}
-use Rattle.project_state.specs.Kept.{history_blocks}
-use Rattle.project_state.specs.KeptSound.{IsSoundPoint, IsSoundTagged}
-use Rattle.project_state.proofs.KeptBounds.{all_append, tagged_more}
+use Rattle.project_state.specs.Meaning.{history_blocks}
+use Rattle.record_body.specs.KeptSound.{IsSoundPoint, IsSoundTagged}
+use Rattle.record_body.proofs.KeptBounds.{all_append, tagged_more}
 use Rattle.editor_core.specs.Adding.{stopped_by}
 use Rattle.block_cache.specs.Carried.{HasCache}
 use Rattle.editor_core.specs.Core.{Core}

@@ -19,7 +19,7 @@ use Rattle.piece_store.specs.Brought.{Brought, MayBring}
 use Rattle.sound_import.specs.Reading.{are_there, brought_from, sample_at}
 use Rattle.sound_import.proofs.PartsLaws.{channels_brought}
 use Rattle.sound_import.proofs.SomeLaws.{some_file}
-use Rattle.project_state.specs.Kept.{current_tracks}
+use Rattle.record_body.specs.Kept.{current_tracks}
 use Rattle.editor_core.specs.declared.carrying.Planned.{Planned}
 use Rattle.editor_core.specs.Core.{Core}
 use Rattle.editor_core.specs.Edits.{IsEdit, IsPlanned, tagged_by}

@@ -28,7 +28,8 @@ use Rattle.block_store.specs.Reasons.{reason_of}
 use Rattle.envelope_view.proofs.AnswerLaws.{reason_damaged}
 use Rattle.mix_view.specs.Tracks.{mix_length_of}
 use Rattle.project_state.specs.declared.track.Track.{Track}
-use Rattle.project_state.specs.Kept.{current_tracks, meant, point_blocks}
+use Rattle.record_body.specs.Kept.{current_tracks}
+use Rattle.project_state.specs.Meaning.{meant, point_blocks}
 use Rattle.block_cache.specs.Caches.{Entries}
 use Rattle.editor_core.specs.Core.{Core}
 use Rattle.editor_core.specs.Pins.{LacksPin, MayFind}

@@ -13,9 +13,9 @@ use Rattle.project_journal.specs.Journal.{Log, HasLog, HasOneOf, with_bodies}
 use Rattle.project_journal.proofs.Kept.{each_has}
 use Rattle.project_journal.proofs.Parses.{form_known}
 use Rattle.project_state.specs.declared.track.Track.{Track}
-use Rattle.project_state.specs.Kept.{Begins, Kept, LeadIn, meant_history, history_blocks}
-use Rattle.project_state.specs.Kept.{Opened, Keeps, version_of}
-use Rattle.project_state.proofs.Unnumbered.{history_blocks_alike, history_meant_alike}
+use Rattle.record_body.specs.Kept.{Begins, Kept, LeadIn, Opened, Keeps, version_of}
+use Rattle.project_state.specs.Meaning.{meant_history, history_blocks}
+use Rattle.record_body.proofs.Unnumbered.{history_blocks_alike, history_meant_alike}
 use Rattle.editor_core.specs.Core.{Core, form_at}
 use Rattle.editor_core.specs.Studios.{IsGiven, SameBlocks, IsDurable, IsHeld, shown, studio_of, named_blocks}
 use Rattle.editor_core.specs.Studios.{pin_blocks, clip_blocks}

@@ -113,8 +113,8 @@ module _ {D : Type 0} (disk : Ghosts D) (s : Core D) (is : IsStudio disk s) (few
     import_refused (RateDiffers have want) h = own_refused (refusal.RateDiffers have want) (h t.state)
     import_refused (Sound Vault) h =
         let none : s.next_block ≡ s.next_block + 0 = omega arith in
-        stays disk s call (left_as sound) refusal.VaultFault is fewer refl refl 0 (λ off. omega arith) tt
-        (λ held. (0, (omega arith, omega arith))) tt (λ held. inr (
+        stays disk s call (left_as sound) refusal.VaultFault is fewer refl refl 0 (λ off. omega arith) tt tt
+        (λ held. (0, (omega arith, omega arith))) tt (λ held. inr (inr (
           refl,
           record {
             breaks = record {
@@ -130,4 +130,4 @@ module _ {D : Type 0} (disk : Ghosts D) (s : Core D) (is : IsStudio disk s) (few
             reads = refl;
             changes = refl;
           },
-        ))
+        )))

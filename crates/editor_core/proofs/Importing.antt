@@ -19,9 +19,10 @@ use Rattle.clip_track.specs.Clips.{layout_blocks, layout_cells}
 use Rattle.edit_ops.specs.declared.types.NewBlock.{NewBlock}
 use Rattle.edit_ops.specs.Plans.{AllNewFrom, AreNew, AreWritten, ref_of}
 use Rattle.project_state.specs.declared.track.Track.{Track}
-use Rattle.project_state.specs.Kept.{current_tracks, meant, meant_track, point_blocks}
-use Rattle.project_state.specs.Sound.{AllSoundTracks, IsSoundTrack}
-use Rattle.project_state.proofs.KeptBounds.{all_append, tagged_more}
+use Rattle.record_body.specs.Kept.{current_tracks}
+use Rattle.project_state.specs.Meaning.{meant, meant_track, point_blocks}
+use Rattle.record_body.specs.Sound.{AllSoundTracks, IsSoundTrack}
+use Rattle.record_body.proofs.KeptBounds.{all_append, tagged_more}
 use Rattle.layout_uses.specs.Drawing.{HasNumbers}
 use Rattle.layout_uses.proofs.Draws.{numbers_more}
 use Rattle.layout_uses.proofs.Putting.{same_numbers}

@@ -20,9 +20,9 @@ use Rattle.disk_model.proofs.Frames.{Fewer, changed_wider}
 use Rattle.block_ledger.specs.Counts.{Counts}
 use Rattle.clip_track.specs.declared.items.Item.{Item}
 use Rattle.edit_ops.specs.declared.types.NewBlock.{NewBlock}
-use Rattle.project_state.specs.declared.body.Body.TheVariants.{Edit}
+use Rattle.record_body.specs.declared.body.Body.TheVariants.{Edit}
 use Rattle.project_state.specs.declared.track.Track.{Track}
-use Rattle.project_state.specs.Kept.{current_tracks}
+use Rattle.record_body.specs.Kept.{current_tracks}
 use Rattle.editor_core.specs.Adding.{Adds, AddsBody, stopped_by}
 use Rattle.editor_core.specs.Bodies.{Writing, all_bytes, all_len, whole_len}
 use Rattle.editor_core.specs.Applied.{Lasts}
@@ -35,6 +35,7 @@ use Rattle.editor_core.specs.Left.{CountsIds, IsSoOf, Left, LeavesOthers, MayRem
 use Rattle.editor_core.specs.Made.{PiecesThere, batch_of}
 use Rattle.editor_core.specs.Makes.{Making, Stuck, Unput, Unread, one_call}
 use Rattle.editor_core.specs.Packing.{packed_by}
+use Rattle.editor_core.specs.Purges.{Purges}
 use Rattle.editor_core.specs.Studios.{IsGiven, IsHeld, IsStudio}
 use Rattle.editor_core.specs.Took.{asks, number_behind, with_sound}
 use Rattle.editor_core.proofs.CarriedOut.{commit_of}
@@ -50,6 +51,7 @@ use Rattle.editor_core.proofs.MadeStudios.{IsNewId, made_studio, refs, refs_ids,
 use Rattle.editor_core.proofs.Makings.{making_unread}
 use Rattle.editor_core.proofs.Others.{NoneGoes, others_record}
 use Rattle.editor_core.proofs.PlainTests.{unprepared_plain}
+use Rattle.editor_core.proofs.PurgeNumbers.{begun_purges, done_purges, other_purges, unprepared_range}
 use Rattle.editor_core.proofs.Recorded.{recorded_current, recorded_depth, recorded_few}
 use Rattle.editor_core.proofs.Removing.{commit_frees, commit_removes_none, ids_made, no_record, begun_untouched}
 use Rattle.editor_core.proofs.Removing.{broken_begins, cut_begins}
@@ -101,9 +103,9 @@ module _ {D : Type 0} (disk : Ghosts D) (s : Core D) (is : IsStudio disk s) (goi
       (asks (with_sound c sound told) (disk.reads s.store s.file) s.block_size (new.next_block - s.next_block) len
       (packed_by s c))
       s.store new.store
-      → CountsIds s [] new → Untouched disk s c told new → Stops disk s told new → IfErr told (Left disk s new)
-      → Lasts disk s (with_sound c sound told) new
-  lasts_going told new studio number len records named changed ids untouched stops left = record {
+      → CountsIds s [] new → Purges s.history c told → Untouched disk s c told new → Stops disk s told new
+      → IfErr told (Left disk s new) → Lasts disk s (with_sound c sound told) new
+  lasts_going told new studio number len records named changed ids purges untouched stops left = record {
     studio = studio;
     number = number;
     rests = λ some. absurd (stopped_not s.stopped some going);
@@ -113,6 +115,7 @@ module _ {D : Type 0} (disk : Ghosts D) (s : Core D) (is : IsStudio disk s) (goi
     changed = changed;
     frees = commit_frees disk s c told new one;
     ids = ids;
+    purges = purges;
     untouched = untouched;
     stops = stops;
     left = left;
@@ -128,7 +131,8 @@ module _ {D : Type 0} (disk : Ghosts D) (s : Core D) (is : IsStudio disk s) (goi
         lasts_going (Err why) new (made_studio disk s is given makes k new making going few plan.new fits there)
         (ap (λ (z : Core D). z.commit_number) making.is) 0 (no_record s (Err why) new) tt
         (some_changed disk s given makes fits c sound why k 0 new making few)
-        (some_ids disk s given makes fits c sound k new making) (begun_untouched disk s.store new.store c why off)
+        (some_ids disk s given makes fits c sound k new making) (begun_purges s.history c why off)
+        (begun_untouched disk s.store new.store c why off)
         (inl (some_stop disk s given makes fits c sound k new making, making.change_faults))
         (some_left disk s given makes fits c sound k new making why so)
 
@@ -147,6 +151,7 @@ module _ {D : Type 0} (disk : Ghosts D) (s : Core D) (is : IsStudio disk s) (goi
           (lasts_going (Err refusal.DiskFault) here studio refl 0 (no_record s (Err refusal.DiskFault) here) tt
           (unput_changed disk s given makes fits c sound k mid new was few left un 0)
           (unput_ids disk s given makes fits c sound k mid new was few left un)
+          (other_purges s.history c refusal.DiskFault tt)
           (begun_untouched disk s.store new.store c refusal.DiskFault (broken_begins c refusal.DiskFault refl))
           (inr (refl, unput_failed disk s given makes fits c sound k mid new was few left un, refl))
           (unput_left disk s given makes fits c sound k mid new was few left un))
@@ -217,6 +222,7 @@ module _ {D : Type 0} (disk : Ghosts D) (s : Core D) (is : IsStudio disk s) (goi
         (record_within (with_sound c sound (Err refusal.DiskFault)) (disk.reads store s.file) mid.block_size
         (mid.next_block - mid.next_block) len (packed_by mid c) one) adds.changed))
         (all_ids disk s given makes prepared.blocks c sound store counts making new.store adds.fields.2)
+        (other_purges s.history c refusal.DiskFault tt)
         (begun_untouched disk s.store new.store c refusal.DiskFault (broken_begins c refusal.DiskFault refl))
         (inr (
           refl,
@@ -283,7 +289,7 @@ module _ {D : Type 0} (disk : Ghosts D) (s : Core D) (is : IsStudio disk s) (goi
           (changed_wider (others_record mid.file mid.next_block mid.next_block NoneGoes is.journal.among)
           (record_within (with_sound c sound (Ok Done)) (disk.reads store s.file) mid.block_size
           (mid.next_block - mid.next_block) len (packed_by mid c) one) adds.changed))
-          (ids_made s done counts n making.ledger after.files refl) tt
+          (ids_made s done counts n making.ledger after.files refl) (done_purges s.history c) tt
           (inl (refl, adds.fields.2 ∙ making.change_faults)) tt)
 
   -- ---- all of it
@@ -300,7 +306,9 @@ module _ {D : Type 0} (disk : Ghosts D) (s : Core D) (is : IsStudio disk s) (goi
       (λ not.
       subst (λ (z : Core D). Lasts disk s (with_sound c sound (Err why)) z) (sym not.0)
       (lasts_idle disk s is fewer c (commit_removes_none c one) sound why
-      (unprepared_plain s n e.plan.tracks (suc e.more) (whole_len s writes) len why not.1)))
+      (unprepared_plain s n e.plan.tracks (suc e.more) (whole_len s writes) len why not.1)
+      (other_purges s.history c why
+      (unprepared_range s n e.plan.tracks (suc e.more) (whole_len s writes) len why not.1))))
       (⊎_elim
       (λ some. stuck_lasts some.0.blocks why new some.1 serves)
       (λ last.

@@ -10,12 +10,13 @@ use Rattle.clip_track.specs.Clips.{layout_blocks}
 use Rattle.disk_model.specs.declared.store.Store.{Ghosts}
 use Rattle.block_ledger.specs.Counts.{Counts, occurrences}
 use Rattle.project_state.specs.declared.track.Track.{Track}
-use Rattle.project_state.specs.Kept.{current_tracks, first_tracks, history_blocks, point_blocks}
+use Rattle.record_body.specs.Kept.{current_tracks, first_tracks}
+use Rattle.project_state.specs.Meaning.{history_blocks, point_blocks}
 use Rattle.layout_uses.specs.Laws.{AreAmong, IsAmong}
 use Rattle.layout_uses.specs.Layouts.{history_tracks, points_tracks, track_blocks}
 use Rattle.layout_uses.proofs.Naming.{counted_is_named, counts_most, free_is_unnamed, named_is_counted}
 use Rattle.layout_uses.proofs.Putting.{among_self}
-use Rattle.project_state.specs.KeptSound.{IsSoundPoint, IsSoundTagged}
+use Rattle.record_body.specs.KeptSound.{IsSoundPoint, IsSoundTagged}
 use Rattle.editor_core.specs.Core.{Core}
 use Rattle.layout_uses.specs.Tallies.{AreCounts}
 use Rattle.layout_uses.proofs.Tracks.{times_counted}

@@ -1,7 +1,7 @@
 -- Records that lead to a project, and more; the journal begins as before.
 use Rattle.std.proofs.Common.{subst, ℕ, List, [], ◌∷◌, ◌++◌}
 use Rattle.project_journal.specs.Journal.{Log, with_bodies}
-use Rattle.project_state.specs.Kept.{Begins, BeginsBy, Kept, after_body, LeadIn}
+use Rattle.record_body.specs.Kept.{Begins, BeginsBy, Kept, after_body, LeadIn}
 
 pub lead_all : (version m : ℕ) (k mid end : Kept) (bodies more : List (List ℕ)) → LeadIn version m k bodies mid
     → LeadIn version m mid more end → LeadIn version m k (bodies ++ more) end

@@ -2,16 +2,16 @@
 use Rattle.std.proofs.Common.{ℕ, ◌≤◌, ◌<◌, List, [], ◌∷◌, length, arith}
 use Rattle.pcm_base.specs.Pieces.{Sources}
 use Rattle.pcm_base.specs.Sizes.{project_body_most}
-use Rattle.project_state.specs.declared.body.Body.TheVariants.{Edit}
+use Rattle.record_body.specs.declared.body.Body.TheVariants.{Edit}
 use Rattle.project_state.specs.declared.track.Track.{Track}
-use Rattle.project_state.specs.Kept.{meant}
-use Rattle.project_state.specs.KeptSound.{IsSoundPoint}
-use Rattle.project_state.specs.Lengths.{AreHalfFull, AreLayouts}
-use Rattle.project_state.specs.Sound.{AllSoundTracks}
-use Rattle.project_state.specs.Spelling.{spelling}
-use Rattle.project_state.specs.Changes.{delta_spelling}
-use Rattle.project_state.proofs.DeltaLengths.{told_short}
-use Rattle.project_state.proofs.Lengths.{tracks_short}
+use Rattle.project_state.specs.Meaning.{meant}
+use Rattle.record_body.specs.KeptSound.{IsSoundPoint}
+use Rattle.record_body.specs.Lengths.{AreHalfFull, AreLayouts}
+use Rattle.record_body.specs.Sound.{AllSoundTracks}
+use Rattle.record_body.specs.Spelling.{spelling}
+use Rattle.record_body.specs.Changes.{delta_spelling}
+use Rattle.record_body.proofs.DeltaLengths.{told_short}
+use Rattle.record_body.proofs.Lengths.{tracks_short}
 
 module _ (m next_block next_track : ℕ) where
   layouts_of : (ts : List Track) → AllSoundTracks m next_block next_track ts → AreLayouts ts

@@ -95,6 +95,8 @@ mod Grown
 mod Growing
 mod Histories
 mod Moving
+mod PurgeNumbers
+mod PurgingTo
 mod Moved
 mod Tracks
 mod Without

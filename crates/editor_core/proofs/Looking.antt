@@ -20,7 +20,7 @@ use Rattle.block_store.specs.Reasons.{reason_of}
 use Rattle.project_journal.specs.Gate.{EachNow, EachSince}
 use Rattle.project_journal.specs.Choice.{other_file}
 use Rattle.project_journal.proofs.Kept.{SameJournals, is_at_still}
-use Rattle.project_state.specs.Kept.{Keeps}
+use Rattle.record_body.specs.Kept.{Keeps}
 use Rattle.envelope_view.specs.Answers.{IsDamagedIn}
 use Rattle.block_cache.specs.Caches.{Entries}
 use Rattle.editor_core.specs.Core.{Core, form_at}
@@ -31,6 +31,7 @@ use Rattle.editor_core.specs.Took.{Took, quietly, silent}
 use Rattle.editor_core.proofs.Images.{keeps_now}
 use Rattle.editor_core.proofs.Leaving.{IsOwn, left_read, own_plain, plain_so}
 use Rattle.editor_core.proofs.Others.{others_none}
+use Rattle.editor_core.proofs.PurgeNumbers.{quiet_purges}
 use Rattle.editor_core.proofs.Quiet.{IsQuiet}
 use Rattle.editor_core.proofs.Removing.{PacksNone, RemovesNone, frees_none, frees_refused, ids_same, no_record}
 use Rattle.editor_core.proofs.Removing.{none_given}
@@ -143,6 +144,7 @@ module _ {D : Type 0} (disk : Ghosts D) (s : Core D) (is : IsStudio disk s) (sto
       changed = changed_kept (others_none s.next_block s.next_block (MayRemove c s.counts)) kept;
       frees = frees_none disk s c (Ok r) looked none plain;
       ids = ids_same s looked refl refl;
+      purges = quiet_purges s.history c (Ok r) quiet.no_commit;
       untouched = tt;
       stops = inl (refl, kept.same_faults);
       left = tt;
@@ -168,6 +170,7 @@ module _ {D : Type 0} (disk : Ghosts D) (s : Core D) (is : IsStudio disk s) (sto
       changed = changed_kept (others_none s.next_block s.next_block (MayRemove c s.counts)) kept;
       frees = frees_refused disk s c why looked none;
       ids = ids_same s looked refl refl;
+      purges = quiet_purges s.history c (Err why) quiet.no_commit;
       untouched = λ device. kept;
       stops = inl (refl, kept.same_faults);
       left = left_read disk s store cache why so;
@@ -180,7 +183,8 @@ module _ {D : Type 0} (disk : Ghosts D) (s : Core D) (is : IsStudio disk s) (sto
         → Took disk s (quietly c (Err (reason_of why))) looked
     looked_failed leaves fault.DiskFault counted named =
         let same : s.next_block ≡ s.next_block + 0 = omega arith in
-        looked_refused refusal.DiskFault (inl (record { rose = counted.0; later = counted.1 })) tt (λ held. inr (record {
+        looked_refused refusal.DiskFault (inl (record { rose = counted.0; later = counted.1 })) tt
+        (λ held. inr (inr (record {
           breaks = record {
             going = going;
             blocks = 0;
@@ -195,10 +199,10 @@ module _ {D : Type 0} (disk : Ghosts D) (s : Core D) (is : IsStudio disk s) (sto
             leaves = leaves;
           };
           cause = inl (record { goes_on = going; rose = counted.0; later = counted.1; changes = kept.same_faults });
-        }))
+        })))
     looked_failed leaves (fault.Damaged file found) counted named =
         let same : s.next_block ≡ s.next_block + 0 = omega arith in
-        looked_refused (refusal.Damaged file found.at found.want found.have) named tt (λ held. inr (record {
+        looked_refused (refusal.Damaged file found.at found.want found.have) named tt (λ held. inr (inr (record {
           breaks = record {
             going = going;
             blocks = 0;
@@ -215,7 +219,7 @@ module _ {D : Type 0} (disk : Ghosts D) (s : Core D) (is : IsStudio disk s) (sto
           stopped = going;
           reads = counted;
           changes = kept.same_faults;
-        }))
+        })))
 
     -- one of its tests refused it, though the disk was asked
     pub looked_own : (why : Refusal) → IsOwn why → disk.read_fault_count store ≡ disk.read_fault_count s.store
@@ -234,4 +238,4 @@ module _ {D : Type 0} (disk : Ghosts D) (s : Core D) (is : IsStudio disk s) (sto
     pub looked_wanting : disk.read_fault_count store ≡ disk.read_fault_count s.store
         → Took disk s (quietly c (Err refusal.NoMemory)) looked
     looked_wanting faults = looked_refused refusal.NoMemory tt tt
-        (λ held. inr (record { same = looked_state ∙ (λ i. record t { read_faults = faults i }); quiet = refl }))
+        (λ held. inr (inr (record { same = looked_state ∙ (λ i. record t { read_faults = faults i }); quiet = refl })))

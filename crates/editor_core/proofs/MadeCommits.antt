@@ -17,16 +17,17 @@ use Rattle.disk_model.specs.declared.store.Store.{Ghosts}
 use Rattle.disk_model.proofs.Moments.{each_on}
 use Rattle.sample_block.specs.Sources.{IsWhole}
 use Rattle.project_journal.specs.Gate.{EachSince}
-use Rattle.project_state.specs.Kept.{Keeps}
+use Rattle.record_body.specs.Kept.{Keeps}
 use Rattle.edit_ops.specs.declared.types.NewBlock.{NewBlock}
 use Rattle.edit_ops.specs.Plans.{AreNew, ref_of}
 use Rattle.editor_core.specs.Core.{Core}
 use Rattle.editor_core.specs.Left.{CountsIds, Left, Stops, Untouched}
 use Rattle.editor_core.specs.Made.{PiecesThere, batch_of, ids_from}
 use Rattle.editor_core.specs.Makes.{AreSynced, Making}
+use Rattle.editor_core.specs.Purges.{Purges}
 use Rattle.editor_core.specs.Studios.{IsGiven, IsHeld, IsStudio, shown, studio_of}
 use Rattle.editor_core.specs.Took.{KeepsOneOf, Took, number_behind, with_sound}
-use Rattle.model_laws.proofs.Answered.{answered_is}
+use Rattle.model_laws.proofs.Answered.{answered_same, done_stays}
 use Rattle.editor_core.proofs.Lists.{all_so}
 use Rattle.editor_core.proofs.Makings.{making_next}
 use Rattle.editor_core.proofs.MadeLeft.{all_changed}
@@ -89,8 +90,9 @@ module _ {D : Type 0} (disk : Ghosts D) (s : Core D) (is : IsStudio disk s) (giv
         let same = mid_state held in
         let one : shown new.after ≡ shown (followed (outside (studio_of disk mid) sound) (studio_of disk mid) c 0 0) =
         (λ i. shown (new.carried.is i))
-        ∙ ap shown (answered_is new.reply (followed (outside (studio_of disk mid) sound) (studio_of disk mid) c
-        new.carried.blocks new.carried.len)) in
+        ∙ ap shown (answered_same (outside (studio_of disk mid) sound) (studio_of disk mid).state c new.reply
+        new.carried.answers (done_stays (outside t sound) t.state c carried.answers)
+        (followed (outside (studio_of disk mid) sound) (studio_of disk mid) c new.carried.blocks new.carried.len)) in
         let two : shown (followed (outside (studio_of disk mid) sound) (studio_of disk mid) c 0 0)
         ≡ shown (followed (outside t sound) t c n len) =
         λ i. shown (followed (outside (same i) sound) (same i) c 0 0) in
@@ -144,6 +146,7 @@ module _ {D : Type 0} (disk : Ghosts D) (s : Core D) (is : IsStudio disk s) (giv
           changed = all_changed disk s given makes most c sound is told_as took.len mid new making next took.changed;
           frees = frees_none disk s c told_as new none plain;
           ids = ids;
+          purges = subst (λ (z : Core D). Purges z.history c told_as) making.is took.purges;
           untouched = untouched;
           stops = stops;
           left = left;

@@ -35,6 +35,7 @@ use Rattle.editor_core.proofs.MadeLeft.{unput_left}
 use Rattle.editor_core.proofs.MadeStudios.{below_same, keeps_outside, made_held, made_state, made_studio, with_held}
 use Rattle.editor_core.proofs.MadeStudios.{with_store}
 use Rattle.editor_core.proofs.Meanings.{same_studio}
+use Rattle.editor_core.proofs.PurgeNumbers.{begun_purges, other_purges}
 use Rattle.editor_core.proofs.Removing.{RemovesNone, broken_begins, cut_begins, frees_refused, names_sound}
 use Rattle.editor_core.proofs.Removing.{begun_untouched}
 use Rattle.editor_core.proofs.Staying.{some_none, stopped_not}
@@ -77,6 +78,7 @@ module _ {D : Type 0} (disk : Ghosts D) (s : Core D) (is : IsStudio disk s) (giv
           changed = some_changed disk s given makes most c sound why k len new making few;
           frees = frees_refused disk s c why new none;
           ids = some_ids disk s given makes most c sound k new making;
+          purges = begun_purges s.history c why off;
           untouched = begun_untouched disk s.store new.store c why off;
           stops = inl (some_stop disk s given makes most c sound k new making, making.change_faults);
           left = some_left disk s given makes most c sound k new making why so;
@@ -109,7 +111,7 @@ module _ {D : Type 0} (disk : Ghosts D) (s : Core D) (is : IsStudio disk s) (giv
 
       unread : HasMissed disk mid.store new.store → Took disk s (with_sound c sound (Err refusal.DiskFault)) new
       unread missed = going_on refusal.DiskFault k new making few (broken_begins c refusal.DiskFault refl) tt
-          (inl (missed_so disk s given makes most c sound mid.store new.store reads missed)) (λ held. inr (record {
+          (inl (missed_so disk s given makes most c sound mid.store new.store reads missed)) (λ held. inr (inr (record {
             breaks = record {
               going = going;
               blocks = k;
@@ -125,14 +127,14 @@ module _ {D : Type 0} (disk : Ghosts D) (s : Core D) (is : IsStudio disk s) (giv
               later = omega (arith, missed.later, reads);
               changes = making.change_faults;
             });
-          }))
+          })))
 
       damaged : (file at want have : ℕ) → disk.read_fault_count new.store ≡ disk.read_fault_count mid.store
           → IsSoOf disk s new (refusal.Damaged file at want have)
           → Took disk s (with_sound c sound (Err (refusal.Damaged file at want have))) new
       damaged file at want have same so =
           going_on (refusal.Damaged file at want have) k new making few
-          (broken_begins c (refusal.Damaged file at want have) refl) tt so (λ held. inr (record {
+          (broken_begins c (refusal.Damaged file at want have) refl) tt so (λ held. inr (inr (record {
             breaks = record {
               going = going;
               blocks = k;
@@ -145,14 +147,14 @@ module _ {D : Type 0} (disk : Ghosts D) (s : Core D) (is : IsStudio disk s) (giv
             stopped = still_going;
             reads = same ∙ reads;
             changes = making.change_faults;
-          }))
+          })))
 
       -- the vault failed as samples were brought
       vault : reads_sound c ≡ true → disk.read_fault_count new.store ≡ disk.read_fault_count mid.store
           → Took disk s (with_sound c sound (Err refusal.VaultFault)) new
       vault sounds same =
           let begun = cut_begins c refusal.VaultFault sounds refl in
-          going_on refusal.VaultFault k new making few begun tt tt (λ held. inr (
+          going_on refusal.VaultFault k new making few begun tt tt (λ held. inr (inr (
             names_sound c sounds,
             record {
               breaks = record {
@@ -168,7 +170,7 @@ module _ {D : Type 0} (disk : Ghosts D) (s : Core D) (is : IsStudio disk s) (giv
               reads = same ∙ reads;
               changes = making.change_faults;
             },
-          ))
+          )))
 
     -- the disk failed as a block was written or synced
     module _ (k : ℕ) (mid new : Core D) (was : Making disk s (batch_of given makes) k mid) (few : k ≤ n)
@@ -216,7 +218,7 @@ module _ {D : Type 0} (disk : Ghosts D) (s : Core D) (is : IsStudio disk s) (giv
       here_took = record {
         studio = here_studio;
         held = here_held;
-        step = λ held. inr (record {
+        step = λ held. inr (inr (record {
           breaks = record {
             going = going;
             blocks = k;
@@ -235,7 +237,7 @@ module _ {D : Type 0} (disk : Ghosts D) (s : Core D) (is : IsStudio disk s) (giv
               reads = un.read_faults ∙ reads;
             },
           );
-        });
+        }));
         any_moment = λ _ held x since. inl (keeps_outside disk s is (k + 1) store going held changed.images x since);
         refused = λ _ held none. absurd (some_none _ none);
         now = λ none held. absurd (some_none _ none);
@@ -249,6 +251,7 @@ module _ {D : Type 0} (disk : Ghosts D) (s : Core D) (is : IsStudio disk s) (giv
         changed = unput_changed disk s given makes most c sound k mid new was few left un len;
         frees = frees_refused disk s c refusal.DiskFault here none;
         ids = unput_ids disk s given makes most c sound k mid new was few left un;
+        purges = other_purges s.history c refusal.DiskFault tt;
         untouched = begun_untouched disk s.store store c refusal.DiskFault (broken_begins c refusal.DiskFault refl);
         stops = inr (refl, unput_failed disk s given makes most c sound k mid new was few left un, refl);
         left = unput_left disk s given makes most c sound k mid new was few left un;

@@ -16,9 +16,9 @@ use Rattle.edit_ops.specs.declared.types.NewBlock.{NewBlock}
 use Rattle.edit_ops.specs.Plans.{AreNew, ref_of}
 use Rattle.piece_store.proofs.MadeLaws.{file_of_block}
 use Rattle.project_state.specs.declared.track.Track.{Track}
-use Rattle.project_state.specs.Kept.{Keeps}
-use Rattle.project_state.specs.KeptSound.{IsSoundPoint, IsSoundTagged}
-use Rattle.project_state.proofs.KeptBounds.{tagged_more}
+use Rattle.record_body.specs.Kept.{Keeps}
+use Rattle.record_body.specs.KeptSound.{IsSoundPoint, IsSoundTagged}
+use Rattle.record_body.proofs.KeptBounds.{tagged_more}
 use Rattle.block_cache.specs.Carried.{HasCache}
 use Rattle.editor_core.proofs.StudioCache.{cache_by_blocks}
 use Rattle.editor_core.specs.Core.{Core, form_at}

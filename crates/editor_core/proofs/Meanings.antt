@@ -13,7 +13,7 @@ use Rattle.sample_block.specs.Sources.{samples_on, sources_of}
 use Rattle.clip_track.specs.declared.items.Item.{Item}
 use Rattle.clip_track.specs.declared.items.Item.TheVariants.{Gap, Sound}
 use Rattle.clip_track.specs.Items.{item_blocks, item_cells, strip_blocks, strip_cells}
-use Rattle.project_state.specs.Kept.{point_blocks, history_blocks}
+use Rattle.project_state.specs.Meaning.{point_blocks, history_blocks}
 use Rattle.editor_core.specs.Core.{Core}
 use Rattle.editor_core.specs.declared.studio.Pin.{Pin}
 use Rattle.editor_core.specs.Studios.{SameBlocks, studio_by, pin_at, clip_cells, clip_blocks, pin_blocks, named_blocks}

@@ -16,7 +16,7 @@ use Rattle.pcm_base.specs.Run.{outside}
 use Rattle.disk_model.specs.declared.store.Store.{Ghosts}
 use Rattle.sample_block.specs.Sources.{sources_of}
 use Rattle.undo_history.specs.Stored.{Stored}
-use Rattle.project_state.specs.Kept.{meant}
+use Rattle.project_state.specs.Meaning.{meant}
 use Rattle.editor_core.specs.Core.{Core}
 use Rattle.editor_core.specs.Studios.{studio_of}
 use Rattle.editor_core.specs.Took.{silent}

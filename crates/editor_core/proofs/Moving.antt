@@ -24,18 +24,18 @@ use Rattle.sample_block.specs.Sources.{sources_of}
 use Rattle.block_ledger.specs.Counts.{Counts}
 use Rattle.block_ledger.specs.Entries.{count_of}
 use Rattle.clip_track.specs.declared.items.Item.{Item}
-use Rattle.project_state.specs.declared.body.Body.{Body}
-use Rattle.project_state.specs.declared.body.Body.TheVariants.{Undo, Redo, Purge}
+use Rattle.record_body.specs.declared.body.Body.{Body}
+use Rattle.record_body.specs.declared.body.Body.TheVariants.{Undo, Redo, Purge}
 use Rattle.project_state.specs.declared.track.Track.{Track}
-use Rattle.project_state.specs.Kept.{history_blocks, point_blocks}
-use Rattle.project_state.specs.KeptSound.{IsSoundTagged}
+use Rattle.project_state.specs.Meaning.{history_blocks, point_blocks}
+use Rattle.record_body.specs.KeptSound.{IsSoundTagged}
 use Rattle.project_state.proofs.MeantHistories.{meant_purged}
 use Rattle.project_state.specs.Numbers.{unnumbered}
-use Rattle.project_state.proofs.Unnumbered.{purged_alike}
+use Rattle.record_body.proofs.Unnumbered.{purged_alike}
 use Rattle.layout_uses.specs.declared.tally.Tally.{Tally}
 use Rattle.layout_uses.specs.Layouts.{AreDrawn, AreNumbered, history_tracks, points_tracks}
 use Rattle.layout_uses.specs.Tallies.{AreCounts, Becomes, MayBecome}
-use Rattle.editor_core.specs.Adding.{AddsBody, IsNoWant}
+use Rattle.editor_core.specs.Adding.{Adds, AddsBody, IsNoWant}
 use Rattle.editor_core.specs.Bodies.{single}
 use Rattle.editor_core.specs.Core.{Core}
 use Rattle.editor_core.specs.Studios.{IsHeld, IsStudio, clip_blocks, named_blocks, pin_blocks, pin_tracks, studio_of}
@@ -331,3 +331,27 @@ no_want None None track tracks number why h e =
 pub other_reason : (b : Bool) (r : Refusal) → IsNoWant r → (o : Refusal) → refused_if b r ≡ Some o → IsNoWant o
 other_reason true r is o e = subst IsNoWant (same_Some r o e) is
 other_reason false r is o e = absurd (none-some o e)
+
+-- it is a range that is refused by the own tests alone
+pub own_range : (stopped : Option ℕ) (own : Option Refusal) (track tracks number : ℕ) (why : Refusal)
+    → (stop_of stopped) otherwise own otherwise (no_room track tracks) otherwise (no_room number 1) ≡ Some why
+    → why ≡ refusal.BadRange → own ≡ Some refusal.BadRange
+own_range (Some n) own track tracks number why e is =
+    let no : ⊥ = cc (same_Some (refusal.Stopped n) why e ∙ is) in absurd no
+own_range None (Some r) track tracks number why e is = e ∙ ap Some is
+own_range None None track tracks number why e is =
+    spaces (nat_lt (2 ^ 62) (track + tracks)) (nat_lt (2 ^ 62) (number + 1)) e
+  where
+    spaces : (a b : Bool) → (refused_if a (refusal.SpaceSpent track tracks)) otherwise
+        (refused_if b (refusal.SpaceSpent number 1)) ≡ Some why → None ≡ Some refusal.BadRange
+    spaces true b e =
+        let no : ⊥ = cc (same_Some (refusal.SpaceSpent track tracks) why e ∙ is) in absurd no
+    spaces false true e =
+        let no : ⊥ = cc (same_Some (refusal.SpaceSpent number 1) why e ∙ is) in absurd no
+    spaces false false e = absurd (none-some why e)
+
+-- the journal refuses no range
+pub added_range : {D R : Type 0} (disk : Ghosts D) (old new : Core D) (bodies : List (List ℕ)) (count whole : ℕ)
+    (why : Refusal) → Adds {R = R} disk old bodies count whole (Err why) new → why ≡ refusal.BadRange → ⊥
+added_range {D} {R} disk old new bodies count whole why adds is =
+    (subst (λ (w : Refusal). Adds {R = R} disk old bodies count whole (Err w) new) is adds).fields

@@ -10,7 +10,7 @@ use Rattle.disk_model.proofs.Frames.{Fewer, changed_none}
 use Rattle.sample_block.specs.Sources.{IsWhole}
 use Rattle.block_ledger.specs.Counts.{Counts}
 use Rattle.clip_track.specs.declared.items.Item.{Item}
-use Rattle.project_state.specs.KeptSound.{IsSoundPoint}
+use Rattle.record_body.specs.KeptSound.{IsSoundPoint}
 use Rattle.editor_core.specs.Core.{Core}
 use Rattle.editor_core.specs.declared.studio.Pin.{Pin}
 use Rattle.editor_core.specs.Left.{MayRemove}
@@ -21,6 +21,7 @@ use Rattle.editor_core.specs.Studios.{clip_blocks, pin_tracks}
 use Rattle.editor_core.specs.Took.{Took, quietly, silent}
 use Rattle.editor_core.proofs.Images.{keeps_now}
 use Rattle.editor_core.proofs.Others.{others_none}
+use Rattle.editor_core.proofs.PurgeNumbers.{quiet_purges}
 use Rattle.editor_core.proofs.Quiet.{IsQuiet}
 use Rattle.editor_core.proofs.Removing.{PacksNone, RemovesNone, frees_none, ids_still, no_record, none_given}
 
@@ -129,6 +130,7 @@ module _ {D : Type 0} (disk : Ghosts D) (s : Core D) (is : IsStudio disk s) (cli
     changed = changed_none s.store (others_none s.next_block s.next_block (MayRemove c s.counts)) fewer;
     frees = frees_none disk s c (Ok r) new none plain;
     ids = ids_still s new names.ids refl;
+    purges = quiet_purges s.history c (Ok r) quiet.no_commit;
     untouched = tt;
     stops = inl (refl, refl);
     left = tt;

@@ -15,18 +15,19 @@ use Rattle.block_cache.specs.Carried.{HasCache}
 use Rattle.block_cache.proofs.CarriedLaws.{carried_change}
 use Rattle.project_journal.specs.Choice.{other_file}
 use Rattle.project_journal.specs.Gate.{EachSince}
-use Rattle.project_journal.specs.Header.{IsBase, form_2}
+use Rattle.project_journal.specs.Header.{IsBase, form_3}
 use Rattle.project_journal.specs.Journal.{HasLog, IsAt, Log, points_size}
 use Rattle.project_journal.specs.Packing.{AreShort, HasEither, IsText, MayPack, OnlyJournals, Tells, header_row}
 use Rattle.project_journal.specs.Packing.{pack_room}
 use Rattle.project_journal.proofs.Parses.{form_known}
 use Rattle.project_journal.proofs.Texts.{text_is}
 use Rattle.project_state.specs.declared.track.Track.{Track}
-use Rattle.project_state.specs.Kept.{Begins, BeginsBy, IsTold, Keeps, Kept, history_blocks, point_bytes}
-use Rattle.project_state.specs.KeptSound.{IsSoundTagged}
+use Rattle.record_body.specs.Kept.{Begins, BeginsBy, IsTold, Keeps, Kept, point_bytes}
+use Rattle.project_state.specs.Meaning.{history_blocks}
+use Rattle.record_body.specs.KeptSound.{IsSoundTagged}
 use Rattle.project_state.specs.Numbers.{AreUnnumbered, unnumbered}
-use Rattle.project_state.proofs.Unnumbered.{are_unnumbered, history_blocks_alike, history_meant_alike, point_alike}
-use Rattle.project_state.proofs.Unnumbered.{sound_alike}
+use Rattle.record_body.proofs.Unnumbered.{are_unnumbered, history_blocks_alike, history_meant_alike, point_alike}
+use Rattle.record_body.proofs.Unnumbered.{sound_alike}
 use Rattle.editor_core.specs.Core.{Core, form_at}
 use Rattle.editor_core.specs.Packing.{packed_base, packed_core, packed_log, packed_size, packed_text, points_in}
 use Rattle.editor_core.specs.Spent.{kept_of}
@@ -219,7 +220,7 @@ module _ {D : Type 0} (disk : Ghosts D) (s : Core D) (is : IsStudio disk s) (goi
         subst (Keeps c) (shown_is disk s d)
         (keeps_by (form_at s) d.log d.base d.kept files c (form_few s is.journal.among) has d.begins d.told
         (covers_kept disk s d (λ b. c b.id ≡ files b.id) same) (covers_kept disk s d (IsWhole files) held.whole)))
-        (λ (has : HasLog (form_2 (other_file s.file)) (packed_log s) c).
+        (λ (has : HasLog (form_3 (other_file s.file)) (packed_log s) c).
         let rest = pin_blocks s.pins ++ clip_blocks s.clipboard in
         let alike = sym (history_blocks_alike s.history) in
         subst (Keeps c) (λ i. record {
@@ -229,8 +230,8 @@ module _ {D : Type 0} (disk : Ghosts D) (s : Core D) (is : IsStudio disk s) (goi
           next_track = s.next_track;
           commit = s.commit_number;
         })
-        (keeps_by (form_2 (other_file s.file)) (packed_log s) (kept_of s) (kept_of s) files c
-        (record { known = inr refl; few = omega arith }) has (text_begins disk s is later history) refl
+        (keeps_by (form_3 (other_file s.file)) (packed_log s) (kept_of s) (kept_of s) files c
+        (record { known = inr (inr refl); few = omega arith }) has (text_begins disk s is later history) refl
         (subst (AllByRecursion (λ (b : BlockRef). c b.id ≡ files b.id)) alike
         (all_left (λ b. c b.id ≡ files b.id) (history_blocks s.history) rest same))
         (subst (AllByRecursion (IsWhole files)) alike
@@ -279,7 +280,7 @@ module _ {D : Type 0} (disk : Ghosts D) (s : Core D) (is : IsStudio disk s) (goi
     }
 
     packed_durable : IsTrue (disk.tells s.store)
-        → IsAt (form_2 (other_file s.file)) disk store (length (packed_text s)) (packed_log s)
+        → IsAt (form_3 (other_file s.file)) disk store (length (packed_text s)) (packed_log s)
         → IsDurable disk s → IsDurable disk new
     packed_durable told at d =
         let files = disk.reads s.store in
@@ -287,7 +288,7 @@ module _ {D : Type 0} (disk : Ghosts D) (s : Core D) (is : IsStudio disk s) (goi
           log = packed_log s;
           base = kept_of s;
           kept = kept_of s;
-          there = subst (λ (n : ℕ). IsAt (form_2 (other_file s.file)) disk store n (packed_log s)) place at;
+          there = subst (λ (n : ℕ). IsAt (form_3 (other_file s.file)) disk store n (packed_log s)) place at;
           generation = refl;
           begins = text_begins disk s is later history;
           told = refl;
@@ -314,7 +315,7 @@ module _ {D : Type 0} (disk : Ghosts D) (s : Core D) (is : IsStudio disk s) (goi
         }
 
     pub packed_held : (IsHeld disk s
-        → IsAt (form_2 (other_file s.file)) disk store (length (packed_text s)) (packed_log s))
+        → IsAt (form_3 (other_file s.file)) disk store (length (packed_text s)) (packed_log s))
         → IsHeld disk s → IsHeld disk new
     packed_held at held = record {
       tells = still_tells held;

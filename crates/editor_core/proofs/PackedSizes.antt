@@ -6,8 +6,9 @@ use Rattle.disk_model.specs.declared.store.Store.{Ghosts}
 use Rattle.sample_block.specs.Sources.{sources_of}
 use Rattle.project_journal.specs.Journal.{points_size}
 use Rattle.project_state.specs.declared.track.Track.{Track}
-use Rattle.project_state.specs.Kept.{meant, point_bytes}
-use Rattle.project_state.specs.KeptSound.{IsSoundTagged}
+use Rattle.project_state.specs.Meaning.{meant}
+use Rattle.record_body.specs.Kept.{point_bytes}
+use Rattle.record_body.specs.KeptSound.{IsSoundTagged}
 use Rattle.editor_core.specs.Core.{Core}
 use Rattle.editor_core.specs.Packing.{packed_most, packed_size, points_most}
 use Rattle.editor_core.specs.Studios.{IsStudio, studio_of}

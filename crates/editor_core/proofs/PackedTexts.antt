@@ -7,7 +7,7 @@ use Rattle.pcm_base.specs.History.{point_of, tag_of}
 use Rattle.project_journal.specs.Journal.{points_size}
 use Rattle.project_journal.specs.Packing.{AreShort, sized}
 use Rattle.project_state.specs.declared.track.Track.{Track}
-use Rattle.project_state.specs.Kept.{point_bytes}
+use Rattle.record_body.specs.Kept.{point_bytes}
 
 -- a point and its tag, at a place
 pub tagged : {P : Type 0} (ps : List (P × ℕ)) (i : ℕ) (p : P) → slice_get (map point_of ps) i ≡ Some p

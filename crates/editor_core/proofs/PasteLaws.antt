@@ -29,10 +29,11 @@ use Rattle.edit_ops.specs.Plans.{Start}
 use Rattle.edit_ops.specs.Runs.{AreClips, ArePastes, clipboard_tests, lengths_of, start_behind}
 use Rattle.envelope_view.specs.Answers.{IsUndamaged}
 use Rattle.project_state.specs.declared.track.Track.{Track}
-use Rattle.project_state.specs.Kept.{current_tracks, meant, meant_track, point_blocks}
-use Rattle.project_state.specs.Sound.{AllSoundTracks}
+use Rattle.record_body.specs.Kept.{current_tracks}
+use Rattle.project_state.specs.Meaning.{meant, meant_track, point_blocks}
+use Rattle.record_body.specs.Sound.{AllSoundTracks}
 use Rattle.project_state.specs.Tracks.{AreAbove, track_of}
-use Rattle.project_state.proofs.KeptBounds.{all_append}
+use Rattle.record_body.proofs.KeptBounds.{all_append}
 use Rattle.pcm_base.specs.declared.edits.Placing.{Placing}
 use Rattle.editor_core.specs.Copies.{run_of, strips_blocks}
 use Rattle.editor_core.specs.Core.{Core}

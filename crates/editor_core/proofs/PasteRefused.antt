@@ -19,13 +19,13 @@ use Rattle.disk_model.specs.declared.store.Store.{Ghosts}
 use Rattle.disk_model.proofs.Frames.{Fewer}
 use Rattle.sample_block.specs.Sources.{samples_on}
 use Rattle.project_state.specs.declared.track.Track.{Track}
-use Rattle.project_state.specs.KeptSound.{IsSoundPoint}
+use Rattle.record_body.specs.KeptSound.{IsSoundPoint}
 use Rattle.project_state.specs.Tracks.{track_of}
 use Rattle.pcm_base.specs.declared.edits.Placing.{Placing}
 use Rattle.pcm_base.specs.declared.edits.Placing.TheVariants.{Insert, Cover}
 use Rattle.pcm_base.specs.Edits.{placed}
 use Rattle.pcm_base.specs.Shape.{paste_line}
-use Rattle.project_state.specs.Kept.{current_tracks}
+use Rattle.record_body.specs.Kept.{current_tracks}
 use Rattle.editor_core.specs.Core.{Core}
 use Rattle.editor_core.specs.Edits.{IsEditCall, alone}
 use Rattle.editor_core.specs.Pastes.{NoPastePlan, paste_refusal}

@@ -28,10 +28,11 @@ use Rattle.edit_ops.specs.Runs.{ArePastes, clipboard_tests}
 use Rattle.piece_store.specs.declared.given.Given.TheVariants.{Nothing}
 use Rattle.piece_store.specs.Bringing.{brought, brought_by}
 use Rattle.project_state.specs.declared.track.Track.{Track}
-use Rattle.project_state.specs.Kept.{current_tracks, history_blocks, meant, meant_history, point_blocks}
-use Rattle.project_state.specs.KeptSound.{IsSoundPoint}
+use Rattle.record_body.specs.Kept.{current_tracks}
+use Rattle.project_state.specs.Meaning.{history_blocks, meant, meant_history, point_blocks}
+use Rattle.record_body.specs.KeptSound.{IsSoundPoint}
 use Rattle.project_state.specs.Tracks.{track_of}
-use Rattle.project_state.proofs.KeptBounds.{all_append}
+use Rattle.record_body.proofs.KeptBounds.{all_append}
 use Rattle.project_state.proofs.MeantHistories.{meant_recorded}
 use Rattle.layout_uses.specs.Drawing.{HasNumbers}
 use Rattle.editor_core.specs.declared.carrying.Planned.{Planned}

@@ -10,9 +10,9 @@ use Rattle.pcm_base.specs.declared.block.BlockRef.{BlockRef}
 use Rattle.pcm_base.specs.Pieces.{Sources}
 use Rattle.pcm_base.specs.Step.{with_pin, without_pin}
 use Rattle.project_state.specs.declared.track.Track.{Track}
-use Rattle.project_state.specs.Kept.{meant, point_blocks}
-use Rattle.project_state.proofs.KeptBounds.{all_append}
-use Rattle.project_state.proofs.Parts.{take_some}
+use Rattle.project_state.specs.Meaning.{meant, point_blocks}
+use Rattle.record_body.proofs.KeptBounds.{all_append}
+use Rattle.project_state.proofs.Points.{take_some}
 use Rattle.editor_core.specs.declared.studio.Pin.{Pin}
 use Rattle.editor_core.specs.Pins.{LacksPin}
 use Rattle.editor_core.specs.Studios.{PinsRise, pin_at, pin_blocks}

@@ -81,6 +81,7 @@ module _ {D : Type 0} (disk : Ghosts D) (s : Core D) (pin from count len n : ℕ
     changed = took.changed;
     frees = took.frees;
     ids = took.ids;
+    purges = tt;
     untouched = tt;
     stops = took.stops;
     left = tt;

@@ -1,18 +1,18 @@
 -- A call that only looks, refused as another one that asks as much.
-use Rattle.std.proofs.Common.{⊎_elim, inl, inr, refl, ap, subst, ℕ, Err}
+use Rattle.std.proofs.Common.{⊎_elim, inl, inr, refl, ap, ◌∙◌, subst, ℕ, Err}
 use Rattle.pcm_base.specs.declared.command.Call.{Call}
 use Rattle.pcm_base.specs.declared.command.Call.TheVariants.{PinLen, ReadPin}
 use Rattle.pcm_base.specs.declared.refusal.Refusal.{Refusal}
 use Rattle.pcm_base.specs.declared.refusal.Refusal.TheVariants as refusal
-use Rattle.pcm_base.specs.Run.{Answers, Breaks, BreaksOff}
+use Rattle.pcm_base.specs.Run.{Answers, Breaks, BreaksOff, LeavesAll, followed, outside}
 use Rattle.pcm_base.specs.Studio as model
 use Rattle.disk_model.specs.Disk.{Files}
 use Rattle.disk_model.specs.declared.store.Store.{Ghosts}
-use Rattle.project_state.specs.Kept.{Keeps}
+use Rattle.record_body.specs.Kept.{Keeps}
 use Rattle.editor_core.specs.Core.{Core}
 use Rattle.editor_core.specs.Studios.{shown, studio_of}
 use Rattle.editor_core.specs.Took.{KeepsOneOf, Took, quietly, silent}
-use Rattle.model_laws.proofs.Answered.{carried_is}
+use Rattle.model_laws.proofs.Answered.{answered_same}
 use Rattle.editor_core.proofs.Spending.{other_needed}
 
 module _ {D : Type 0} (disk : Ghosts D) (s : Core D) (pin from count : ℕ) where
@@ -55,13 +55,18 @@ module _ {D : Type 0} (disk : Ghosts D) (s : Core D) (pin from count : ℕ) wher
           same = r.same;
           quiet = r.quiet;
         }))
-        (λ b. inr (breaks why u b))
+        (λ rest. ⊎_elim
+        (λ (left : LeavesAll t (PinLen pin) silent why u). let no : ⊥ = cc left.line in absurd no)
+        (λ b. inr (inr (breaks why u b)))
+        rest)
         a
 
     still : (c : Files) → KeepsOneOf t (PinLen pin) silent c → KeepsOneOf t read silent c
     still c k = ⊎_elim (λ old. inl old)
         (λ flight. inl (subst (Keeps c)
-        (ap shown (carried_is t flight.after (PinLen pin) silent flight.reply flight.carried)) flight.keeps)) k
+        (ap shown (flight.carried.is
+        ∙ answered_same (outside t silent) t.state (PinLen pin) flight.reply flight.carried.answers refl
+        (followed (outside t silent) t (PinLen pin) flight.carried.blocks flight.carried.len))) flight.keeps)) k
 
     pub len_refused : Took disk s (quietly read (Err why)) new
     len_refused = record {
@@ -81,6 +86,7 @@ module _ {D : Type 0} (disk : Ghosts D) (s : Core D) (pin from count : ℕ) wher
       changed = took.changed;
       frees = took.frees;
       ids = took.ids;
+      purges = tt;
       untouched = took.untouched;
       stops = took.stops;
       left = took.left;
@@ -129,14 +135,19 @@ module _ {D : Type 0} (disk : Ghosts D) (s : Core D) (pin from count : ℕ) wher
           same = r.same;
           quiet = r.quiet;
         }))
-        (λ b. inr (breaks_fewer why u b))
+        (λ rest. ⊎_elim
+        (λ (left : LeavesAll t (ReadPin pin from n) silent why u). let no : ⊥ = cc left.line in absurd no)
+        (λ b. inr (inr (breaks_fewer why u b)))
+        rest)
         a
 
     still_fewer : (c : Files) → KeepsOneOf t (ReadPin pin from n) silent c → KeepsOneOf t read silent c
     still_fewer c k =
         ⊎_elim (λ old. inl old)
         (λ flight. inl (subst (Keeps c)
-        (ap shown (carried_is t flight.after (ReadPin pin from n) silent flight.reply flight.carried)) flight.keeps)) k
+        (ap shown (flight.carried.is
+        ∙ answered_same (outside t silent) t.state (ReadPin pin from n) flight.reply flight.carried.answers refl
+        (followed (outside t silent) t (ReadPin pin from n) flight.carried.blocks flight.carried.len))) flight.keeps)) k
 
     pub read_refused : Took disk s (quietly read (Err why)) new
     read_refused = record {
@@ -156,6 +167,7 @@ module _ {D : Type 0} (disk : Ghosts D) (s : Core D) (pin from count : ℕ) wher
       changed = took.changed;
       frees = took.frees;
       ids = took.ids;
+      purges = tt;
       untouched = took.untouched;
       stops = took.stops;
       left = took.left;

@@ -18,9 +18,10 @@ use Rattle.sample_block.specs.Sources.{sources_of}
 use Rattle.block_ledger.specs.Counts.{Counts}
 use Rattle.block_ledger.specs.Entries.{count_of}
 use Rattle.project_state.specs.declared.track.Track.{Track}
-use Rattle.project_state.specs.Kept.{current_tracks, point_blocks, history_blocks}
-use Rattle.project_state.specs.KeptSound.{IsSoundPoint}
-use Rattle.project_state.proofs.KeptBounds.{all_append}
+use Rattle.record_body.specs.Kept.{current_tracks}
+use Rattle.project_state.specs.Meaning.{point_blocks, history_blocks}
+use Rattle.record_body.specs.KeptSound.{IsSoundPoint}
+use Rattle.record_body.proofs.KeptBounds.{all_append}
 use Rattle.editor_core.specs.Core.{Core}
 use Rattle.editor_core.specs.declared.studio.Pin.{Pin}
 use Rattle.layout_uses.specs.declared.tally.Tally.{Tally}

@@ -25,13 +25,14 @@ use Rattle.block_ledger.specs.Counts.{Counts}
 use Rattle.block_ledger.specs.Entries.{count_of}
 use Rattle.clip_track.specs.declared.clips.Clip.{Clip}
 use Rattle.clip_track.specs.Clips.{IsLayout, AllHalfFull, layout_blocks}
-use Rattle.project_state.specs.declared.body.Body.TheVariants.{Edit}
+use Rattle.record_body.specs.declared.body.Body.TheVariants.{Edit}
 use Rattle.project_state.specs.declared.track.Track.{Track}
-use Rattle.project_state.specs.Kept.{meant, meant_track, meant_history, point_blocks}
-use Rattle.project_state.specs.KeptSound.{IsSoundPoint}
-use Rattle.project_state.specs.Sound.{IsSoundTrack, AllClipsGiven}
+use Rattle.project_state.specs.Meaning.{meant, meant_track, meant_history, point_blocks}
+use Rattle.record_body.specs.KeptSound.{IsSoundPoint}
+use Rattle.record_body.specs.Sound.{IsSoundTrack, AllClipsGiven}
 use Rattle.pcm_base.specs.Pieces.{Sources}
 use Rattle.layout_uses.specs.declared.tally.Tally.{Tally}
+use Rattle.project_state.specs.Numbers.{AgreeById}
 use Rattle.layout_uses.specs.Drawing.{HasNumbers}
 use Rattle.layout_uses.specs.Layouts.{history_tracks}
 use Rattle.layout_uses.specs.Tallies.{AreCounts, Becomes, MayBecome}
@@ -51,7 +52,7 @@ use Rattle.editor_core.proofs.Flights.{IsCommit, clip_stays}
 use Rattle.editor_core.proofs.Committing.{fails}
 use Rattle.editor_core.proofs.Editing.{old, now, src, current_sound, current_below, current_meant, track_is, old_names}
 use Rattle.editor_core.proofs.Editing.{counts_then, may_become, pointed, pointed_so, then_current, point_commit}
-use Rattle.editor_core.proofs.Editing.{sound_later}
+use Rattle.editor_core.proofs.Editing.{came_agrees, sound_later}
 use Rattle.editor_core.proofs.Growing.{grows_so}
 use Rattle.editor_core.proofs.Grown.{CountsAfter}
 use Rattle.editor_core.proofs.BodyBytes.{lengths_most}
@@ -287,6 +288,10 @@ module _ {D : Type 0} (disk : Ghosts D) (s : Core D) (is : IsStudio disk s) wher
     -- the numbers of its layouts
     numbers : HasNumbers was s.next_layout p (s.next_layout + layouts_by e)
     numbers = numbers_by e good p ed
+
+    -- its tracks agree with the current ones by their numbers
+    pub edit_agrees : AgreeById was p
+    edit_agrees = came_agrees disk s is p (s.next_layout + layouts_by e) numbers
 
     -- its layouts may be counted, by the counts of the studio
     pub edit_may : (tally : Tally) → count_of tally.uses ≡ s.uses → count_of tally.ledger ≡ s.counts

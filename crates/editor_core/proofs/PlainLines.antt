@@ -4,7 +4,7 @@ use Rattle.pcm_base.specs.declared.command.Call.TheVariants.{Line}
 use Rattle.pcm_base.specs.declared.sound.Side.{Side}
 use Rattle.pcm_base.specs.Cells as cells
 use Rattle.project_state.specs.declared.track.Track.{Track}
-use Rattle.project_state.specs.Kept.{meant_track}
+use Rattle.project_state.specs.Meaning.{meant_track}
 use Rattle.pcm_base.specs.Pieces.{Sources}
 use Rattle.editor_core.specs.Plain.{line_of, tracks_by, set_by}
 use Rattle.editor_core.specs.Took.{silent}

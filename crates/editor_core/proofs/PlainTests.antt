@@ -20,8 +20,8 @@ use Rattle.pcm_base.specs.Refusals.{no_pin, no_track, paste_tests, pasted_length
 use Rattle.pcm_base.specs.Refusals.{refused_if, run_tests, shape_tests, too_narrow, track_limit, view_tests}
 use Rattle.pcm_base.specs.Run.{refusal_of, stop_of, stop_test}
 use Rattle.pcm_base.specs.Shape.{Shape, NewTrack, DropTrack, SetTrack, PutIn, EditRange, CutRun, CopyRun, PasteRun}
-use Rattle.pcm_base.specs.Shape.{MoveTo, Purge, Look, Reclaim, Compact, Import, Export, Back, Forward, View, Cells}
-use Rattle.pcm_base.specs.Shape.{Frames, Columns, Tracks, shape_of}
+use Rattle.pcm_base.specs.Shape.{MoveTo, Purge, PurgeTo, Look, Reclaim, Compact, Import, Export, Bounce, Back, Forward}
+use Rattle.pcm_base.specs.Shape.{View, Cells, Frames, Columns, Tracks, shape_of}
 use Rattle.pcm_base.specs.State.{State, clip_of, current}
 use Rattle.pcm_base.specs.Studio as model
 use Rattle.pcm_base.specs.Wave.{Sound, wav_of}
@@ -139,9 +139,11 @@ line out s (PasteRun id at placing) = pastes s (placed_length placing at) id
 line out s (MoveTo Back) = one (s.history.cursor == 0) refusal.NothingToUndo tt
 line out s (MoveTo Forward) = one (s.history.cursor + 1 == length s.history.points) refusal.NothingToRedo tt
 line out s (Purge n) = range 0 n s.history.cursor
+line out s (PurgeTo bytes) = tt
 line out s (Look view) = views s view
 line out s (Reclaim most) = tt
 line out s Compact = tt
+line out s (Bounce name) = tt
 line out s (Import name) = imports out.rate s out.sound
 line out s (Export name) =
     one (nat_lt 4294967295 (36 + 4 * mix_length (current s))) (refusal.TooLong (mix_length (current s))) tt
@@ -154,6 +156,7 @@ own out s (call.Piece id tag samples) =
 own out s call.Pin = tt
 own out s (call.PinLen id) = pin s id
 own out s (call.ReadPin id from count) = pin s id
+own out s (call.LoadPin id from count) = pin s id
 own out s (call.Unpin id) = pin s id
 
 pub stop : (stopped : Option ℕ) → IsOwnTest (stop_of stopped)
@@ -166,6 +169,7 @@ stops stopped (call.Piece id tag samples) = stop stopped
 stops stopped call.Pin = stop stopped
 stops stopped (call.PinLen id) = stop stopped
 stops stopped (call.ReadPin id from count) = stop stopped
+stops stopped (call.LoadPin id from count) = stop stopped
 stops stopped (call.Unpin id) = tt
 
 -- ---- the counters

@@ -12,8 +12,8 @@ use Rattle.clip_track.specs.Clips.{layout_blocks}
 use Rattle.edit_ops.specs.declared.types.NewBlock.{NewBlock}
 use Rattle.edit_ops.specs.Plans.{AreNew, AllNewFrom, AreOldOrNew}
 use Rattle.piece_store.specs.Reading.{AllReadable}
-use Rattle.project_state.specs.Sound.{AllGiven, AllClipsGiven}
-use Rattle.project_state.proofs.KeptBounds.{all_append}
+use Rattle.record_body.specs.Sound.{AllGiven, AllClipsGiven}
+use Rattle.record_body.proofs.KeptBounds.{all_append}
 use Rattle.editor_core.specs.Edits.{AreAmong}
 use Rattle.editor_core.specs.Made.{PiecesReadable}
 use Rattle.editor_core.specs.Studios.{IsGiven}

@@ -12,12 +12,13 @@ use Rattle.disk_model.specs.Frames.{Changed}
 use Rattle.disk_model.specs.declared.store.Store.{Ghosts}
 use Rattle.disk_model.proofs.Frames.{changed_wider}
 use Rattle.project_journal.specs.Gate.{EachNow, EachSince}
-use Rattle.project_state.specs.Kept.{Keeps}
+use Rattle.record_body.specs.Kept.{Keeps}
 use Rattle.editor_core.specs.Core.{Core}
 use Rattle.editor_core.specs.Records.{Records}
 use Rattle.editor_core.specs.Spent.{NamesGiven, Needed}
 use Rattle.editor_core.specs.Left.{CountsIds, Left, MayRemove, Stops, Untouched}
 use Rattle.editor_core.specs.Packing.{packed_by}
+use Rattle.editor_core.specs.Purges.{Purges}
 use Rattle.editor_core.specs.Studios.{IsHeld, IsStudio, shown, studio_of}
 use Rattle.editor_core.specs.Took.{KeepsOneOf, Took, asks, number_behind, with_sound}
 use Rattle.editor_core.proofs.Others.{Leaving, others_more}
@@ -40,6 +41,7 @@ pub record TookWhere {D : Type 0} (Has : Type 0) (disk : Ghosts D) (old : Core D
   pub len : ℕ
   pub needs : Has → (blocks : ℕ) × Needs (outside (studio_of disk old) sound) (studio_of disk old) call blocks len
   pub records : Records old told new len
+  pub purges : Purges old.history call told
   pub changed : Changed disk (Leaving old.next_block new.next_block)
       (asks (with_sound call sound told) (disk.reads old.store old.file) old.block_size
       (new.next_block - old.next_block) len (packed_by old call))
@@ -70,6 +72,7 @@ took_so disk old call sound told new took none plain ids given needed untouched 
       (record { files = omega arith; bytes = omega arith; calls = omega arith }) took.changed;
   frees = frees_none disk old call told new none plain;
   ids = ids;
+  purges = took.purges;
   untouched = untouched;
   stops = stops;
   left = left;

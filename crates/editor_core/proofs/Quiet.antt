@@ -18,9 +18,10 @@ use Rattle.editor_core.specs.Core.{Core}
 use Rattle.editor_core.specs.Left.{MayRemove}
 use Rattle.editor_core.specs.Studios.{IsHeld, IsStudio, studio_of}
 use Rattle.editor_core.specs.Took.{Took, quietly, silent}
-use Rattle.model_laws.proofs.Answered.{answered_same}
+use Rattle.model_laws.proofs.Answered.{answered_same, moves_of, no_generation}
 use Rattle.editor_core.proofs.Images.{keeps_now}
 use Rattle.editor_core.proofs.Others.{others_none}
+use Rattle.editor_core.proofs.PurgeNumbers.{quiet_purges}
 use Rattle.editor_core.proofs.Removing.{PacksNone, RemovesNone, frees_none, frees_refused, ids_same, no_record}
 use Rattle.editor_core.proofs.Removing.{none_given}
 use Rattle.editor_core.proofs.Spaces.{fits}
@@ -105,7 +106,10 @@ module _ (t : model.Studio) (c : Call) where
         λ i. record t { state = after out t.state c; next_block = block i; journal_end = end i }
 
     -- it needs no generation of the journal either
-    module _ (still : generations_of c ≡ 0) where
+    module _ (stays : moves_of c ≡ 0) where
+      still : generations_of c ≡ 0
+      still = no_generation c stays
+
       later_fits : no_room t.generation (generations_of c) ≡ None
       later_fits = ap (no_room t.generation) still ∙ fits t.generation 0 (omega (arith, room.generation))
 
@@ -133,7 +137,7 @@ module _ (t : model.Studio) (c : Call) where
         passed = passed;
         answers = answers;
         is = same ∙ sym quiet_follows
-            ∙ sym (answered_same out t.state c r answers still (followed out t c 0 0));
+            ∙ sym (answered_same out t.state c r answers stays (followed out t c 0 0));
         heard = sym (is.quiet t);
       }
 
@@ -194,6 +198,7 @@ module _ {D : Type 0} (disk : Ghosts D) (s : Core D) (c : Call) (quiet : IsQuiet
     changed = changed_none s.store (others_none s.next_block s.next_block (MayRemove c s.counts)) fewer;
     frees = frees_none disk s c (Ok r) s none plain;
     ids = ids_same s s refl refl;
+    purges = quiet_purges s.history c (Ok r) quiet.no_commit;
     untouched = tt;
     stops = inl (refl, refl);
     left = tt;

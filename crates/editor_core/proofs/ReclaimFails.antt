@@ -78,7 +78,7 @@ module _ {D T E : Type 0} (disk : Ghosts D) (old : Core D) (limit : Option ℕ) 
         took = record {
           studio = halted_studio disk old is _ mid.store was.changed mid.cache counts was.ids gone halt;
           held = halted_held disk old is _ mid.store was.changed mid.cache counts was.ids gone halt;
-          step = λ on. inr (record {
+          step = λ on. inr (inr (record {
             breaks = record {
               going = going;
               blocks = 0;
@@ -97,7 +97,7 @@ module _ {D T E : Type 0} (disk : Ghosts D) (old : Core D) (limit : Option ℕ) 
                 reads = was.read_faults;
               },
             );
-          });
+          }));
           any_moment = λ _ on c since. inl (keeps on c since);
           refused = λ _ on unstopped c since. keeps on c since;
           now = λ unstopped. absurd (some_none new.stopped halt refl unstopped);
@@ -126,6 +126,7 @@ module _ {D T E : Type 0} (disk : Ghosts D) (old : Core D) (limit : Option ℕ) 
             why = inl refl;
           };
           ids = ids_freed old new counts was.ids gone refl refl;
+          purges = tt;
           untouched = off_untouched disk old.store mid.store refusal.DiskFault refl;
           stops = inr (refl, failed, refl);
           left = record { same = refl; so = inr failed };

@@ -115,6 +115,7 @@ module _ {D : Type 0} (disk : Ghosts D) (old : Core D) (limit : Option ℕ) wher
               why = tt;
             };
             ids = ids_freed old new counts was.ids gone refl refl;
+            purges = tt;
             untouched = tt;
             stops = inl (refl, was.faults.kept);
             left = tt;

@@ -3,7 +3,7 @@ use Rattle.std.proofs.Common.{◌≡◌, None}
 use Rattle.disk_model.specs.Frames.{Kept}
 use Rattle.disk_model.specs.declared.store.Store.{Ghosts}
 use Rattle.project_journal.specs.Gate.{EachSince}
-use Rattle.project_state.specs.Kept.{Keeps}
+use Rattle.record_body.specs.Kept.{Keeps}
 use Rattle.editor_core.specs.Core.{Core}
 use Rattle.editor_core.specs.Studios.{IsHeld, IsStudio, shown, studio_of}
 use Rattle.editor_core.proofs.Looking.{keeps_still, looked_held, looked_studio}

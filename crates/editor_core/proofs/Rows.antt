@@ -4,10 +4,10 @@ use Rattle.std.proofs.Common.{length, replicate, add-mul, arith}
 use Rattle.pcm_base.specs.declared.limits.TheConstants.{LONGEST_BODY}
 use Rattle.project_journal.specs.Journal.{AreWaiting, opened, rows_length}
 use Rattle.project_journal.proofs.Together.{waiting_more}
-use Rattle.project_state.specs.declared.body.Body.{Body}
+use Rattle.record_body.specs.declared.body.Body.{Body}
 use Rattle.project_state.specs.declared.track.Track.{Track}
-use Rattle.project_state.specs.Batches.{with_point}
-use Rattle.project_state.specs.Spelling.{spelling}
+use Rattle.record_body.specs.Batches.{with_point}
+use Rattle.record_body.specs.Spelling.{spelling}
 use Rattle.editor_core.specs.Bodies.{bodies_by, bytes_by, whole_by}
 use Rattle.editor_core.proofs.BodyBytes.{rows_step}
 

@@ -13,8 +13,9 @@ use Rattle.edit_ops.specs.Plans.{AllNewFrom, AreNew, AreWritten}
 use Rattle.piece_store.specs.declared.given.Given.TheVariants.{Nothing}
 use Rattle.piece_store.specs.Bringing.{brought, brought_by}
 use Rattle.project_state.specs.declared.track.Track.{Track}
-use Rattle.project_state.specs.Kept.{current_tracks, meant, point_blocks}
-use Rattle.project_state.specs.KeptSound.{IsSoundPoint}
+use Rattle.record_body.specs.Kept.{current_tracks}
+use Rattle.project_state.specs.Meaning.{meant, point_blocks}
+use Rattle.record_body.specs.KeptSound.{IsSoundPoint}
 use Rattle.project_state.specs.Tracks.{track_of}
 use Rattle.layout_uses.specs.Drawing.{HasNumbers}
 use Rattle.editor_core.specs.declared.carrying.Planned.{Planned}

@@ -10,7 +10,7 @@ use Rattle.pcm_base.specs.Pieces.{Sources}
 use Rattle.edit_ops.specs.declared.types.Plan.{Plan}
 use Rattle.edit_ops.specs.Plans.{AreWritten}
 use Rattle.project_state.specs.declared.track.Track.{Track}
-use Rattle.project_state.specs.Kept.{meant, meant_track}
+use Rattle.project_state.specs.Meaning.{meant, meant_track}
 use Rattle.project_state.specs.Tracks.{AreAbove, track_of}
 use Rattle.editor_core.specs.RunEdits.{laid_from, made_by}
 use Rattle.editor_core.specs.TrackEdits.{with_layout}

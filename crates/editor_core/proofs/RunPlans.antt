@@ -12,10 +12,10 @@ use Rattle.edit_ops.specs.declared.types.NewBlock.{NewBlock}
 use Rattle.edit_ops.specs.declared.types.Plan.{Plan}
 use Rattle.edit_ops.specs.Plans.{AllNewFrom, AreNew, AreOldOrNew, AreWritten, IsPlan, Means, Start, ref_of}
 use Rattle.project_state.specs.declared.track.Track.{Track}
-use Rattle.project_state.specs.Kept.{point_blocks}
-use Rattle.project_state.specs.Sound.{AllClipsGiven, AllSoundTracks, IsSoundTrack}
+use Rattle.project_state.specs.Meaning.{point_blocks}
+use Rattle.record_body.specs.Sound.{AllClipsGiven, AllSoundTracks, IsSoundTrack}
 use Rattle.project_state.specs.Tracks.{AreAbove}
-use Rattle.project_state.proofs.KeptBounds.{all_append}
+use Rattle.record_body.proofs.KeptBounds.{all_append}
 use Rattle.editor_core.specs.Edits.{AreAmong}
 use Rattle.editor_core.specs.RunEdits.{AreLayouts, laid_by, laid_from, made_by}
 use Rattle.editor_core.specs.Studios.{IsGiven}

@@ -23,10 +23,10 @@ use Rattle.block_store.specs.Checks.{Checks}
 use Rattle.block_store.specs.Reads.{Counted}
 use Rattle.block_store.specs.Reasons.{reason_of}
 use Rattle.project_state.specs.declared.track.Track.{Track}
-use Rattle.project_state.specs.Kept.{point_blocks, history_blocks}
-use Rattle.project_state.specs.KeptSound.{IsSoundPoint, IsSoundTagged}
-use Rattle.project_state.specs.Sound.{AllSoundTracks}
-use Rattle.project_state.proofs.KeptBounds.{all_append}
+use Rattle.project_state.specs.Meaning.{point_blocks, history_blocks}
+use Rattle.record_body.specs.KeptSound.{IsSoundPoint, IsSoundTagged}
+use Rattle.record_body.specs.Sound.{AllSoundTracks}
+use Rattle.record_body.proofs.KeptBounds.{all_append}
 use Rattle.editor_core.specs.Core.{Core}
 use Rattle.editor_core.specs.Scans.{AreIdsOf, BlockScanned, EndsBefore, MayStand, Scans, ScansBlock, StandsAt}
 use Rattle.editor_core.specs.Studios.{IsHeld, IsStudio, clip_blocks, ids_of, pin_blocks}
@@ -83,7 +83,7 @@ layout_short m [] half = tt
 layout_short m (c ∷ cs) half = all_append (λ (b : BlockRef). b.len ≤ m) c.blocks (layout_blocks cs)
     (clip_short m c.blocks half.0) (layout_short m cs half.1)
 
-tracks_short : (m next track : ℕ) (ts : List Track) → AllSoundTracks m next track ts
+pub tracks_short : (m next track : ℕ) (ts : List Track) → AllSoundTracks m next track ts
     → AllByRecursion (λ (b : BlockRef). b.len ≤ m) (point_blocks ts)
 tracks_short m next track [] s = tt
 tracks_short m next track (t ∷ ts) s =

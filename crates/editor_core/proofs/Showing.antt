@@ -34,7 +34,7 @@ use Rattle.envelope_view.proofs.AnswerLaws.{reason_damaged}
 use Rattle.project_state.specs.declared.track.Track.{Track}
 use Rattle.project_state.specs.Tracks.{track_of}
 use Rattle.block_cache.specs.Caches.{Entries}
-use Rattle.project_state.specs.Kept.{current_tracks}
+use Rattle.record_body.specs.Kept.{current_tracks}
 use Rattle.editor_core.specs.Core.{Core}
 use Rattle.editor_core.specs.Points.{lacks}
 use Rattle.editor_core.specs.Reads.{HasLayout}

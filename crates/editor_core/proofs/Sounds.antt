@@ -13,8 +13,8 @@ use Rattle.disk_model.specs.Disk.{Files, SameElsewhere}
 use Rattle.sample_block.specs.Blocks.{blocks, block_in}
 use Rattle.sample_block.specs.Sources.{sources_of, IsWhole, AllWhole}
 use Rattle.project_state.specs.declared.track.Track.{Track}
-use Rattle.project_state.specs.Kept.{meant, meant_history, point_blocks, history_blocks}
-use Rattle.project_state.proofs.KeptBounds.{all_append}
+use Rattle.project_state.specs.Meaning.{meant, meant_history, point_blocks, history_blocks}
+use Rattle.record_body.proofs.KeptBounds.{all_append}
 use Rattle.project_state.proofs.Meanings.{IsSame, same_meaning}
 use Rattle.editor_core.specs.Studios.{IsGiven, SameBlocks}
 use Rattle.editor_core.proofs.Lists.{all_so, all_both}

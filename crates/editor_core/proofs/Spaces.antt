@@ -14,7 +14,8 @@ use Rattle.pcm_base.specs.Outside.{Outside}
 use Rattle.pcm_base.specs.Refusals.{◌otherwise◌, refused_if, call_tests}
 use Rattle.pcm_base.specs.Run.{outside, refusal_of, stop_of, stop_test}
 use Rattle.pcm_base.specs.Shape.{Shape, NewTrack, DropTrack, SetTrack, PutIn, EditRange, CutRun, CopyRun, PasteRun}
-use Rattle.pcm_base.specs.Shape.{MoveTo, Purge, Look, Reclaim, Compact, Import, Export, shape_of, is_commit}
+use Rattle.pcm_base.specs.Shape.{MoveTo, Purge, PurgeTo, Look, Reclaim, Compact, Import, Export, Bounce, shape_of}
+use Rattle.pcm_base.specs.Shape.{is_commit}
 use Rattle.pcm_base.specs.declared.limits.TheConstants.{LONGEST_BODY}
 use Rattle.pcm_base.specs.Studio as model
 use Rattle.editor_core.specs.Adding.{Exceeds}
@@ -72,10 +73,12 @@ line_packs_none (CopyRun id n from to) is = refl
 line_packs_none (PasteRun id at placing) is = refl
 line_packs_none (MoveTo move) is = refl
 line_packs_none (Purge n) is = refl
+line_packs_none (PurgeTo bytes) is = refl
 line_packs_none (Look view) is = refl
 line_packs_none (Reclaim limit) is = refl
 line_packs_none (Import name) is = refl
 line_packs_none (Export name) is = refl
+line_packs_none (Bounce name) is = refl
 
 pub commit_packs_none : {more : ℕ} (c : Call) → commits_of c ≡ suc more → generations_of c ≡ 0
 commit_packs_none {more = more} (call.Line c) many = line_packs_none (shape_of c) (by (is_commit (shape_of c)) many)
@@ -87,6 +90,7 @@ commit_packs_none (call.Piece track tag samples) many = refl
 commit_packs_none call.Pin many = refl
 commit_packs_none (call.PinLen pin) many = refl
 commit_packs_none (call.ReadPin pin from count) many = refl
+commit_packs_none (call.LoadPin pin from count) many = refl
 commit_packs_none (call.Unpin pin) many = refl
 
 -- the places of the journal that commits need

@@ -21,6 +21,7 @@ use Rattle.project_journal.specs.Rooms.{append_room}
 use Rattle.editor_core.specs.Core.{Core}
 use Rattle.editor_core.specs.Exchanges.{may_begin}
 use Rattle.editor_core.specs.Left.{MayRemove}
+use Rattle.editor_core.specs.Purges.{Purges}
 use Rattle.editor_core.specs.Removals.{Frees}
 use Rattle.editor_core.specs.Spent.{Needed}
 use Rattle.editor_core.specs.Studios.{IsGiven, IsHeld, IsStudio, SameBlocks, studio_of}
@@ -29,6 +30,7 @@ use Rattle.editor_core.proofs.Images.{keeps_now}
 use Rattle.editor_core.proofs.Leaving.{IsPlain, left_plain}
 use Rattle.editor_core.proofs.Others.{others_none}
 use Rattle.editor_core.proofs.PlainTests.{plain_refusal}
+use Rattle.editor_core.proofs.PurgeNumbers.{other_purges, tested_purges}
 use Rattle.editor_core.proofs.Spaces.{commit_places}
 use Rattle.editor_core.proofs.Removing.{RemovesNone, frees_refused, ids_same}
 
@@ -65,10 +67,11 @@ module _ {D : Type 0} (disk : Ghosts D) (s : Core D) (call : Call) (sound : Soun
     (is : IsStudio disk s) (fewer : Fewer disk s.store) (frees : Frees disk s call (Err why) [] s)
     (quiet : sound.after ≡ sound.before) (len : ℕ) (brief : may_begin why ≡ true → len ≤ LONGEST_BODY) where
   -- a refusal that asked nothing of the disk
-  pub stays : IsPlain why → MayNeed disk s call sound len → Needed disk s call sound why
+  pub stays : Purges s.history call (Err why) → IsPlain why → MayNeed disk s call sound len
+      → Needed disk s call sound why
       → (IsHeld disk s → Answers (studio_of disk s) call sound (Err why) (studio_of disk s))
       → Took disk s (with_sound call sound (Err why)) s
-  stays plain needs needed step = record {
+  stays purges plain needs needed step = record {
     studio = is;
     held = λ held. held;
     step = step;
@@ -85,6 +88,7 @@ module _ {D : Type 0} (disk : Ghosts D) (s : Core D) (call : Call) (sound : Soun
     changed = changed_none s.store (others_none s.next_block s.next_block (MayRemove call s.counts)) fewer;
     frees = frees;
     ids = ids_same s s refl refl;
+    purges = purges;
     untouched = λ device. kept_none s.store fewer;
     stops = inl (refl, refl);
     left = left_plain disk s s.store why plain;
@@ -96,7 +100,9 @@ module _ {D : Type 0} (disk : Ghosts D) (s : Core D) (call : Call) (sound : Soun
       → refusal_of (outside (studio_of disk s) sound) (studio_of disk s) call blocks len ≡ Some why
       → Needed disk s call sound why → Took disk s (with_sound call sound (Err why)) s
   refuses blocks needs first needed =
-      stays (plain_refusal (outside (studio_of disk s) sound) (studio_of disk s) call blocks len why first)
+      stays
+      (tested_purges s.history (outside (studio_of disk s) sound) (studio_of disk s) call blocks len why first)
+      (plain_refusal (outside (studio_of disk s) sound) (studio_of disk s) call blocks len why first)
       (λ held. (blocks, needs held)) needed
       (λ held. inl (record {
         blocks = blocks;
@@ -113,5 +119,5 @@ pub wants : {D : Type 0} (disk : Ghosts D) (s : Core D) (call : Call) (sound : S
     → Took disk s (with_sound call sound (Err refusal.NoMemory)) s
 wants disk s call sound is fewer none quiet len needs =
     stays disk s call sound refusal.NoMemory is fewer (frees_refused disk s call refusal.NoMemory s none) quiet len
-    (λ off. absurd (true≢false (sym off))) tt needs tt
-    (λ held. inr (record { same = refl; quiet = quiet }))
+    (λ off. absurd (true≢false (sym off))) (other_purges s.history call refusal.NoMemory tt) tt needs tt
+    (λ held. inr (inr (record { same = refl; quiet = quiet })))

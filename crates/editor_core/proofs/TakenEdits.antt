@@ -14,7 +14,7 @@ use Rattle.layout_uses.specs.Layouts.{history_tracks}
 use Rattle.layout_uses.specs.Tallies.{Becomes, MayBecome}
 use Rattle.clip_track.specs.declared.items.Item.{Item}
 use Rattle.project_state.specs.declared.track.Track.{Track}
-use Rattle.project_state.specs.Kept.{point_blocks}
+use Rattle.project_state.specs.Meaning.{point_blocks}
 use Rattle.editor_core.specs.Applied.{Lasts}
 use Rattle.editor_core.specs.Core.{Core}
 use Rattle.editor_core.specs.Edits.{Committed, IsEdit, IsPlanned, TaggedEdit, clip_behind, clip_then, history_behind}

@@ -10,8 +10,8 @@ use Rattle.block_ledger.specs.Entries.{count_of}
 use Rattle.clip_track.specs.declared.items.Item.{Item}
 use Rattle.edit_ops.specs.declared.types.NewBlock.{NewBlock}
 use Rattle.project_state.specs.declared.track.Track.{Track}
-use Rattle.project_state.specs.Kept.{history_blocks, point_blocks}
-use Rattle.project_state.specs.KeptSound.{IsSoundTagged}
+use Rattle.project_state.specs.Meaning.{history_blocks, point_blocks}
+use Rattle.record_body.specs.KeptSound.{IsSoundTagged}
 use Rattle.pcm_base.specs.declared.block.BlockRef.{BlockRef}
 use Rattle.layout_uses.specs.declared.tally.Tally.{Tally}
 use Rattle.layout_uses.specs.Layouts.{history_tracks, numbers_of, track_blocks, used_blocks}
@@ -62,7 +62,7 @@ module _ {D : Type 0} (disk : Ghosts D) (s : Core D) (is : IsStudio disk s) (goi
   abbrev h : History (List Track)
   h = history_behind s e
 
-  history_few : length (history_blocks h) ≤ 2 ^ 50
+  history_few : length (history_blocks h) ≤ 2 ^ 54
   history_few =
       let Q : List Track × ℕ → Type 0 = λ p. length (point_blocks p.0) ≤ 2 ^ 38 in
       let old = all_so (IsSoundTagged s.block_size s.next_block s.next_track s.commit_number) Q

@@ -25,9 +25,10 @@ use Rattle.edit_ops.specs.declared.types.NewBlock.{NewBlock}
 use Rattle.piece_store.specs.declared.given.Given.{Given}
 use Rattle.piece_store.specs.Bringing.{brought, brought_by, brought_count}
 use Rattle.project_state.specs.declared.track.Track.{Track}
-use Rattle.project_state.specs.Kept.{current_tracks, meant}
-use Rattle.project_state.specs.KeptSound.{IsSoundPoint}
-use Rattle.project_state.specs.Sound.{AllSoundTracks}
+use Rattle.record_body.specs.Kept.{current_tracks}
+use Rattle.project_state.specs.Meaning.{meant}
+use Rattle.record_body.specs.KeptSound.{IsSoundPoint}
+use Rattle.record_body.specs.Sound.{AllSoundTracks}
 use Rattle.project_state.specs.Tracks.{track_of}
 use Rattle.project_state.proofs.MeantHistories.{meant_recorded}
 use Rattle.editor_core.specs.declared.carrying.Planned.{Planned}

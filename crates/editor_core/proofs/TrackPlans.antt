@@ -18,9 +18,10 @@ use Rattle.edit_ops.specs.Plans.{AllNewFrom, AreNew, AreOldOrNew, AreWritten}
 use Rattle.piece_store.specs.declared.given.Given.{Given}
 use Rattle.piece_store.specs.Bringing.{brought, brought_by, brought_count}
 use Rattle.project_state.specs.declared.track.Track.{Track}
-use Rattle.project_state.specs.Kept.{current_tracks, history_blocks, meant, meant_track, point_blocks}
-use Rattle.project_state.specs.KeptSound.{IsSoundPoint}
-use Rattle.project_state.specs.Sound.{IsSoundTrack}
+use Rattle.record_body.specs.Kept.{current_tracks}
+use Rattle.project_state.specs.Meaning.{history_blocks, meant, meant_track, point_blocks}
+use Rattle.record_body.specs.KeptSound.{IsSoundPoint}
+use Rattle.record_body.specs.Sound.{IsSoundTrack}
 use Rattle.project_state.specs.Tracks.{track_of}
 use Rattle.layout_uses.specs.Drawing.{HasNumbers}
 use Rattle.layout_uses.proofs.Putting.{put_numbers}

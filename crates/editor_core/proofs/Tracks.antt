@@ -16,11 +16,12 @@ use Rattle.pcm_base.specs.State.{first_point}
 use Rattle.pcm_base.specs.Refusals.{refused_if, is_empty}
 use Rattle.clip_track.specs.Clips.{layout_blocks}
 use Rattle.project_state.specs.declared.track.Track.{Track}
-use Rattle.project_state.specs.Sound.{IsSoundTrack, AllSoundTracks}
+use Rattle.record_body.specs.Sound.{IsSoundTrack, AllSoundTracks}
 use Rattle.project_state.specs.Tracks.{AreAbove, AllBelow, track_of}
-use Rattle.project_state.specs.Kept.{first_tracks, current_tracks, meant, meant_track, point_blocks}
+use Rattle.record_body.specs.Kept.{first_tracks, current_tracks}
+use Rattle.project_state.specs.Meaning.{meant, meant_track, point_blocks}
 use Rattle.editor_core.specs.Points.{put_one, put_in, lacks}
-use Rattle.project_state.proofs.KeptBounds.{all_append}
+use Rattle.record_body.proofs.KeptBounds.{all_append}
 use Rattle.editor_core.proofs.Lists.{all_left, all_right}
 
 -- ---- the current project

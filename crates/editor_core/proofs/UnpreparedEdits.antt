@@ -13,7 +13,7 @@ use Rattle.pcm_base.specs.Run.{outside}
 use Rattle.pcm_base.specs.Studio as model
 use Rattle.disk_model.specs.declared.store.Store.{Ghosts}
 use Rattle.disk_model.proofs.Frames.{Fewer}
-use Rattle.project_state.specs.declared.body.Body.TheVariants.{Edit}
+use Rattle.record_body.specs.declared.body.Body.TheVariants.{Edit}
 use Rattle.project_state.specs.declared.track.Track.{Track}
 use Rattle.editor_core.specs.Adding.{Exceeds}
 use Rattle.editor_core.specs.Bodies.{IsLength, Writing, all_len, whole_len}

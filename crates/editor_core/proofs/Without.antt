@@ -9,11 +9,11 @@ use Rattle.pcm_base.specs.Pieces.{Sources}
 use Rattle.pcm_base.specs.Cells.{Project, dropped}
 use Rattle.clip_track.specs.Clips.{layout_blocks}
 use Rattle.project_state.specs.declared.track.Track.{Track}
-use Rattle.project_state.specs.Sound.{IsSoundTrack, AllSoundTracks}
+use Rattle.record_body.specs.Sound.{IsSoundTrack, AllSoundTracks}
 use Rattle.project_state.specs.Tracks.{AreAbove, AllBelow}
-use Rattle.project_state.specs.Kept.{meant, meant_track, point_blocks}
+use Rattle.project_state.specs.Meaning.{meant, meant_track, point_blocks}
 use Rattle.editor_core.specs.Plain.{other_one, without, empty_track}
-use Rattle.project_state.proofs.KeptBounds.{all_append}
+use Rattle.record_body.proofs.KeptBounds.{all_append}
 use Rattle.editor_core.proofs.Lists.{all_left, all_right}
 
 -- ---- one track, or none

@@ -20,6 +20,7 @@ use Rattle.editor_core.specs.Exports.{moved_from}
 use Rattle.editor_core.specs.Imports.{IsCutShort, left_as}
 use Rattle.editor_core.specs.Left.{CountsIds, Left, LeavesOthers, MayRemove, Stops, Untouched}
 use Rattle.editor_core.specs.Packing.{packed_by}
+use Rattle.editor_core.specs.Purges.{Purges}
 use Rattle.editor_core.specs.Records.{Records}
 use Rattle.editor_core.specs.Removals.{Frees}
 use Rattle.editor_core.specs.Spent.{NamesGiven}
@@ -37,7 +38,8 @@ IsTold call tells = IsSome (name_in call) → IsTrue tells
 
 -- What holds of a call whatever disk and vault tell, and whatever becomes of a sound that it names: the studio is one
 -- still, its commit number is that after the answer, one that had stopped does nothing but give a pin back, no other
--- file changes, no file goes but those that the call frees, and a refusal leaves what was there.
+-- file changes, no file goes but those that the call frees, a purge to a size answers as many points as have to go, and
+-- a refusal leaves what was there.
 pub record Lasts {D : Type 0} (disk : Ghosts D) (old : Core D) (exchange : Exchange) (new : Core D) : Type 0 where
   pub studio : IsStudio disk new
   pub number : new.commit_number ≡ number_behind exchange.told exchange.call old.commit_number
@@ -51,6 +53,7 @@ pub record Lasts {D : Type 0} (disk : Ghosts D) (old : Core D) (exchange : Excha
       old.store new.store
   pub frees : Frees disk old exchange.call exchange.told exchange.removed new
   pub ids : CountsIds old exchange.removed new
+  pub purges : Purges old.history exchange.call exchange.told
   pub untouched : Untouched disk old exchange.call exchange.told new
   pub stops : Stops disk old exchange.told new
   pub left : IfErr exchange.told (Left disk old new)

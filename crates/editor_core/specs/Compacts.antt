@@ -6,7 +6,7 @@ use Rattle.pcm_base.specs.declared.command.Command.TheVariants.{Compact}
 use Rattle.pcm_base.specs.declared.refusal.Refusal.{Refusal}
 use Rattle.disk_model.specs.declared.store.Store.{Ghosts}
 use Rattle.project_journal.specs.Gate.{EachSince}
-use Rattle.project_state.specs.Kept.{Keeps}
+use Rattle.record_body.specs.Kept.{Keeps}
 use Rattle.editor_core.specs.Core.{Core}
 use Rattle.editor_core.specs.Studios.{IsHeld, shown, studio_of}
 use Rattle.editor_core.specs.Took.{Took, quietly, told_by}

@@ -10,7 +10,7 @@ use Rattle.clip_track.specs.declared.items.Item.{Item}
 use Rattle.clip_track.specs.Items.{strip_blocks}
 use Rattle.edit_ops.specs.Runs.{copy_tests, AreCopies}
 use Rattle.project_state.specs.declared.track.Track.{Track}
-use Rattle.project_state.specs.Kept.{current_tracks}
+use Rattle.record_body.specs.Kept.{current_tracks}
 use Rattle.editor_core.specs.declared.copies.RunRange.{RunRange}
 use Rattle.editor_core.specs.Core.{Core}
 

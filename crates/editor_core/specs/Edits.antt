@@ -26,8 +26,9 @@ use Rattle.edit_ops.specs.Plans.{AreNew, AreWritten, AllNewFrom, ref_of}
 use Rattle.piece_store.specs.Brought.{Brought}
 use Rattle.project_journal.specs.Journal.{rows_length}
 use Rattle.project_state.specs.declared.track.Track.{Track}
-use Rattle.project_state.specs.Kept.{current_tracks, meant_history, point_blocks}
-use Rattle.project_state.specs.KeptSound.{IsSoundPoint}
+use Rattle.record_body.specs.Kept.{current_tracks}
+use Rattle.project_state.specs.Meaning.{meant_history, point_blocks}
+use Rattle.record_body.specs.KeptSound.{IsSoundPoint}
 use Rattle.layout_uses.specs.Drawing.{HasNumbers}
 use Rattle.editor_core.specs.declared.carrying.Planned.{Planned}
 use Rattle.editor_core.specs.Adding.{Adds, ExceedsBy}

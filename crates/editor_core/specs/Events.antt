@@ -18,7 +18,7 @@ use Rattle.disk_model.specs.Frames.{Changed}
 use Rattle.disk_model.specs.Room.{Room, together}
 use Rattle.disk_model.specs.declared.store.Store.{Ghosts}
 use Rattle.project_journal.specs.Gate.{EachNow, EachSince}
-use Rattle.project_state.specs.Kept.{Keeps}
+use Rattle.record_body.specs.Kept.{Keeps}
 use Rattle.editor_core.specs.Applied.{Applies, IsTold, Span, exchange_over, spanned}
 use Rattle.editor_core.specs.Core.{Core}
 use Rattle.editor_core.specs.Left.{LeavesForeign}
@@ -37,6 +37,7 @@ IsOther (call.Piece track tag samples) = Unit {0}
 IsOther call.Pin = Unit {0}
 IsOther (call.PinLen pin) = Unit {0}
 IsOther (call.ReadPin pin from count) = Unit {0}
+IsOther (call.LoadPin pin from count) = Unit {0}
 IsOther (call.Unpin pin) = Unit {0}
 
 -- an entry for each event and its answer

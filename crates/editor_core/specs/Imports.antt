@@ -25,8 +25,9 @@ use Rattle.edit_ops.specs.declared.types.NewBlock.{NewBlock}
 use Rattle.edit_ops.specs.declared.types.Plan.{Plan}
 use Rattle.edit_ops.specs.Plans.{AllNewFrom, AreNew, AreWritten, IsPlan, ref_of}
 use Rattle.project_state.specs.declared.track.Track.{Track}
-use Rattle.project_state.specs.Kept.{current_tracks, meant, point_blocks}
-use Rattle.project_state.specs.Sound.{AllSoundTracks}
+use Rattle.record_body.specs.Kept.{current_tracks}
+use Rattle.project_state.specs.Meaning.{meant, point_blocks}
+use Rattle.record_body.specs.Sound.{AllSoundTracks}
 use Rattle.project_state.specs.Tracks.{AreAbove}
 use Rattle.layout_uses.specs.Drawing.{HasNumbers}
 use Rattle.editor_core.specs.Core.{Core}

@@ -17,6 +17,7 @@ pub mod Occurrences
 pub mod Exchanges
 pub mod Packing
 pub mod Removals
+pub mod Purges
 pub mod Passes
 pub mod Records
 pub mod Spent

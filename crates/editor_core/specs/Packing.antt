@@ -12,7 +12,7 @@ use Rattle.project_journal.specs.Choice.{other_file}
 use Rattle.project_journal.specs.Journal.{Log, points_size}
 use Rattle.project_journal.specs.Packing.{header_row}
 use Rattle.project_state.specs.declared.track.Track.{Track}
-use Rattle.project_state.specs.Kept.{point_bytes}
+use Rattle.record_body.specs.Kept.{point_bytes}
 use Rattle.editor_core.specs.Core.{Core}
 
 -- the points of a history as they stand in a header
@@ -73,7 +73,7 @@ abbrev pub packed_core : {D : Type 0} → Core D → D → Core D
 packed_core s store = record s {
   store = store;
   file = other_file s.file;
-  version = 2;
+  version = 3;
   generation = s.generation + 1;
   journal_end = packed_size s - 1;
 }

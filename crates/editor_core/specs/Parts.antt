@@ -7,8 +7,8 @@ use Rattle.block_cache.specs.Caches.{no_entries}
 use Rattle.pcm_base.specs.declared.limits.TheConstants.{COUNTER_LIMIT}
 use Rattle.block_ledger.specs.Entries.{count_of}
 use Rattle.project_journal.specs.Header.{IsFormat}
-use Rattle.project_state.specs.Kept.{history_blocks}
-use Rattle.project_state.specs.KeptSound.{IsSoundTagged}
+use Rattle.project_state.specs.Meaning.{history_blocks}
+use Rattle.record_body.specs.KeptSound.{IsSoundTagged}
 use Rattle.layout_uses.specs.Layouts.{AreDrawn, AreNumbered, history_tracks}
 use Rattle.layout_uses.specs.Tallies.{IsTally}
 use Rattle.editor_core.specs.Core.{Core}

@@ -11,7 +11,7 @@ use Rattle.edit_ops.specs.declared.types.Plan.{Plan}
 use Rattle.edit_ops.specs.Runs.{ArePastes, clipboard_tests}
 use Rattle.project_state.specs.declared.track.Track.{Track}
 use Rattle.project_state.specs.Tracks.{track_of}
-use Rattle.project_state.specs.Kept.{current_tracks}
+use Rattle.record_body.specs.Kept.{current_tracks}
 use Rattle.editor_core.specs.declared.carrying.Planned.{Planned}
 use Rattle.pcm_base.specs.declared.edits.Placing.{Placing}
 use Rattle.editor_core.specs.Copies.{run_of}

@@ -16,7 +16,8 @@ use Rattle.sample_block.specs.Faults.{damage_of}
 use Rattle.sample_block.specs.Sources.{IsWhole}
 use Rattle.block_ledger.specs.Counts.{AreAll}
 use Rattle.project_journal.specs.Gate.{EachSince}
-use Rattle.project_state.specs.Kept.{Keeps, history_blocks}
+use Rattle.record_body.specs.Kept.{Keeps}
+use Rattle.project_state.specs.Meaning.{history_blocks}
 use Rattle.envelope_view.specs.Answers.{IsOfReads, IsUndamaged, ReasonCounted}
 use Rattle.editor_core.specs.Core.{Core}
 use Rattle.editor_core.specs.Studios.{IsHeld, IsStudio, ids_of, shown, studio_of}

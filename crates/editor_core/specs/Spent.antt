@@ -1,21 +1,24 @@
 -- What a call spends of the counters, and what it would have spent where one has no room for it.
 use Rattle.std.specs.Prelude.{◌≡◌, ◌⊎◌, ℕ, suc, ◌+◌, ◌≤◌, ◌<◌, Some, List, length}
+use Rattle.pcm_base.specs.declared.answer.Reply.{Reply}
 use Rattle.pcm_base.specs.declared.command.Call.{Call}
 use Rattle.pcm_base.specs.declared.entry.SoundMove.{SoundMove}
 use Rattle.pcm_base.specs.declared.refusal.Refusal.{Refusal}
 use Rattle.pcm_base.specs.declared.refusal.Refusal.TheVariants as refusal
 use Rattle.pcm_base.specs.Counters.{commits_of, generations_of, no_room, pins_of, tracks_of}
 use Rattle.pcm_base.specs.History.{History}
-use Rattle.pcm_base.specs.Run.{outside}
+use Rattle.pcm_base.specs.Run.{outside, told_history}
 use Rattle.pcm_base.specs.declared.limits.TheConstants.{LONGEST_BODY}
-use Rattle.pcm_base.specs.Step.{after}
+use Rattle.pcm_base.specs.Step.{MayAnswer, after}
 use Rattle.disk_model.specs.declared.store.Store.{Ghosts}
 use Rattle.sample_block.specs.Sources.{sources_of}
-use Rattle.project_state.specs.declared.body.Body.TheVariants.{Edit}
+use Rattle.record_body.specs.declared.body.Body.TheVariants.{Edit}
 use Rattle.project_state.specs.declared.track.Track.{Track}
-use Rattle.project_state.specs.Batches.{after_bodies}
-use Rattle.project_state.specs.Kept.{Kept, meant_history}
-use Rattle.project_state.specs.Numbers.{unnumbered_body, unnumbered_history}
+use Rattle.record_body.specs.Batches.{after_bodies}
+use Rattle.record_body.specs.Kept.{Kept}
+use Rattle.project_state.specs.Meaning.{meant_history}
+use Rattle.record_body.specs.Numbers.{unnumbered_body}
+use Rattle.project_state.specs.Numbers.{unnumbered_history}
 use Rattle.editor_core.specs.Bodies.{IsLength, Writing}
 use Rattle.editor_core.specs.Core.{Core}
 use Rattle.editor_core.specs.Edits.{IsEdit, IsPlanned, TaggedEdit}
@@ -52,14 +55,18 @@ kept_of s = record {
   commit = s.commit_number;
 }
 
--- A commit without blocks: what it writes leads from the studio's history to this one, as does the call.
+-- A commit without blocks: what it writes leads from the studio's history to this one, as does the call by a reply that
+-- it may give.
 pub record Leads {D : Type 0} (disk : Ghosts D) (s : Core D) (call : Call) (sound : SoundMove) (w : Writing)
     : Type 0 where
   pub history : History (List Track)
   pub next_track : ℕ
   pub says : Says s.next_block next_track history w.body
   pub leads : (after_bodies (kept_of s) w.more (unnumbered_body w.body)).history ≡ unnumbered_history history
-  pub means : IsHeld disk s → (after (outside (studio_of disk s) sound) (studio_of disk s).state call).history
+  pub reply : Reply
+  pub answers : MayAnswer (outside (studio_of disk s) sound) (studio_of disk s).state call reply
+  pub means : IsHeld disk s
+      → told_history reply (after (outside (studio_of disk s) sound) (studio_of disk s).state call).history
       ≡ meant_history (sources_of (disk.reads s.store)) history
 
 -- What a commit would have made: this many blocks, and records of this writing.

@@ -20,9 +20,9 @@ use Rattle.edit_ops.specs.Runs.{AreClips}
 use Rattle.project_journal.specs.Gate.{EachNow}
 use Rattle.project_journal.specs.Header.{IsFormat}
 use Rattle.project_journal.specs.Journal.{Log, IsAt}
-use Rattle.project_state.specs.Kept.{Begins, Kept, Opened, LeadIn, meant, meant_history, point_blocks}
-use Rattle.project_state.specs.Kept.{history_blocks, version_of}
-use Rattle.project_state.specs.KeptSound.{IsSoundPoint, IsSoundTagged}
+use Rattle.record_body.specs.Kept.{Begins, Kept, Opened, LeadIn, version_of}
+use Rattle.project_state.specs.Meaning.{meant, meant_history, point_blocks, history_blocks}
+use Rattle.record_body.specs.KeptSound.{IsSoundPoint, IsSoundTagged}
 use Rattle.project_state.specs.Numbers.{unnumbered_history}
 use Rattle.project_state.specs.declared.track.Track.{Track}
 use Rattle.layout_uses.specs.Layouts.{AreDrawn, AreNumbered, history_tracks}
@@ -146,7 +146,7 @@ pub record AreCounters (next_block next_track next_pin commit end : ℕ) : Type 
 pub record AreJournalNumbers (file version generation : ℕ) : Type 0 where
   pub among : file ≤ 1
   pub version_least : 1 ≤ version
-  pub version_most : version ≤ 2
+  pub version_most : version ≤ 3
   pub generation_most : generation ≤ COUNTER_LIMIT
   pub first_version : version ≡ 1 → generation ≡ 0
 

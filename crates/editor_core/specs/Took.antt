@@ -15,12 +15,13 @@ use Rattle.disk_model.specs.Room.{Room, files_made}
 use Rattle.disk_model.specs.declared.store.Store.{Ghosts}
 use Rattle.sample_block.specs.Spelling.{size_of}
 use Rattle.project_journal.specs.Gate.{EachNow, EachSince}
-use Rattle.project_state.specs.Kept.{Keeps}
+use Rattle.record_body.specs.Kept.{Keeps}
 use Rattle.editor_core.specs.Core.{Core}
 pub use Rattle.editor_core.specs.Exchanges.{Exchange, exchange_of, freeing, quietly, silent, told_by, with_sound}
 use Rattle.editor_core.specs.Exchanges.{begun_in_vain}
 use Rattle.editor_core.specs.Left.{CountsIds, LeavesOthers, Left, MayRemove, Stops, Untouched}
 use Rattle.editor_core.specs.Packing.{packed_by, packs}
+use Rattle.editor_core.specs.Purges.{Purges}
 use Rattle.editor_core.specs.Records.{Records}
 use Rattle.editor_core.specs.Removals.{Frees}
 use Rattle.editor_core.specs.Spent.{NamesGiven, Needed}
@@ -88,6 +89,8 @@ pub record Took {D : Type 0} (disk : Ghosts D) (old : Core D) (exchange : Exchan
   -- which files are removed, and which ids are counted then
   pub frees : Frees disk old exchange.call exchange.told exchange.removed new
   pub ids : CountsIds old exchange.removed new
+  -- how many points a purge to a size drops, whatever the disk tells
+  pub purges : Purges old.history exchange.call exchange.told
   -- and what is left of the disk and of the studio, whatever the disk tells
   pub untouched : Untouched disk old exchange.call exchange.told new
   pub stops : Stops disk old exchange.told new

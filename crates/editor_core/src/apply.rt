@@ -3,7 +3,7 @@ ghost use Rattle.std.specs.Prelude.{◌≡◌, ℕ, List, IsSome, None};
 ghost use Rattle.pcm_base.specs.declared.answer.Reply.TheVariants as reply;
 ghost use Rattle.pcm_base.specs.declared.command.Call.TheVariants.{Line};
 ghost use Rattle.pcm_base.specs.declared.command.Command.TheVariants as command;
-ghost use Rattle.pcm_base.specs.Form.{IsInForm};
+ghost use Rattle.pcm_base.specs.Form.{IsInForm, IsTurn};
 ghost use Rattle.pcm_base.specs.Run.{name_in_line};
 ghost use Rattle.editor_core.specs.Applied.{Applies, TookOver};
 ghost use Rattle.editor_core.specs.Core.{core_of};
@@ -49,6 +49,16 @@ fn freed(answer: Result<u64, Refusal>) -> Result<Reply, Refusal>
     }
 }
 
+// The reply to a purge to a size.
+fn purged(answer: Result<u64, Refusal>) -> Result<Reply, Refusal>
+    ensures { result ≡ told_by reply.Purged answer }
+{
+    match answer {
+        Ok(count) => Ok(Reply::Purged { count }),
+        Err(reason) => Err(reason),
+    }
+}
+
 // The reply to a compact.
 fn packed(answer: Result<u64, Refusal>) -> Result<Reply, Refusal>
     ensures { result ≡ told_by reply.Packed answer }
@@ -72,7 +82,7 @@ fn wrote(answer: Result<u64, Refusal>) -> Result<Reply, Refusal>
 impl<S: Store> Studio<S> {
     /// Carries a line out by the call that is its own, and fills the answer: the commit number after it, and its reply,
     /// or the reason that refuses it, which is reported besides. A sound that the line names is looked for in the
-    /// vault. Where it names none, the vault is as it was.
+    /// vault. Where it names none, the vault is as it was. The line is one turn, so no `bounce`.
     ///
     /// It takes the memory that the line's own call takes; `show` and `mix` take 4,096 cells or frames at most for
     /// their answer. Nothing else is copied, and the answer of before is let go.
@@ -89,6 +99,7 @@ impl<S: Store> Studio<S> {
     ) -> Result<(), Refusal>
         requires studio { IsStudio S.Store (core_of self.old) }
         requires in_form { IsInForm command.now }
+        requires turn { IsTurn command.now }
         ensures applied { Applies S.Store (record {
           old = core_of self.old;
           new = core_of self.new;
@@ -124,6 +135,7 @@ impl<S: Store> Studio<S> {
     ) -> Result<Reply, Refusal>
         requires studio { IsStudio S.Store (core_of self.old) }
         requires in_form { IsInForm command.now }
+        requires turn { IsTurn command.now }
         ensures took { TookOver S.Store (record {
           old = core_of self.old;
           new = core_of self.new;
@@ -139,6 +151,7 @@ impl<S: Store> Studio<S> {
         match command {
             Command::Import { name } => done(self.import(alloc, vault, name.as_str())),
             Command::Export { name } => wrote(self.export(vault, name.as_str())),
+            Command::Bounce { .. } => unreachable!(),
             _ => self.silent_reply(alloc, command),
         }
     }
@@ -172,6 +185,7 @@ impl<S: Store> Studio<S> {
             Command::Undo => done(self.undo()),
             Command::Redo => done(self.redo()),
             Command::Purge { count } => done(self.purge(*count)),
+            Command::PurgeTo { bytes } => purged(self.purge_to(alloc, *bytes)),
             Command::Show { track, from, to } => self.show_reply(alloc, *track, *from, *to),
             Command::Mix { from, to } => self.mix_reply(alloc, *from, *to),
             Command::Envelope {
@@ -183,7 +197,9 @@ impl<S: Store> Studio<S> {
             Command::Tracks => self.tracks_reply(alloc),
             Command::Reclaim { limit } => freed(self.reclaim(*limit)),
             Command::Compact => packed(self.compact(alloc)),
-            Command::Import { .. } | Command::Export { .. } => unreachable!(),
+            Command::Import { .. } | Command::Export { .. } | Command::Bounce { .. } => {
+                unreachable!()
+            }
         }
     }
 

@@ -3,8 +3,10 @@ ghost use Rattle.std.specs.Prelude.{◌≡◌, ◌⊎◌, ℕ, ◌+◌, ◌*◌,
 ghost use Rattle.std.specs.Prelude.{IfErr, IfOk, OnOk};
 ghost use Rattle.pcm_base.specs.declared.limits.TheConstants.{COUNTER_LIMIT, LONGEST_BODY};
 ghost use Rattle.project_journal.specs.Journal.{AreWaiting};
-ghost use Rattle.project_state.specs.Batches.{with_point};
-ghost use Rattle.project_state.specs.Kept.{current_tracks};
+ghost use Rattle.record_body.specs.Batches.{with_point};
+ghost use Rattle.record_body.specs.Kept.{current_tracks};
+ghost use Rattle.project_state.specs.Numbers.{AgreeById};
+ghost use Rattle.record_body.specs.Numbers.{BodyAgrees};
 ghost use Rattle.editor_core.specs.Adding.{ExceedsBy};
 ghost use Rattle.editor_core.specs.Bodies.{all_bytes, all_len, body_bytes, single, whole_len, writing};
 ghost use Rattle.editor_core.specs.Core.{core_of};
@@ -14,7 +16,7 @@ use super::studio::Studio;
 use disk_model::Store;
 use pcm_base::{NoMemory, Refusal};
 use project_journal::add_record;
-use project_state::{Body, body_len, delta_len, write_body, write_delta_body};
+use record_body::{Body, body_len, delta_len, write_body, write_delta_body};
 
 // The version whose records are written out whole.
 const WHOLE_VERSION: u32 = 1;
@@ -22,6 +24,7 @@ const WHOLE_VERSION: u32 = 1;
 impl<S: Store> Studio<S> {
     // How many bytes it has.
     fn body_size(&self, body: &Body) -> usize
+        requires numbers { BodyAgrees (current_tracks self.now.history.history) body.now }
         ensures value { result ≡ length (body_bytes (core_of self.now) body.now) }
         ensures few { result ≤ 2 ^ 45 }
     {
@@ -34,7 +37,8 @@ impl<S: Store> Studio<S> {
     // Whether the journal has the places for a record with this body, and it is short enough, also written out whole.
     // It returns how many bytes the body has.
     pub(crate) fn may_record(&self, body: &Body) -> Result<usize, Refusal>
-        requires { self.now.journal_end ≤ COUNTER_LIMIT }
+        requires numbers { BodyAgrees (current_tracks self.now.history.history) body.now }
+        requires end { self.now.journal_end ≤ COUNTER_LIMIT }
         ensures value { IfOk result (λ len. len ≡ length (body_bytes (core_of self.now) body.now)) }
         ensures place { IfOk result (λ len. self.now.journal_end + (6 + len) ≤ COUNTER_LIMIT) }
         ensures short { IfOk result (λ len. len ≤ LONGEST_BODY) }
@@ -72,6 +76,8 @@ impl<S: Store> Studio<S> {
     // The same of records that come together, this many before the last. It returns how many bytes they have without
     // the gate of the first and the length of its body.
     pub(crate) fn may_write(&self, body: &Body, more: u64) -> Result<u64, Refusal>
+        requires numbers { BodyAgrees (current_tracks self.now.history.history) body.now }
+        requires again { AgreeById (current_tracks self.now.history.history) (current_tracks self.now.history.history) }
         requires end { self.now.journal_end ≤ COUNTER_LIMIT }
         requires few { more < 64 }
         ensures value { IfOk result (λ len. len ≡ all_len (core_of self.now) (writing more body.now)) }
@@ -94,6 +100,7 @@ impl<S: Store> Studio<S> {
 
     // Writes it.
     pub(crate) fn write_record(&mut self, body: &Body) -> Result<(), NoMemory>
+        requires numbers { BodyAgrees (current_tracks self.old.history.history) body.now }
         ensures same { core_of self.new ≡ core_of self.old }
         ensures body { OnOk result (self.new.body.items ≡ body_bytes (core_of self.old) body.now) }
         ensures row { self.new.row ≡ self.old.row }
@@ -109,6 +116,8 @@ impl<S: Store> Studio<S> {
     // Writes records that come together into the row of the journal, this many before the last, with room for a byte
     // more.
     pub(crate) fn write_records(&mut self, body: &Body, more: u64) -> Result<(), NoMemory>
+        requires numbers { BodyAgrees (current_tracks self.old.history.history) body.now }
+        requires again { AgreeById (current_tracks self.old.history.history) (current_tracks self.old.history.history) }
         requires short { all_len (core_of self.old) (writing more body.now) ≤ LONGEST_BODY }
         ensures same { core_of self.new ≡ core_of self.old }
         ensures rows { OnOk result (AreWaiting self.new.row.items
@@ -126,6 +135,7 @@ impl<S: Store> Studio<S> {
 
     // Writes the records that say the current point into the row, this many.
     fn write_again(&mut self, body: &Body, more: u64) -> Result<(), NoMemory>
+        requires again { AgreeById (current_tracks self.old.history.history) (current_tracks self.old.history.history) }
         requires short { 0 < more → length (body_bytes (core_of self.old)
             (with_point (current_tracks self.old.history.history) body.now)) < 2 ^ 32 }
         ensures same { core_of self.new ≡ core_of self.old }

@@ -17,7 +17,7 @@ ghost use Rattle.sample_block.specs.Faults.{damage_of};
 ghost use Rattle.sample_block.specs.Sources.{sources_of, AllNamed, AllWhole};
 ghost use Rattle.sample_block.specs.Spelling.{IsBlock, size_of};
 ghost use Rattle.block_cache.specs.Caches.{IsCacheOf, KeepsCache};
-ghost use Rattle.project_state.specs.Kept.{meant, point_blocks};
+ghost use Rattle.project_state.specs.Meaning.{meant, point_blocks};
 ghost use Rattle.mix_view.specs.Tracks.{mix_length_of};
 ghost use Rattle.piece_store.specs.Brought.{AreInOrder};
 ghost use Rattle.piece_store.specs.Bringers.{StillBrings};

@@ -14,6 +14,9 @@ ghost use Rattle.piece_store.specs.Bringers.{StillBrings};
 ghost use Rattle.envelope_view.specs.Answers.{IsUndamaged};
 ghost use Rattle.editor_core.specs.Applied.{Lasts};
 ghost use Rattle.project_journal.specs.Journal.{AreWaiting};
+ghost use Rattle.record_body.specs.Kept.{current_tracks};
+ghost use Rattle.project_state.specs.Numbers.{AgreeById};
+ghost use Rattle.record_body.specs.Numbers.{BodyAgrees};
 ghost use Rattle.editor_core.specs.Bodies.{all_bytes, all_len, whole_len, writing};
 ghost use Rattle.editor_core.specs.Core.{core_of};
 ghost use Rattle.editor_core.specs.Edits.{Spends, IsPlanned, IsEdit, IsPrepared, NotPrepared, Carried, clip_then};
@@ -30,7 +33,8 @@ use disk_model::Store;
 use edit_ops::{NewBlock, NewBlocks, Strips};
 use pcm_base::{COUNTER_LIMIT, NoMemory, Refusal};
 use piece_store::Brings;
-use project_state::{Body, Point};
+use project_state::Point;
+use record_body::Body;
 
 /// A new point, the blocks that are to be made for it, the id of the next block after them, how many track ids and
 /// layout numbers it gives, and what it puts into the clipboard, if anything.
@@ -93,6 +97,8 @@ impl<S: Store> Studio<S> {
         tracks: u64,
         layouts: u64,
     ) -> Result<(), Refusal>
+        requires numbers { BodyAgrees (current_tracks self.old.history.history) body.now }
+        requires again { AgreeById (current_tracks self.old.history.history) (current_tracks self.old.history.history) }
         requires layouts { self.old.next_layout ≤ COUNTER_LIMIT }
         requires next { self.old.next_block ≤ COUNTER_LIMIT }
         requires ids { self.old.next_track ≤ COUNTER_LIMIT }
@@ -131,6 +137,7 @@ impl<S: Store> Studio<S> {
         given: &mut G,
     ) -> Result<(), Refusal>
         requires studio { IsStudio S.Store (core_of self.old) }
+        requires numbers { BodyAgrees (current_tracks self.old.history.history) body.now }
         requires more { more < 64 }
         requires new { AreNew self.old.buffers self.old.next_block makes.now }
         requires pieces { PiecesReadable (G.brings given.old).count makes.now }

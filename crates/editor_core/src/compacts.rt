@@ -11,7 +11,7 @@ use project_journal::{compact, is_there};
 use std::alloc::Global;
 
 // The version of a journal that is one header.
-const PACKED_VERSION: u32 = 2;
+const PACKED_VERSION: u32 = 3;
 
 impl<S: Store> Studio<S> {
     /// Puts the journal into one header, in the other of its two files, and removes the file that it was in. It answers

@@ -5,7 +5,7 @@ ghost use Rattle.pcm_base.specs.declared.answer.Reply.TheVariants as reply;
 ghost use Rattle.pcm_base.specs.declared.command.Call.TheVariants.{Line};
 ghost use Rattle.clip_track.specs.Items.{AreItems};
 ghost use Rattle.layout_uses.specs.Drawing.{HasNumbers};
-ghost use Rattle.project_state.specs.Kept.{current_tracks};
+ghost use Rattle.record_body.specs.Kept.{current_tracks};
 ghost use Rattle.envelope_view.specs.Answers.{IsUndamaged};
 ghost use Rattle.editor_core.specs.Core.{core_of};
 ghost use Rattle.editor_core.specs.Cuts.{IsCutPlan, NoCutPlan, cut_line};

@@ -8,7 +8,7 @@ ghost use Rattle.pcm_base.specs.declared.refusal.Refusal.TheVariants as refusal;
 ghost use Rattle.pcm_base.specs.Refusals.{refused_if};
 ghost use Rattle.envelope_view.specs.Answers.{IsUndamaged};
 ghost use Rattle.project_state.specs.Tracks.{AllBelow, track_of};
-ghost use Rattle.project_state.specs.Kept.{current_tracks};
+ghost use Rattle.record_body.specs.Kept.{current_tracks};
 ghost use Rattle.editor_core.specs.Core.{core_of};
 ghost use Rattle.editor_core.specs.Plain.{line_of, IsGood, refusal_by, set_by, IsSet, IsEdited};
 ghost use Rattle.editor_core.specs.Points.{lacks};

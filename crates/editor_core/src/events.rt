@@ -1,5 +1,8 @@
 // A list of events, carried out one after another.
-ghost use Rattle.std.specs.Prelude.{◌≡◌, ◌-◌, ◌++◌, min, OnErr, OnOk, List, Result};
+ghost use Rattle.std.specs.Prelude.{◌≡◌, ◌+◌, ◌-◌, ◌*◌, ◌^◌, ◌<◌, ◌≤◌, ◌++◌, min, length, take, drop, OnErr, OnOk, IfOk};
+ghost use Rattle.std.specs.Prelude.{List, Result, Some, slice_get};
+ghost use Rattle.pcm_base.specs.declared.limits.TheConstants.{MAX_LOADED};
+ghost use Rattle.mixdown.specs.Loads.{IsLoaded, cut_in, tracks_in};
 ghost use Rattle.pcm_base.specs.declared.answer.Answer.{Answer};
 ghost use Rattle.pcm_base.specs.declared.answer.Reply.{Reply};
 ghost use Rattle.pcm_base.specs.declared.answer.Reply.TheVariants as reply;
@@ -16,7 +19,11 @@ use super::apply::done;
 use super::studio::Studio;
 use disk_model::Store;
 use edit_ports::Vault;
-use pcm_base::{Answer, Call, Event, Frame, Frames, NoMemory, Refusal, Reply};
+use mixdown::Loaded;
+use pcm_base::{
+    Answer, Call, Cell, CellList, Event, Frame, Frames, LoadedTrack, LoadedTracks, NoMemory,
+    Refusal, Reply, Side,
+};
 use std::alloc::Global;
 
 // A reason as a reply.
@@ -64,6 +71,93 @@ fn frames_left(len: u64, from: u64, most: u64) -> usize
     ensures { result ≡ min most (len - from) }
 {
     len.saturating_sub(from).min(most) as usize
+}
+
+// The gain at a place.
+fn gain_at(gains: &[u32], i: usize) -> u32
+    requires { i < length gains.now }
+    ensures { slice_get gains.now i ≡ Some result }
+{
+    gains[i]
+}
+
+// The side at a place.
+fn side_at(sides: &[Side], i: usize) -> Side
+    requires { i < length sides.now }
+    ensures { slice_get sides.now i ≡ Some result }
+{
+    sides[i]
+}
+
+// A copy of this many cells from a place on.
+fn cells_from(alloc: Global, cells: &[Cell], from: usize, len: usize) -> Result<Vec<Cell>, NoMemory>
+    requires { from + len ≤ length cells.now }
+    ensures { IfOk result (λ v. v.items ≡ take len (drop from cells.now)) }
+{
+    let end = from + len;
+    let copy = Vec::from_slice(alloc, &cells[from..end])?;
+    Ok(copy)
+}
+
+// One of some tracks, whose stretches stand one after the other.
+fn track_at(
+    alloc: Global,
+    len: usize,
+    cells: &[Cell],
+    gains: &[u32],
+    sides: &[Side],
+    i: usize,
+) -> Result<LoadedTrack, NoMemory>
+    requires cells { length cells.now ≡ length gains.now * len }
+    requires sides { length sides.now ≡ length gains.now }
+    requires within { i < length gains.now }
+    ensures { IfOk result (λ t. slice_get (cut_in len cells.now gains.now sides.now) i ≡ Some t) }
+{
+    let gain = gain_at(gains, i);
+    let side = side_at(sides, i);
+    let from = i * len;
+    let part = cells_from(alloc, cells, from, len)?;
+    Ok(LoadedTrack {
+        gain,
+        side,
+        cells: CellList::new(part),
+    })
+}
+
+// All of them.
+fn list_tracks(
+    alloc: Global,
+    len: usize,
+    cells: &[Cell],
+    gains: &[u32],
+    sides: &[Side],
+) -> Result<Vec<LoadedTrack>, NoMemory>
+    requires cells { length cells.now ≡ length gains.now * len }
+    requires sides { length sides.now ≡ length gains.now }
+    ensures { IfOk result (λ v. v.items ≡ cut_in len cells.now gains.now sides.now) }
+{
+    let mut tracks = Vec::new(alloc);
+    'rows: for i in 0..gains.len() {
+        let track = track_at(alloc, len, cells, gains, sides, i)?;
+        tracks.push(track)?;
+    }
+    Ok(tracks)
+}
+
+// The tracks that are loaded, as a list.
+fn tracks_of(alloc: Global, loaded: &Loaded) -> Result<Vec<LoadedTrack>, NoMemory>
+    requires { IsLoaded loaded.now }
+    ensures { IfOk result (λ v. v.items ≡ tracks_in loaded.now) }
+{
+    let count = loaded.gains.len() * loaded.len;
+    let cells = &loaded.cells.as_slice()[..count];
+    list_tracks(
+        alloc,
+        loaded.len,
+        cells,
+        loaded.gains.as_slice(),
+        loaded.sides.as_slice(),
+    )
 }
 
 impl<S: Store> Studio<S> {
@@ -144,9 +238,36 @@ impl<S: Store> Studio<S> {
             Call::Pin => pinned(self.pin()),
             Call::PinLen { pin } => length(self.pin_len(*pin)),
             Call::ReadPin { pin, from, count } => self.read_reply(alloc, *pin, *from, *count),
+            Call::LoadPin { pin, from, count } => self.load_reply(
+                alloc,
+                *pin,
+                *from,
+                *count as usize,
+            ),
             Call::Unpin { pin } => let_go(self.unpin(*pin)),
             Call::Line { .. } => unreachable!(),
         }
+    }
+
+    // What is loaded of a pin from a place on, as many frames as there are, up to a number.
+    fn load_reply(
+        &mut self,
+        alloc: Global,
+        pin: u64,
+        from: u64,
+        count: usize,
+    ) -> Result<Reply, Refusal>
+        requires studio { IsStudio S.Store (core_of self.old) }
+        requires most { count ≤ MAX_LOADED }
+        requires few { from + count < 2 ^ 64 }
+        ensures { Took S.Store (core_of self.old) (quietly (call.LoadPin pin from count) result) (core_of self.new) }
+    {
+        let mut loaded = Loaded::new(alloc);
+        self.load_pin(pin, from, count, &mut loaded)?;
+        let tracks = tracks_of(alloc, &loaded)?;
+        Ok(Reply::Loaded {
+            tracks: LoadedTracks::new(tracks),
+        })
     }
 
     // The frames of a pin's mix from a place on, as many as there are, up to a number.

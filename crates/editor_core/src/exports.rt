@@ -10,7 +10,7 @@ ghost use Rattle.pcm_base.specs.Wave.{wav_text};
 ghost use Rattle.disk_model.specs.Frames.{Kept};
 ghost use Rattle.sample_block.specs.Sources.{sources_of, AllNamed, AllWhole};
 ghost use Rattle.block_cache.specs.Caches.{IsCacheOf, KeepsCache};
-ghost use Rattle.project_state.specs.Kept.{meant, point_blocks};
+ghost use Rattle.project_state.specs.Meaning.{meant, point_blocks};
 ghost use Rattle.wav_pcm.specs.Wavs.{FitsFile};
 ghost use Rattle.mix_view.specs.Tracks.{mix_length_of};
 ghost use Rattle.sound_export.specs.Written.{ExportCounted, IsBlockFault, IsLengthFault, IsNoDamage, IsOfDevice};

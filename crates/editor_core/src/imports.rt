@@ -7,7 +7,7 @@ ghost use Rattle.pcm_base.specs.declared.entry.SoundMove.{SoundMove};
 ghost use Rattle.pcm_base.specs.declared.refusal.Refusal.TheVariants as refusal;
 ghost use Rattle.pcm_base.specs.declared.wav.WavFault.TheVariants.{Truncated};
 ghost use Rattle.envelope_view.specs.Answers.{IsUndamaged};
-ghost use Rattle.project_state.specs.Kept.{current_tracks};
+ghost use Rattle.record_body.specs.Kept.{current_tracks};
 ghost use Rattle.editor_core.specs.Applied.{Lasts};
 ghost use Rattle.editor_core.specs.Core.{core_of};
 ghost use Rattle.wav_pcm.specs.Heads.{HasShape};

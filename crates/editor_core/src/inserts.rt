@@ -14,7 +14,7 @@ ghost use Rattle.clip_track.specs.Clips.{AllHalfFull, IsLayout, end_of, layout_b
 ghost use Rattle.edit_ops.specs.Plans.{AnswersTest, IsPlan, Means, start_of};
 ghost use Rattle.piece_store.specs.Bringing.{brought_count};
 ghost use Rattle.envelope_view.specs.Answers.{IsUndamaged};
-ghost use Rattle.project_state.specs.Kept.{current_tracks};
+ghost use Rattle.record_body.specs.Kept.{current_tracks};
 ghost use Rattle.editor_core.specs.Core.{core_of};
 ghost use Rattle.editor_core.specs.Edits.{IsStill};
 ghost use Rattle.editor_core.specs.Exchanges.{may_begin};

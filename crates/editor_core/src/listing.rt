@@ -6,7 +6,7 @@ ghost use Rattle.pcm_base.specs.declared.command.Command.TheVariants as command;
 ghost use Rattle.pcm_base.specs.declared.refusal.Refusal.TheVariants as refusal;
 ghost use Rattle.pcm_base.specs.Pieces.{Sources};
 ghost use Rattle.pcm_base.specs.Step.{line_of_track};
-ghost use Rattle.project_state.specs.Kept.{meant, meant_track};
+ghost use Rattle.project_state.specs.Meaning.{meant, meant_track};
 ghost use Rattle.editor_core.specs.Core.{core_of};
 ghost use Rattle.editor_core.specs.Studios.{IsStudio};
 ghost use Rattle.editor_core.specs.Took.{Took, quietly, told_by};

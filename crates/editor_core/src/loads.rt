@@ -1,5 +1,6 @@
 // A pin's tracks, loaded.
 ghost use Rattle.std.specs.Prelude.{◌≡◌, ◌+◌, ◌^◌, ◌<◌, ◌≤◌};
+ghost use Rattle.pcm_base.specs.declared.limits.TheConstants.{MAX_LOADED};
 ghost use Rattle.editor_core.specs.Core.{core_of};
 ghost use Rattle.editor_core.specs.Loads.{Loads};
 ghost use Rattle.editor_core.specs.Studios.{IsStudio};
@@ -30,7 +31,7 @@ impl<S: Store> Studio<S> {
         loaded: &mut Loaded,
     ) -> Result<usize, Refusal>
         requires studio { IsStudio S.Store (core_of self.old) }
-        requires most { n ≤ 65536 }
+        requires most { n ≤ MAX_LOADED }
         requires few { from + n < 2 ^ 64 }
         ensures { Loads S.Store (core_of self.old) (record { pin = pin; from = from; most = n }) result loaded.new
             (core_of self.new) }

@@ -1,13 +1,15 @@
 // Undo, redo and purge.
-ghost use Rattle.std.specs.Prelude.{◌≡◌, ◌+◌, ◌==◌, length, IfErr, IfOk};
+ghost use Rattle.std.specs.Prelude.{◌≡◌, ◌+◌, ◌==◌, length, IfErr, IfOk, Some};
 ghost use Rattle.pcm_base.specs.declared.answer.Reply.TheVariants as reply;
 ghost use Rattle.pcm_base.specs.declared.command.Call.TheVariants.{Line};
 ghost use Rattle.pcm_base.specs.declared.command.Command.TheVariants as command;
 ghost use Rattle.pcm_base.specs.declared.refusal.Refusal.TheVariants.{NothingToUndo, NothingToRedo};
+ghost use Rattle.pcm_base.specs.declared.refusal.Refusal.TheVariants as refusal;
 ghost use Rattle.pcm_base.specs.History.{IsHistory};
 ghost use Rattle.pcm_base.specs.Refusals.{refused_if, bad_range};
-ghost use Rattle.project_state.specs.declared.body.Body.TheVariants.{Purge};
-ghost use Rattle.project_state.specs.Spelling.{spelling};
+ghost use Rattle.record_body.specs.declared.body.Body.TheVariants.{Purge};
+ghost use Rattle.record_body.specs.Spelling.{spelling};
+ghost use Rattle.purge_size.specs.Sizes.{IsPurgeTo};
 ghost use Rattle.envelope_view.specs.Answers.{IsUndamaged};
 ghost use Rattle.editor_core.specs.Adding.{IsNoWant};
 ghost use Rattle.editor_core.specs.Core.{core_of};
@@ -19,7 +21,9 @@ use byteorder::{ByteOrder, LittleEndian};
 use disk_model::Store;
 use layout_uses::count_purge;
 use pcm_base::Refusal;
-use project_state::{PURGE_KIND, REDO_KIND, UNDO_KIND};
+use purge_size::purge_count;
+use record_body::{PURGE_KIND, REDO_KIND, UNDO_KIND};
+use std::alloc::Global;
 
 // The body of the record of a purge.
 fn purge_body(count: u64) -> [u8; 9]
@@ -113,12 +117,42 @@ impl<S: Store> Studio<S> {
         ensures number { IfOk result (λ n. n ≡ self.new.commit_number) }
         ensures memory { IfErr result IsNoWant }
         ensures undamaged { IfErr result IsUndamaged }
+        ensures range { IfErr result (λ why. why ≡ refusal.BadRange
+            → bad_range 0 count self.old.history.history.cursor ≡ Some refusal.BadRange) }
     {
         self.may_commit(self.purge_refusal(count), 0)?;
         self.commit_small(&purge_body(count))?;
         count_purge(&mut self.tally, &self.history, count as usize);
         let _ = self.history.purge(count);
         Ok(self.commit_number)
+    }
+
+    /// Forgets so many of the oldest points that the block files of the others have at most this many bytes, and none
+    /// from the current one on. It answers how many. It takes memory to find their number, and none after that.
+    ///
+    /// # Errors
+    ///
+    /// `Stopped` where a change of the disk failed in an earlier call; else `NoMemory`; else `BadRange` where no point
+    /// has to go, or the current one is the oldest; else `SpaceSpent` where the commit number or the journal has no
+    /// room. Nothing has changed then. `DiskFault` where a change of the disk failed: the studio is stopped.
+    pub fn purge_to(&mut self, alloc: Global, bytes: u64) -> Result<u64, Refusal>
+        requires { IsStudio S.Store (core_of self.old) }
+        ensures took { Took S.Store (core_of self.old)
+            (quietly (Line (command.PurgeTo bytes)) (told_by reply.Purged result)) (core_of self.new) }
+        // The number is that of the points whose going leaves so many bytes, and none go where it is 0.
+        ensures count { IfOk result (IsPurgeTo self.old.history.history bytes) }
+        ensures none { IfErr result (λ why. why ≡ refusal.BadRange → IsPurgeTo self.old.history.history bytes 0) }
+        ensures undamaged { IfErr result IsUndamaged }
+    {
+        if let Some(faults) = self.stopped {
+            return Err(Refusal::Stopped { faults });
+        }
+        let count = purge_count(alloc, &self.history, bytes)?;
+        if count == 0 {
+            return Err(Refusal::BadRange);
+        }
+        self.purge(count)?;
+        Ok(count)
     }
 
     // What refuses a purge.

@@ -4,7 +4,7 @@ ghost use Rattle.pcm_base.specs.declared.answer.Reply.TheVariants as reply;
 ghost use Rattle.pcm_base.specs.declared.command.Call.TheVariants.{Line};
 ghost use Rattle.pcm_base.specs.Shape.{range_line};
 ghost use Rattle.envelope_view.specs.Answers.{IsUndamaged};
-ghost use Rattle.project_state.specs.Kept.{current_tracks};
+ghost use Rattle.record_body.specs.Kept.{current_tracks};
 ghost use Rattle.editor_core.specs.Core.{core_of};
 ghost use Rattle.editor_core.specs.Ranges.{range_edit};
 ghost use Rattle.editor_core.specs.Studios.{IsHeld, IsStudio};

@@ -1,7 +1,7 @@
 // Whether the file of a block is what it has to be.
 ghost use Rattle.std.specs.Prelude.{◌≡◌, ◌++◌, None, Some, Contains, IfOk, OnOk, IfNone, IfSome};
 ghost use Rattle.clip_track.specs.Clips.{layout_blocks};
-ghost use Rattle.project_state.specs.Kept.{point_blocks, history_blocks};
+ghost use Rattle.project_state.specs.Meaning.{point_blocks, history_blocks};
 ghost use Rattle.editor_core.specs.Core.{core_of};
 ghost use Rattle.editor_core.specs.Scans.{AreIdsOf, AreListed, MayStand, Scans, ScansBlock};
 ghost use Rattle.editor_core.specs.Studios.{IsStudio, ids_of};

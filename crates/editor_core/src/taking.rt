@@ -5,7 +5,10 @@ ghost use Rattle.pcm_base.specs.declared.limits.TheConstants.{COUNTER_LIMIT, MAX
 ghost use Rattle.block_ledger.specs.Counts.{occurrences};
 ghost use Rattle.block_ledger.specs.Entries.{count_of};
 ghost use Rattle.pcm_base.specs.History.{edited};
-ghost use Rattle.project_state.specs.declared.body.Body.TheVariants.{Edit};
+ghost use Rattle.record_body.specs.Kept.{current_tracks};
+ghost use Rattle.project_state.specs.Numbers.{AgreeById};
+ghost use Rattle.record_body.specs.Numbers.{BodyAgrees};
+ghost use Rattle.record_body.specs.declared.body.Body.TheVariants.{Edit};
 ghost use Rattle.layout_uses.specs.Layouts.{history_tracks, track_blocks};
 ghost use Rattle.layout_uses.specs.Occurrences.{HasIds, times_named};
 ghost use Rattle.layout_uses.specs.Tallies.{Becomes, MayBecome};
@@ -17,7 +20,8 @@ use super::studio::Studio;
 use disk_model::Store;
 use layout_uses::count_edit;
 use pcm_base::{COUNTER_LIMIT, MAX_TRACKS, NoMemory, Refusal};
-use project_state::{Body, Point};
+use project_state::Point;
+use record_body::Body;
 
 impl<S: Store> Studio<S> {
     // Makes room in memory for one point more and for the uses of its layouts, of which this many are new. It is
@@ -39,6 +43,7 @@ impl<S: Store> Studio<S> {
 
     // Writes the body of a record and adds it.
     pub(crate) fn commit_body(&mut self, body: &Body) -> Result<(), Refusal>
+        requires numbers { BodyAgrees (current_tracks self.old.history.history) body.now }
         requires room { self.old.commit_number < COUNTER_LIMIT }
         requires end { self.old.journal_end ≤ COUNTER_LIMIT }
         ensures record { AddsBody S.Store (core_of self.old) (single body.now) result (core_of self.new) }
@@ -52,6 +57,7 @@ impl<S: Store> Studio<S> {
 
     // The same of an edit that gives this many track ids; the point comes back.
     pub(crate) fn commit_point(&mut self, point: Point, tracks: u64) -> Result<Point, Refusal>
+        requires numbers { AgreeById (current_tracks self.old.history.history) point }
         requires room { self.old.commit_number < COUNTER_LIMIT }
         requires ids { self.old.next_track + tracks ≤ COUNTER_LIMIT }
         requires end { self.old.journal_end ≤ COUNTER_LIMIT }

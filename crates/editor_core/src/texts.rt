@@ -6,7 +6,7 @@ ghost use Rattle.pcm_base.specs.declared.limits.TheConstants.{COUNTER_LIMIT, MAX
 ghost use Rattle.pcm_base.specs.History.{IsHistory};
 ghost use Rattle.project_journal.specs.Journal.{points_size};
 ghost use Rattle.project_journal.specs.Packing.{AreShort, header_row, sized};
-ghost use Rattle.project_state.specs.Kept.{point_bytes};
+ghost use Rattle.record_body.specs.Kept.{point_bytes};
 ghost use Rattle.editor_core.specs.Core.{core_of};
 ghost use Rattle.editor_core.specs.Packing.{packed_base, packed_log, packed_size, packed_text, points_in};
 
@@ -15,7 +15,8 @@ use byteorder::{ByteOrder, LittleEndian};
 use disk_model::Store;
 use pcm_base::NoMemory;
 use project_journal::{Base, write_header};
-use project_state::{Point, point_len, write_point};
+use project_state::Point;
+use record_body::{point_len, write_point};
 use std::alloc::Global;
 use undo_history::History;
 
@@ -33,7 +34,7 @@ fn points_len(history: &History<Point>) -> Option<usize>
     requires { length history.now.history.points ≤ MAX_DEPTH }
     ensures value { IfSome result (λ len. len ≡ points_size (points_in history.now.history)) }
     ensures short { IfSome result (λ len. AreShort (points_in history.now.history)) }
-    ensures few { IfSome result (λ len. len ≤ 2 ^ 45) }
+    ensures few { IfSome result (λ len. len ≤ 2 ^ 49) }
 {
     let mut len = 0;
     for i in 0..history.len() {
@@ -135,7 +136,7 @@ impl<S: Store> Studio<S> {
         requires later { self.now.generation < COUNTER_LIMIT }
         ensures text { IfOk result (λ text. text.items ≡ packed_text (core_of self.now)) }
         ensures size { IfOk result (λ text. 1 + length text.items ≡ packed_size (core_of self.now)) }
-        ensures most { IfOk result (λ text. 1 + length text.items ≤ 2 ^ 46) }
+        ensures most { IfOk result (λ text. 1 + length text.items ≤ 2 ^ 50) }
         ensures short { OnOk result (AreShort (points_in self.now.history.history)) }
         ensures whole { OnOk result (IsHistory self.now.history.history) }
         ensures rate { OnOk result (self.now.rate < 2 ^ 32) }

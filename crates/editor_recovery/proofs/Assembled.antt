@@ -5,8 +5,9 @@ use Rattle.disk_model.specs.Disk.{Files}
 use Rattle.disk_model.specs.declared.store.Store.{Ghosts}
 use Rattle.project_journal.specs.Header.{Form}
 use Rattle.project_journal.specs.Journal.{Log}
-use Rattle.project_state.specs.Kept.{Kept, meant_history, opened}
-use Rattle.project_state.proofs.Unnumbered.{history_meant_alike}
+use Rattle.record_body.specs.Kept.{Kept, opened}
+use Rattle.project_state.specs.Meaning.{meant_history}
+use Rattle.record_body.proofs.Unnumbered.{history_meant_alike}
 use Rattle.sample_block.specs.Sources.{sources_of}
 use Rattle.editor_core.specs.Core.{Core, core_of}
 use Rattle.editor_core.specs.Parts.{assembled}

@@ -19,7 +19,7 @@ use Rattle.block_store.specs.declared.fault.BlockFault.{BlockFault}
 use Rattle.block_store.specs.declared.fault.BlockFault.TheVariants as block
 use Rattle.block_store.specs.Reads.{CountedBy}
 use Rattle.project_state.specs.declared.track.Track.{Track}
-use Rattle.project_state.specs.Kept.{history_blocks}
+use Rattle.project_state.specs.Meaning.{history_blocks}
 use Rattle.editor_core.specs.Core.{Core}
 use Rattle.editor_core.specs.Scans.{AreListed, BlockScanned, HaveOneLength, ScansBlock}
 use Rattle.editor_core.specs.Studios.{IsHeld, IsStudio, ids_of}

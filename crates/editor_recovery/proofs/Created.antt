@@ -7,14 +7,15 @@ use Rattle.disk_model.specs.Disk.{Files, Follows, StaysStep, SameElsewhere}
 use Rattle.disk_model.specs.Frames.{Kept}
 use Rattle.disk_model.proofs.Frames.{kept_turn}
 use Rattle.disk_model.specs.declared.store.Store.{Ghosts}
-use Rattle.project_journal.specs.Header.{form_2}
+use Rattle.project_journal.specs.Header.{form_3}
 use Rattle.project_journal.specs.Gate.{EachNow}
 use Rattle.project_journal.specs.Journal.{HasLog, IsAt, fresh}
 use Rattle.project_journal.specs.Start.{NoProject}
 use Rattle.project_journal.proofs.Kept.{each_has}
-use Rattle.project_state.proofs.NewProjects.{fresh_begins}
-use Rattle.project_state.specs.Kept as keeping
-use Rattle.project_state.specs.Kept.{new_project, history_blocks, Keeps}
+use Rattle.record_body.proofs.NewProjects.{fresh_begins}
+use Rattle.record_body.specs.Kept as keeping
+use Rattle.record_body.specs.Kept.{new_project, Keeps}
+use Rattle.project_state.specs.Meaning.{history_blocks}
 use Rattle.editor_recovery.specs.declared.fault.OpenFault.{OpenFault}
 use Rattle.editor_recovery.specs.declared.fault.OpenFault.TheVariants as fault
 use Rattle.editor_recovery.specs.Listing.{TellsForeign}
@@ -26,11 +27,11 @@ use Rattle.editor_recovery.proofs.Alone.{none_log}
 use Rattle.editor_recovery.proofs.Honest.{same_kept}
 
 -- the new journal is the new project
-pub keeps_new : (rate block_size depth : ℕ) (c : Files) → HasLog (form_2 0) (fresh rate block_size depth) c
+pub keeps_new : (rate block_size depth : ℕ) (c : Files) → HasLog (form_3 0) (fresh rate block_size depth) c
     → Keeps c (new_opened rate block_size depth)
 keeps_new rate block_size depth c has = record {
-  form = form_2 0;
-  known = inr refl;
+  form = form_3 0;
+  known = inr (inr refl);
   few = omega arith;
   keeps = record {
     log = fresh rate block_size depth;
@@ -45,10 +46,10 @@ keeps_new rate block_size depth c has = record {
 }
 
 -- and stands in file 0
-pub new_stands : (rate block_size depth : ℕ) (c : Files) → HasLog (form_2 0) (fresh rate block_size depth) c
-    → Stands c (form_2 0) (fresh rate block_size depth) (new_project depth)
+pub new_stands : (rate block_size depth : ℕ) (c : Files) → HasLog (form_3 0) (fresh rate block_size depth) c
+    → Stands c (form_3 0) (fresh rate block_size depth) (new_project depth)
 new_stands rate block_size depth c has = record {
-  known = inr refl;
+  known = inr (inr refl);
   few = omega arith;
   there = has;
   base = new_project depth;
@@ -57,11 +58,11 @@ new_stands rate block_size depth c has = record {
 }
 
 -- no point of it names a block
-no_names : (rate block_size depth : ℕ) (c : Files) (id : ℕ) → HasLog (form_2 0) (fresh rate block_size depth) c
+no_names : (rate block_size depth : ℕ) (c : Files) (id : ℕ) → HasLog (form_3 0) (fresh rate block_size depth) c
     → Names c id → ⊥
 no_names rate block_size depth c id has names =
     let kept : names.kept ≡ new_project depth =
-    same_kept c names.form (form_2 0) names.log (fresh rate block_size depth) names.kept (new_project depth)
+    same_kept c names.form (form_3 0) names.log (fresh rate block_size depth) names.kept (new_project depth)
     names.stands (new_stands rate block_size depth c has) in
     nothing (subst (λ (k : keeping.Kept). Contains (history_blocks k.history) names.block) kept names.named)
   where
@@ -115,11 +116,11 @@ module _ {D : Type 0} (disk : Ghosts D) (old new : D) where
       → Follows (SameElsewhere 0) (disk.clock old) (disk.clock new) (disk.may_leave old) (disk.may_leave new)
       → disk.keeps_model new ≡ disk.keeps_model old
       → ((c : Files) → disk.may_leave new (disk.clock old) c → disk.may_leave old (disk.clock old) c
-      ⊎ (HasNone c ⊎ HasLog (form_2 0) (fresh rate block_size depth) c))
+      ⊎ (HasNone c ⊎ HasLog (form_3 0) (fresh rate block_size depth) c))
       → IsHonest disk old → IsHonest disk new
   made_honest rate block_size depth follows model any honest =
       let since = now_before follows in
-      let none : (c : Files) → (id : ℕ) → Names c id → HasNone c ⊎ HasLog (form_2 0) (fresh rate block_size depth) c
+      let none : (c : Files) → (id : ℕ) → Names c id → HasNone c ⊎ HasLog (form_3 0) (fresh rate block_size depth) c
       → ⊥ =
       λ c id names other. ⊎_elim (λ none. no_project_names c id none names)
       (λ has. no_names rate block_size depth c id has names) other in
@@ -142,10 +143,10 @@ module _ {D : Type 0} (disk : Ghosts D) (old new : D) where
 -- what the creation of a journal says of both files
 pub any_or_none : {D : Type 0} (disk : Ghosts D) (rate block_size depth : ℕ) (mid new : D)
     → ((c : Files) → disk.may_leave new (disk.clock mid) c → disk.may_leave mid (disk.clock mid) c
-    ⊎ (NoProject 0 c ⊎ HasLog (form_2 0) (fresh rate block_size depth) c))
+    ⊎ (NoProject 0 c ⊎ HasLog (form_3 0) (fresh rate block_size depth) c))
     → ((c : Files) → disk.may_leave new (disk.clock mid) c → disk.may_leave mid (disk.clock mid) c ⊎ NoProject 1 c)
     → (c : Files) → disk.may_leave new (disk.clock mid) c → disk.may_leave mid (disk.clock mid) c
-    ⊎ (HasNone c ⊎ HasLog (form_2 0) (fresh rate block_size depth) c)
+    ⊎ (HasNone c ⊎ HasLog (form_3 0) (fresh rate block_size depth) c)
 any_or_none disk rate block_size depth mid new any other c since = either_none c (any c since) (other c since)
 
 -- calls that write nothing, and then a creation
@@ -153,7 +154,7 @@ pub any_moment_both : {D : Type 0} (disk : Ghosts D) (rate block_size depth : �
     → Follows StaysStep (disk.clock old) (disk.clock mid) (disk.may_leave old) (disk.may_leave mid)
     → Follows (SameElsewhere 0) (disk.clock mid) (disk.clock new) (disk.may_leave mid) (disk.may_leave new)
     → ((c : Files) → disk.may_leave new (disk.clock mid) c → disk.may_leave mid (disk.clock mid) c
-    ⊎ (HasNone c ⊎ HasLog (form_2 0) (fresh rate block_size depth) c))
+    ⊎ (HasNone c ⊎ HasLog (form_3 0) (fresh rate block_size depth) c))
     → (c : Files) → disk.may_leave new (disk.clock old) c → disk.may_leave old (disk.clock old) c
     ⊎ (HasNone c ⊎ Keeps c (new_opened rate block_size depth))
 any_moment_both disk rate block_size depth old mid new f g any c since =
@@ -169,7 +170,7 @@ any_moment_both disk rate block_size depth old mid new f g any c since =
 
 -- after it each image keeps the new project
 pub made_done : {D T : Type 0} (disk : Ghosts D) (rate block_size depth : ℕ) (new : D) (r : Result T OpenFault)
-    → OnOk r (IsAt (form_2 0) disk new 80 (fresh rate block_size depth))
+    → OnOk r (IsAt (form_3 0) disk new 80 (fresh rate block_size depth))
     → OnOk r (Keeps (disk.reads new) (new_opened rate block_size depth)
     × EachNow disk new (λ c. Keeps c (new_opened rate block_size depth)))
 made_done disk rate block_size depth new (Err e) here = tt

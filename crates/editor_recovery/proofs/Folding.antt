@@ -14,8 +14,8 @@ use Rattle.project_journal.proofs.AnyFormats.{HasBase, base_sound}
 use Rattle.project_journal.proofs.Bases.{plain}
 use Rattle.project_journal.proofs.Found.{read_whole}
 use Rattle.project_journal.proofs.Readables.{readable}
-use Rattle.project_state.specs.Kept.{Kept, Begins, LeadIn, version_of}
-use Rattle.project_state.proofs.KeptBounds.{lead_sound}
+use Rattle.record_body.specs.Kept.{Kept, Begins, LeadIn, version_of}
+use Rattle.record_body.proofs.KeptBounds.{lead_sound}
 use Rattle.record_fold.specs.Bases.{base_by, base_of}
 use Rattle.record_fold.specs.Folds.{kept_of, FoldsStored, IsValid, Leads}
 use Rattle.record_fold.specs.Heads.{HasFault, ReadsOn}
@@ -61,16 +61,20 @@ numbers form head j file version generation known few is bounds same version_is 
       generation_most = omega (arith, generation_is, bounds.generation);
       first_version = λ first. generation_is ∙ ap (λ (b : Base). b.generation) none;
     })
-    (λ two.
-    let v : version ≡ 2 = version_is ∙ ap version_of two in
-    record {
-      among = omega (arith, same, few);
-      version_least = omega (arith, v);
-      version_most = omega (arith, v);
-      generation_most = omega (arith, generation_is, bounds.generation);
-      first_version = λ first. absurd (omega (arith, first, v));
-    })
+    (λ later. ⊎_elim
+    (λ two. later_numbers 2 (version_is ∙ ap version_of two) (omega arith) (omega arith))
+    (λ three. later_numbers 3 (version_is ∙ ap version_of three) (omega arith) (omega arith))
+    later)
     known
+  where
+    later_numbers : (v : ℕ) → version ≡ v → 2 ≤ v → v ≤ 3 → AreJournalNumbers file version generation
+    later_numbers v is_v least most = record {
+      among = omega (arith, same, few);
+      version_least = omega (arith, is_v, least);
+      version_most = omega (arith, is_v, most);
+      generation_most = omega (arith, generation_is, bounds.generation);
+      first_version = λ first. absurd (omega (arith, first, is_v, least));
+    }
 
 -- a journal of version 1 begins without commits
 first_base : (j : Contents) → j.points ≡ [] → (base_of j).commit ≡ 0
@@ -95,9 +99,14 @@ few_commits form bytes j kept known is ready bounds begins base_few led = ⊎_el
       ready.records,
       ready.end,
     ))
+    (λ later. ⊎_elim
     (λ two.
     let v : version_of form ≡ 2 = ap version_of two in
     told_few (version_of form) j.block_size (base_of j) kept (map body_at j.records) (omega (arith, v)) base_few led)
+    (λ three.
+    let v : version_of form ≡ 3 = ap version_of three in
+    told_few (version_of form) j.block_size (base_of j) kept (map body_at j.records) (omega (arith, v)) base_few led)
+    later)
     known
 
 base_few : (points : List (List ℕ)) (depth : ℕ) (b : Base) → b.commit ≤ 2 ^ 62 → (base_by points depth b).commit ≤ 2 ^ 62

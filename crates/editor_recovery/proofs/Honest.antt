@@ -26,14 +26,15 @@ use Rattle.project_journal.proofs.Found.{form_told, found_header, log_picked, wh
 use Rattle.project_journal.proofs.Kept.{each_has}
 use Rattle.project_journal.proofs.Picked.{picked_once}
 use Rattle.project_journal.proofs.ReadOnce.{read_form}
-use Rattle.project_state.specs.Kept as keeping
-use Rattle.project_state.specs.Kept.{Begins, Kept, LeadIn, Keeps, history_blocks, opened, version_of}
+use Rattle.record_body.specs.Kept as keeping
+use Rattle.record_body.specs.Kept.{Begins, Kept, LeadIn, Keeps, opened, version_of}
+use Rattle.project_state.specs.Meaning.{history_blocks}
 use Rattle.sample_block.specs.Sources.{sources_of, IsWhole}
-use Rattle.project_state.proofs.KeptBounds.{all_append}
-use Rattle.project_state.proofs.KeptOnce.{begins_once}
-use Rattle.project_state.proofs.Leading.{lead_once_in}
+use Rattle.record_body.proofs.KeptBounds.{all_append}
+use Rattle.record_body.proofs.KeptOnce.{begins_once}
+use Rattle.record_body.proofs.Leading.{lead_once_in}
 use Rattle.project_state.proofs.Meanings.{same_meaning, IsSame}
-use Rattle.project_state.proofs.Unnumbered.{history_blocks_alike}
+use Rattle.record_body.proofs.Unnumbered.{history_blocks_alike}
 use Rattle.record_fold.specs.Bases.{base_of}
 use Rattle.record_fold.specs.Faults.{first_fault_in, journal_fault}
 use Rattle.record_fold.proofs.HeaderSound.{points_sound}
@@ -239,7 +240,10 @@ file_same c d b whole same =
 form_again : (form : Form) → IsForm form → form_of (version_of form) form.file ≡ form
 form_again form known = ⊎_elim
     (λ one. ap (λ (f : Form). form_of (version_of f) form.file) one ∙ sym one)
+    (λ later. ⊎_elim
     (λ two. ap (λ (f : Form). form_of (version_of f) form.file) two ∙ sym two)
+    (λ three. ap (λ (f : Form). form_of (version_of f) form.file) three ∙ sym three)
+    later)
     known
 
 -- Over an honest disk, calls that write nothing, and an answer that is right of the disk as it reads.

@@ -14,8 +14,8 @@ use Rattle.block_ledger.specs.Counts.{Counts, occurrences}
 use Rattle.block_ledger.specs.Entries.{count_of}
 use Rattle.clip_track.specs.Clips.{layout_blocks}
 use Rattle.project_state.specs.declared.track.Track.{Track}
-use Rattle.project_state.specs.Kept.{history_blocks, point_blocks}
-use Rattle.project_state.specs.KeptSound.{IsSoundTagged}
+use Rattle.project_state.specs.Meaning.{history_blocks, point_blocks}
+use Rattle.record_body.specs.KeptSound.{IsSoundTagged}
 use Rattle.layout_uses.specs.declared.tally.Tally.{Tally}
 use Rattle.layout_uses.specs.Layouts.{history_tracks, points_tracks, track_blocks}
 use Rattle.layout_uses.specs.Occurrences.{HasIds, times_named}
@@ -150,7 +150,7 @@ each_few m block track commit (p ∷ ps) all =
 
 -- no id is named more often than a count can say
 pub times_few : (m block track commit : ℕ) (h : History (List Track))
-    → AllByRecursion (IsSoundTagged m block track commit) h.points → length h.points ≤ 4096 → (id : ℕ)
+    → AllByRecursion (IsSoundTagged m block track commit) h.points → length h.points ≤ 65536 → (id : ℕ)
     → times_named id (history_blocks h) < 2 ^ 128
 times_few m block track commit h all few id = omega (
   arith,
@@ -177,7 +177,7 @@ each_short m block track commit (p ∷ ps) all = (all.0.0.few, each_short m bloc
 
 -- and no more tracks are there
 pub tracks_few : (m block track commit : ℕ) (h : History (List Track))
-    → AllByRecursion (IsSoundTagged m block track commit) h.points → length h.points ≤ 4096
+    → AllByRecursion (IsSoundTagged m block track commit) h.points → length h.points ≤ 65536
     → length (history_tracks h) < 2 ^ 128
 tracks_few m block track commit h all few =
     omega (arith, few, points_short h.points (each_short m block track commit h.points all))

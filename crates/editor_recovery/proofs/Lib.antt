@@ -1,6 +1,7 @@
 pub mod Listed
 pub mod Counted
 pub mod Wrong
+pub mod Searched
 pub mod Points
 pub mod Ledgers
 pub mod Plain

@@ -10,8 +10,8 @@ use Rattle.pcm_base.specs.declared.block.BlockRef.{BlockRef}
 use Rattle.disk_model.specs.Disk.{Files, bytes_of}
 use Rattle.sample_block.specs.Spelling.{IsBlock, size_of}
 use Rattle.project_state.specs.declared.track.Track.{Track}
-use Rattle.project_state.specs.Kept.{point_blocks}
-use Rattle.project_state.proofs.KeptBounds.{IsBlockRef}
+use Rattle.project_state.specs.Meaning.{point_blocks}
+use Rattle.record_body.proofs.KeptBounds.{IsBlockRef}
 use Rattle.editor_recovery.specs.declared.fault.OpenFault.{OpenFault}
 use Rattle.editor_recovery.specs.Listing.{AreFiles}
 use Rattle.editor_recovery.specs.Finding.{TestsMeasured}

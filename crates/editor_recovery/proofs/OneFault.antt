@@ -10,7 +10,8 @@ use Rattle.project_journal.specs.Header.{Form, first_failed, form_of}
 use Rattle.project_journal.specs.Journal.{IsRead}
 use Rattle.project_journal.proofs.Picked.{no_choice_fault, picked_once}
 use Rattle.project_journal.proofs.ReadOnce.{read_form, read_once, read_sound}
-use Rattle.project_state.specs.Kept.{Kept, history_blocks}
+use Rattle.record_body.specs.Kept.{Kept}
+use Rattle.project_state.specs.Meaning.{history_blocks}
 use Rattle.record_fold.specs.Faults.{journal_fault}
 use Rattle.editor_recovery.specs.Laws.{HasOneFault}
 use Rattle.editor_recovery.specs.Opening.{HeaderFault, RecordFault, SizeFault}

@@ -13,7 +13,9 @@ use Rattle.project_journal.specs.Reader.{IsStored}
 use Rattle.project_journal.specs.declared.fault.Damaged.{Damaged}
 use Rattle.project_journal.specs.declared.reader.Reader.{Reader}
 use Rattle.project_journal.proofs.Found.{journal_generation, log_there, read_whole, stored_here}
-use Rattle.project_state.specs.Kept.{history_blocks, version_of}
+use Rattle.project_state.specs.Meaning.{history_blocks}
+use Rattle.record_body.specs.Kept.{version_of}
+use Rattle.layout_uses.specs.declared.numbering.Numbered.{Numbered}
 use Rattle.record_fold.specs.Bases.{base_of}
 use Rattle.record_fold.specs.Folds.{kept_of}
 use Rattle.editor_recovery.specs.declared.disk.Disk.{Disk}
@@ -120,7 +122,7 @@ measured files sizes bs (Err (fault.Damaged file at want have)) same tests =
 -- a block's file that has not its size
 pub unsized : (files : Files) (form : Form) (j : Contents) (listed : List ℕ) (f : Folded) (e : OpenFault)
     → IsRead files form j listed → IsFoldOf form j f
-    → TestsSizes {T = Unit {0}} files (history_blocks f.project.history.history) (Err e) → Opens files (Err e)
+    → TestsSizes {T = Numbered} files (history_blocks f.project.history.history) (Err e) → Opens files (Err e)
 unsized files form j listed f fault.Absent is fold tests = absurd tests
 unsized files form j listed f fault.Exists is fold tests = absurd tests
 unsized files form j listed f fault.DiskFault is fold tests = tt

@@ -6,16 +6,17 @@ use Rattle.std.specs.Prelude.{slice_index}
 use Rattle.std.specs.List.{AllByRecursion}
 use Rattle.pcm_base.specs.History.{History, amended, edited, ending_with, is_of_recording, kept, recorded, tags_of}
 use Rattle.project_journal.specs.Journal.{Log}
-use Rattle.project_state.specs.declared.body.Body.{Body}
-use Rattle.project_state.specs.declared.body.Body.TheVariants.{Edit, Undo, Redo, Purge}
+use Rattle.record_body.specs.declared.body.Body.{Body}
+use Rattle.record_body.specs.declared.body.Body.TheVariants.{Edit, Undo, Redo, Purge}
 use Rattle.project_state.specs.declared.track.Track.{Track}
-use Rattle.project_state.specs.Kept.{Begins, BeginsBy, Kept, LeadIn, after_body, before_of, history_blocks}
-use Rattle.project_state.specs.KeptSound.{IsSoundPoint, IsSoundTagged}
+use Rattle.record_body.specs.Kept.{Begins, BeginsBy, Kept, LeadIn, after_body, before_of}
+use Rattle.project_state.specs.Meaning.{history_blocks}
+use Rattle.record_body.specs.KeptSound.{IsSoundPoint, IsSoundTagged}
 use Rattle.project_state.specs.Numbers.{AreUnnumbered, unnumbered, unnumbered_history}
-use Rattle.project_state.specs.Sound.{AllSoundTracks, IsSound}
+use Rattle.record_body.specs.Sound.{AllSoundTracks, IsSound}
 use Rattle.project_state.specs.Tracks.{AreAbove}
-use Rattle.project_state.proofs.KeptBounds.{all_append, next_sound}
-use Rattle.project_state.proofs.Unnumbered.{history_blocks_alike, sound_alike}
+use Rattle.record_body.proofs.KeptBounds.{all_append, next_sound}
+use Rattle.record_body.proofs.Unnumbered.{history_blocks_alike, sound_alike}
 use Rattle.std.proofs.lemmas.List.{length-map}
 
 -- a point with its tag

@@ -8,13 +8,13 @@ use Rattle.std.proofs.lemmas.List.{length-map}
 use Rattle.std.proofs.lemmas.Option.{slice_get_within, slice_get-get_or, slice_get-map}
 use Rattle.std.proofs.lemmas.List.Elements.{All-from_recursion, recursion_from_All, All-get_or, All-contains}
 use Rattle.std.proofs.lemmas.List.Elements.{Contains-append_right}
-use Rattle.project_state.proofs.Parts.{drop_some}
+use Rattle.project_state.proofs.Points.{drop_some}
 use Rattle.pcm_base.specs.declared.block.BlockRef.{BlockRef}
 use Rattle.pcm_base.specs.History.{point_of}
 use Rattle.sample_block.specs.Spelling.{IsBlock}
 use Rattle.project_state.specs.declared.track.Track.{Track}
-use Rattle.project_state.specs.Kept.{point_blocks}
-use Rattle.project_state.proofs.KeptBounds.{all_append, IsBlockRef}
+use Rattle.project_state.specs.Meaning.{point_blocks}
+use Rattle.record_body.proofs.KeptBounds.{all_append, IsBlockRef}
 use Rattle.editor_recovery.specs.Sizes.{first_wrong}
 use Rattle.editor_recovery.proofs.Wrong.{found_wrong, FoundOne, Found}
 use Rattle.std.proofs.Common.{⊎_elim}

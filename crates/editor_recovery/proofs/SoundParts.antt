@@ -2,7 +2,7 @@
 use Rattle.std.proofs.Common.{◌≡◌, ℕ, ◌≤◌, List, Result, Ok, Err, sym, subst, ◌∙◌, arith}
 use Rattle.std.specs.Prelude.{None, IfOk, find}
 use Rattle.block_ledger.specs.Entries.{count_of}
-use Rattle.project_state.specs.Kept.{history_blocks}
+use Rattle.project_state.specs.Meaning.{history_blocks}
 use Rattle.editor_core.specs.Scans.{HaveOneLength}
 use Rattle.editor_recovery.specs.Files.{is_foreign}
 use Rattle.editor_recovery.proofs.Ledgers.{given}
@@ -11,8 +11,8 @@ use Rattle.std.specs.List.{All}
 use Rattle.std.proofs.lemmas.List.Elements.{All-weaker, recursion_from_All}
 use Rattle.project_journal.specs.Header.{IsFormat}
 use Rattle.project_state.specs.declared.track.Track.{Track}
-use Rattle.project_state.specs.KeptSound.{IsSoundTagged}
-use Rattle.project_state.proofs.KeptBounds.{tagged_more}
+use Rattle.record_body.specs.KeptSound.{IsSoundTagged}
+use Rattle.record_body.proofs.KeptBounds.{tagged_more}
 use Rattle.editor_recovery.specs.declared.disk.Folded.{Folded}
 use Rattle.editor_core.specs.declared.assembly.Parts.{Parts}
 use Rattle.editor_recovery.specs.declared.fault.OpenFault.{OpenFault}

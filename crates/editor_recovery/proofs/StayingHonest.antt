@@ -15,9 +15,9 @@ use Rattle.sample_block.specs.Blocks.{block_in, blocks}
 use Rattle.project_journal.specs.Gate.{EachNow}
 use Rattle.project_journal.proofs.Kept.{each_has}
 use Rattle.project_journal.proofs.Parses.{form_known}
-use Rattle.project_state.specs.Kept as keeping
-use Rattle.project_state.specs.Kept.{history_blocks}
-use Rattle.project_state.proofs.Unnumbered.{history_blocks_alike}
+use Rattle.record_body.specs.Kept as keeping
+use Rattle.project_state.specs.Meaning.{history_blocks}
+use Rattle.record_body.proofs.Unnumbered.{history_blocks_alike}
 use Rattle.editor_core.specs.Core.{Core, form_at}
 use Rattle.editor_core.specs.Left.{LeavesOthers, MayRemove}
 use Rattle.editor_core.specs.Studios.{IsDurable, IsHeld, IsStudio, clip_blocks, pin_blocks, shown}

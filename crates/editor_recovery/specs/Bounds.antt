@@ -1,5 +1,5 @@
 -- What holds of the parts of every project that is opened, over any store.
-use Rattle.project_state.specs.Kept.{history_blocks}
+use Rattle.project_state.specs.Meaning.{history_blocks}
 use Rattle.editor_core.specs.Parts.{AreParts}
 use Rattle.editor_core.specs.Scans.{HaveOneLength}
 use Rattle.editor_core.specs.declared.assembly.Parts.{Parts}

@@ -10,7 +10,8 @@ use Rattle.block_store.specs.declared.fault.BlockFault.{BlockFault}
 use Rattle.block_store.specs.declared.fault.BlockFault.TheVariants as block
 use Rattle.block_store.specs.Reads.{Counted}
 use Rattle.project_journal.specs.Gate.{EachSince}
-use Rattle.project_state.specs.Kept.{Keeps, history_blocks}
+use Rattle.record_body.specs.Kept.{Keeps}
+use Rattle.project_state.specs.Meaning.{history_blocks}
 use Rattle.editor_core.specs.Core.{Core}
 use Rattle.editor_core.specs.Scans.{AreIdsOf, BlockScanned, Differs, HaveOneLength}
 use Rattle.editor_core.specs.Studios.{IsHeld, IsStudio, shown, studio_of}

@@ -4,7 +4,7 @@ use Rattle.pcm_base.specs.History.{history_of_one}
 use Rattle.disk_model.specs.Disk.{Files}
 use Rattle.disk_model.specs.Frames.{Kept}
 use Rattle.disk_model.specs.declared.store.Store.{Ghosts}
-use Rattle.project_state.specs.Kept.{Opened}
+use Rattle.record_body.specs.Kept.{Opened}
 use Rattle.editor_recovery.specs.declared.fault.OpenFault.{OpenFault}
 use Rattle.editor_recovery.specs.declared.fault.OpenFault.TheVariants as fault
 use Rattle.editor_recovery.specs.Files.{IsFirstForeign, NoForeign}

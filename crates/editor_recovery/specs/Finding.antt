@@ -2,6 +2,7 @@
 use Rattle.std.specs.Prelude.{◌≡◌, ℕ, ◌≤◌, None, Some, List, [], map, Result, Ok, Err}
 use Rattle.pcm_base.specs.declared.limits.TheConstants.{COUNTER_LIMIT, LEAST_END}
 use Rattle.pcm_base.specs.declared.block.BlockRef.{BlockRef}
+use Rattle.pcm_base.specs.History.{History}
 use Rattle.disk_model.specs.Disk.{Files}
 use Rattle.sample_block.specs.Spelling.{size_of}
 use Rattle.disk_model.specs.declared.store.Store.{Ghosts}
@@ -11,8 +12,10 @@ use Rattle.project_journal.specs.Header.{Form, IsFormat}
 use Rattle.project_journal.specs.Journal.{Contents, body_at, log_of}
 use Rattle.project_journal.specs.Reader.{IsStored}
 use Rattle.block_ledger.specs.Entries.{count_of}
-use Rattle.project_state.specs.Kept.{Begins, LeadIn, version_of}
+use Rattle.record_body.specs.Kept.{Begins, LeadIn, version_of}
 use Rattle.project_state.specs.Numbers.{unnumbered_history}
+use Rattle.project_state.specs.declared.track.Track.{Track}
+use Rattle.layout_uses.specs.declared.numbering.Numbered.{Numbered}
 use Rattle.layout_uses.specs.Layouts.{AreDrawn, AreNumbered, history_tracks}
 use Rattle.layout_uses.specs.Tallies.{IsTally}
 use Rattle.record_fold.specs.Bases.{base_of}
@@ -66,6 +69,13 @@ pub record IsSoundFolded (f : Folded) : Type 0 where
   pub journal : AreJournalNumbers f.file f.version f.generation
   pub end_least : LEAST_END ≤ f.end
   pub end_most : f.end ≤ COUNTER_LIMIT
+
+-- the history with numbers for its layouts, and the number that the next new layout gets
+pub record AreNumbersOf (h : History (List Track)) (n : Numbered) : Type 0 where
+  pub same : unnumbered_history n.history.history ≡ unnumbered_history h
+  pub numbered : AreNumbered (history_tracks n.history.history)
+  pub drawn : AreDrawn n.next (history_tracks n.history.history)
+  pub most : n.next ≤ COUNTER_LIMIT
 
 -- no file has another size than its block asks, by the sizes that were measured, or the first that has
 abbrev pub TestsMeasured : {T : Type 0} → (ℕ → ℕ) → List BlockRef → Result T OpenFault → Type 0

@@ -7,8 +7,9 @@ use Rattle.sample_block.specs.Blocks.{blocks}
 use Rattle.project_journal.specs.Gate.{EachNow}
 use Rattle.project_journal.specs.Header.{Form}
 use Rattle.project_journal.specs.Journal.{Log}
-use Rattle.project_state.specs.Kept as kept
-use Rattle.project_state.specs.Kept.{Kept, history_blocks, opened, Keeps}
+use Rattle.record_body.specs.Kept as kept
+use Rattle.record_body.specs.Kept.{Kept, opened, Keeps}
+use Rattle.project_state.specs.Meaning.{history_blocks}
 use Rattle.editor_recovery.specs.declared.fault.OpenFault.{OpenFault}
 use Rattle.editor_recovery.specs.declared.fault.OpenFault.TheVariants as fault
 use Rattle.editor_recovery.specs.Files.{NoForeign}

@@ -9,7 +9,8 @@ use Rattle.project_journal.specs.Choice.{HasChoiceFault, IsPicked}
 use Rattle.project_journal.specs.Header.{Form, IsForm}
 use Rattle.project_journal.specs.Journal.{Log, Contents, IsRead}
 use Rattle.project_journal.specs.Opening.{HasHeaderFault}
-use Rattle.project_state.specs.Kept.{Kept, history_blocks, version_of}
+use Rattle.record_body.specs.Kept.{Kept, version_of}
+use Rattle.project_state.specs.Meaning.{history_blocks}
 use Rattle.project_state.specs.Numbers.{unnumbered_history}
 use Rattle.layout_uses.specs.Layouts.{AreDrawn, AreNumbered, history_tracks}
 use Rattle.layout_uses.specs.Tallies.{AreCounts}

@@ -4,7 +4,7 @@ use Rattle.disk_model.specs.Disk.{Files, bytes_of}
 use Rattle.project_journal.specs.Header.{Form, IsForm, IsProject}
 use Rattle.project_journal.specs.Journal.{Log, HasLog}
 use Rattle.project_journal.specs.Start.{NoProject}
-use Rattle.project_state.specs.Kept.{Kept, Begins, LeadIn, version_of}
+use Rattle.record_body.specs.Kept.{Kept, Begins, LeadIn, version_of}
 
 -- a project is there, or none
 abbrev pub HasSome : Files → Type 0

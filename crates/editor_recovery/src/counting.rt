@@ -3,7 +3,7 @@ ghost use Rattle.std.specs.Prelude.{◌≡◌, ◌⊎◌, ◌+◌, ◌^◌, ◌�
 ghost use Rattle.std.specs.List.{AllByRecursion};
 ghost use Rattle.block_ledger.specs.Counts.{SetsCount};
 ghost use Rattle.block_ledger.specs.Entries.{count_of};
-ghost use Rattle.project_state.specs.Kept.{history_blocks};
+ghost use Rattle.project_state.specs.Meaning.{history_blocks};
 ghost use Rattle.layout_uses.specs.Layouts.{history_tracks};
 ghost use Rattle.layout_uses.specs.Occurrences.{times_named};
 ghost use Rattle.layout_uses.specs.Tallies.{IsTally};

@@ -5,11 +5,11 @@ ghost use Rattle.pcm_base.specs.declared.limits.TheConstants.{FIRST_RECORD};
 ghost use Rattle.disk_model.specs.Disk.{bytes_of, SameElsewhere};
 ghost use Rattle.disk_model.specs.Frames.{Kept, Changed};
 ghost use Rattle.project_journal.specs.Gate.{EachNow, EachSince, IsDurable};
-ghost use Rattle.project_journal.specs.Header.{IsFormat, IsProject, form_2};
+ghost use Rattle.project_journal.specs.Header.{IsFormat, IsProject, form_3};
 ghost use Rattle.project_journal.specs.Journal.{HasLog, IsAt, fresh};
 ghost use Rattle.project_journal.specs.Rooms.{create_room};
 ghost use Rattle.project_journal.specs.Start.{NoProject, IsFront};
-ghost use Rattle.project_state.specs.Kept.{Keeps};
+ghost use Rattle.record_body.specs.Kept.{Keeps};
 ghost use Rattle.editor_recovery.specs.Causes.{Causes};
 ghost use Rattle.editor_recovery.specs.Creating.{Creates, HasNoForeign, IsCreateRefusal, LeavesRefused, new_opened};
 ghost use Rattle.editor_recovery.specs.Honest.{IsHonest};
@@ -96,11 +96,11 @@ fn make<S: Store>(store: &mut S, rate: u32, block_size: u32, depth: u32) -> Resu
     requires { IsFormat rate block_size depth }
     ensures any_moment { IsTrue (S.tells store.old) → NoProject 1 (S.reads store.old) → EachSince S.Store store.old store.new
         (λ c. S.may_leave store.old (S.clock store.old) c
-        ⊎ (NoProject 0 c ⊎ HasLog (form_2 0) (fresh rate block_size depth) c)) }
+        ⊎ (NoProject 0 c ⊎ HasLog (form_3 0) (fresh rate block_size depth) c)) }
     ensures other_moment { IsTrue (S.tells store.old) → NoProject 1 (S.reads store.old)
         → EachSince S.Store store.old store.new (λ c. S.may_leave store.old (S.clock store.old) c ⊎ NoProject 1 c) }
     ensures done { IsTrue (S.tells store.old) → NoProject 1 (S.reads store.old)
-        → OnOk result (IsAt (form_2 0) S.Store store.new FIRST_RECORD (fresh rate block_size depth)) }
+        → OnOk result (IsAt (form_3 0) S.Store store.new FIRST_RECORD (fresh rate block_size depth)) }
     ensures answer { IsTrue (S.tells store.old) → NoProject 0 (S.reads store.old)
         → IfErr result (λ e. e ≡ OpenFault.DiskFault) }
     ensures refusals { IfErr result IsCreateRefusal }
@@ -118,7 +118,7 @@ fn make<S: Store>(store: &mut S, rate: u32, block_size: u32, depth: u32) -> Resu
 }
 
 /// Makes a project without commits, where none is there. The rate is frames a second, from 1. A largest block is so
-/// many samples, even, from 4 to 262,144. The depth is how many points a history keeps, 1 to 4,096.
+/// many samples, even, from 4 to 262,144. The depth is how many points a history keeps, 1 to 65,536.
 ///
 /// # Errors
 ///
@@ -142,9 +142,9 @@ pub fn create<S: Store>(
     ensures done { IsTrue (S.tells store.old)
         → OnOk result (Keeps (S.reads store.new) (new_opened rate block_size depth)
         × EachNow S.Store store.new (λ c. Keeps c (new_opened rate block_size depth))) }
-    // Its journal is a header of version 2 in file 0, with one point.
+    // Its journal is a header of version 3 in file 0, with one point.
     ensures journal { IsTrue (S.tells store.old)
-        → OnOk result (IsAt (form_2 0) S.Store store.new FIRST_RECORD (fresh rate block_size depth)) }
+        → OnOk result (IsAt (form_3 0) S.Store store.new FIRST_RECORD (fresh rate block_size depth)) }
     ensures answer { IsTrue (S.tells store.old) → Creates (S.reads store.old) result }
     // An honest disk stays so, whatever is answered.
     ensures honest { IsHonest S.Store store.old → IsHonest S.Store store.new }

@@ -18,7 +18,6 @@ mod measuring;
 mod opening;
 mod reading;
 mod sizes;
-mod walk;
 
 pub use checking::check;
 pub use creating::create;

@@ -1,15 +1,17 @@
 // The sizes of the files of a disk, and the first block whose file has not its size.
-ghost use Rattle.std.specs.Prelude.{◌≡◌, ◌≤◌, ◌==◌, ℕ, None, IfOk, OnOk, if◌then◌else◌};
-ghost use Rattle.std.specs.List.{All};
+ghost use Rattle.std.specs.Prelude.{◌≡◌, ◌≤◌, ◌==◌, ℕ, None, OnOk, if◌then◌else◌};
+ghost use Rattle.std.specs.List.{All, AllByRecursion};
 ghost use Rattle.pcm_base.specs.declared.limits.TheConstants.{MAX_BLOCK_SAMPLES};
 ghost use Rattle.sample_block.specs.Spelling.{IsBlock};
-ghost use Rattle.project_state.specs.Kept.{point_blocks, history_blocks};
+ghost use Rattle.clip_track.specs.Clips.{layout_blocks};
+ghost use Rattle.project_state.specs.Meaning.{point_blocks, history_blocks};
+ghost use Rattle.layout_uses.specs.Layouts.{AgreesWith, AreNumbered, history_tracks};
 ghost use Rattle.editor_recovery.specs.Measured.{size_in};
-ghost use Rattle.editor_recovery.specs.Sizes.{earlier, first_wrong, one_more};
+ghost use Rattle.editor_recovery.specs.Sizes.{AreSearched, earlier, first_wrong, one_more};
 
-use super::walk::list_blocks;
+use clip_track::Clip;
 use pcm_base::{BlockRef, NoMemory};
-use project_state::Point;
+use project_state::{Point, Track};
 use sample_block::file_size;
 use std::alloc::Global;
 use std::collections::HashMap;
@@ -81,20 +83,79 @@ fn wrong_among(sizes: &Sizes, found: Option<BlockRef>, blocks: &[BlockRef]) -> O
     found
 }
 
-/// The first block that a point names whose file has not its size.
+// The search goes on through clips.
+fn wrong_clips(sizes: &Sizes, found: Option<BlockRef>, clips: &[Clip]) -> Option<BlockRef>
+    requires { All (λ b. IsBlock b.id b.len) (layout_blocks clips.now) }
+    ensures { result ≡ first_wrong (size_in sizes.now) found (layout_blocks clips.now) }
+{
+    let mut found = found;
+    for clip in clips {
+        found = wrong_among(sizes, found, clip.blocks.as_slice());
+    }
+    found
+}
+
+// The search goes on through a track. A layout that the point before has, by its number, was searched with that point.
+fn wrong_track(
+    sizes: &Sizes,
+    found: Option<BlockRef>,
+    before: &Point,
+    track: &Track,
+) -> Option<BlockRef>
+    requires blocks { All (λ b. IsBlock b.id b.len) (layout_blocks track.now.layout) }
+    requires numbered { AgreesWith track.now before.now }
+    requires searched { AreSearched (size_in sizes.now) found (point_blocks before.now) }
+    ensures { result ≡ first_wrong (size_in sizes.now) found (layout_blocks track.now.layout) }
+{
+    match before.track(track.id) {
+        Ok(old) if old.number == track.number => found,
+        _ => wrong_clips(sizes, found, track.layout.as_slice()),
+    }
+}
+
+// The search goes on through a point, after the one before it.
+fn wrong_point(
+    sizes: &Sizes,
+    found: Option<BlockRef>,
+    before: &Point,
+    point: &Point,
+) -> Option<BlockRef>
+    requires blocks { All (λ b. IsBlock b.id b.len) (point_blocks point.now) }
+    requires numbered { AllByRecursion (λ t. AgreesWith t before.now) point.now }
+    requires searched { AreSearched (size_in sizes.now) found (point_blocks before.now) }
+    ensures { result ≡ first_wrong (size_in sizes.now) found (point_blocks point.now) }
+{
+    let mut found = found;
+    for i in 0..point.len() {
+        found = wrong_track(sizes, found, before, point.track_at(i));
+    }
+    found
+}
+
+// The search begins with a point.
+fn wrong_first(alloc: Global, sizes: &Sizes, point: &Point) -> Option<BlockRef>
+    requires { All (λ b. IsBlock b.id b.len) (point_blocks point.now) }
+    ensures { result ≡ first_wrong (size_in sizes.now) None (point_blocks point.now) }
+{
+    let none = Point::new(alloc);
+    wrong_point(sizes, None, &none, point)
+}
+
+/// The first block that a point names whose file has not its size. A layout that a point shares with the one before it
+/// is searched once. It takes no memory.
 pub(crate) fn wrong_block(
     alloc: Global,
     history: &History<Point>,
     sizes: &Sizes,
-) -> Result<Option<BlockRef>, NoMemory>
-    requires { All (λ p. All (λ b. IsBlock b.id b.len) (point_blocks p.0)) history.now.history.points }
-    ensures { IfOk result (λ found. found ≡ first_wrong (size_in sizes.now) None (history_blocks history.now.history)) }
+) -> Option<BlockRef>
+    requires blocks { All (λ p. All (λ b. IsBlock b.id b.len) (point_blocks p.0)) history.now.history.points }
+    requires numbered { AreNumbered (history_tracks history.now.history) }
+    ensures { result ≡ first_wrong (size_in sizes.now) None (history_blocks history.now.history) }
 {
-    let mut blocks = Vec::new(alloc);
-    let mut found = None;
-    for i in 0..history.len() {
-        list_blocks(history.point(i), &mut blocks)?;
-        found = wrong_among(sizes, found, &blocks);
+    let len = history.len();
+    let mut found = wrong_first(alloc, sizes, history.point(0));
+    for i in 1..len {
+        found = wrong_point(sizes, found, history.point(i - 1), history.point(i));
     }
-    Ok(found)
+    found
 }

@@ -78,3 +78,18 @@ all_but_last fs out first n is = ap (take n) is ∙ take-take n (n + 1) (drop fi
 pub last_alone : {X : Type 0} (fs out : List X) (first n : ℕ) → out ≡ take (n + 1) (drop first fs)
     → drop n out ≡ take 1 (drop (first + n) fs)
 last_alone fs out first n is = ap (drop n) is ∙ drop-take n 1 (drop first fs) ∙ ap (take 1) (drop-drop n first fs)
+
+-- of samples that were read, those before an edge and those from it on
+pub front_part : (a b c : ℕ) (xs out : List ℤ) → a ≤ b → b ≤ c → out ≡ take (c - a) (drop a xs)
+    → take (b - a) out ≡ part a b xs
+front_part a b c xs out low high is =
+    ap (take (b - a)) is ∙ take-take (b - a) (c - a) (drop a xs) (omega (arith, low, high))
+
+pub back_part : (a b c : ℕ) (xs out : List ℤ) → a ≤ b → b ≤ c → out ≡ take (c - a) (drop a xs)
+    → drop (b - a) out ≡ part b c xs
+back_part a b c xs out low high is =
+    let size : c - a ≡ (b - a) + (c - b) = omega (arith, low, high) in
+    let here : a + (b - a) ≡ b = omega (arith, low) in
+    ap (drop (b - a)) (is ∙ ap (λ (k : ℕ). take k (drop a xs)) size)
+    ∙ drop-take (b - a) (c - b) (drop a xs)
+    ∙ ap (take (c - b)) (drop-drop (b - a) a xs ∙ ap (λ (k : ℕ). drop k xs) here)

@@ -43,3 +43,10 @@ pub record IsEdgeIn (len from to k : ℕ) : Type 0 where
   pub before : LONG_FRAME * k < to
   pub behind : to < LONG_FRAME * k + LONG_FRAME
   pub inside : to < len
+
+-- a part ends inside the short frame from a place on, of a block of this many samples, and begins by that place
+pub record IsShortEdge (len from to start : ℕ) : Type 0 where
+  pub front : from ≤ start
+  pub before : start < to
+  pub behind : to < start + 256
+  pub inside : to < len

@@ -12,12 +12,13 @@ ghost use Rattle.peak_summary.specs.declared.stretch.Summary.{Summary as Sum};
 ghost use Rattle.envelope_view.specs.Parts.{Summarizes};
 ghost use Rattle.envelope_view.specs.Halves.{AreHalves, IsRest};
 
-use super::parts::{by_short, join_all};
+use super::parts::{by_short, join_all, summarize};
+use super::reads::read_samples;
 use block_cache::{Cache, read_frames_cached};
 use block_store::{BlockFault, Level};
 use disk_model::Store;
 use pcm_base::BlockRef;
-use peak_summary::{NOTHING, Summary, join};
+use peak_summary::{NOTHING, Summary, join, of};
 use sample_block::LONG_FRAME;
 
 /// How many long frames a block has at most.
@@ -190,4 +191,41 @@ pub(crate) fn up_to_edge<S: Store>(
         before,
         after: halves.after,
     })
+}
+
+/// The summaries of a part that ends at an edge inside a short frame, and of what is after the edge up to `stop`, where
+/// the frame ends: from what is before the frame, and the frame's samples, in one read.
+pub(crate) fn up_to_short_edge<S: Store>(
+    store: &mut S,
+    cache: &mut Cache,
+    block: BlockRef,
+    reach: u64,
+    from: u32,
+    start: u32,
+    edge: u32,
+    stop: u32,
+) -> Result<Halves, BlockFault>
+    requires block { IsBlock block.id block.len }
+    requires cached { IsTrue (S.tells store.old) → IsCacheOf (S.reads store.old) cache.old }
+    requires rising { from ≤ start }
+    requires before { start < edge }
+    requires behind { edge < stop }
+    requires within { stop ≤ block.len }
+    requires few { stop ≤ start + 256 }
+    ensures cache { KeepsCache (S.tells store.old) (S.reads store.old) (block ∷ []) cache.old cache.new }
+    ensures read { IsTrue (S.tells store.old)
+        → AreHalves (S.reads store.old) block (record { from = from; edge = edge; to = stop }) result }
+    ensures damaged { IsTrue (S.tells store.old)
+        → IfErr result (λ e. IsFault block.id block.len (bytes_of (S.reads store.old block.id)) e) }
+    ensures kept { Kept S.Store store.old store.new }
+    ensures faults { Counted result (S.read_fault_count store.old) (S.read_fault_count store.new) }
+{
+    let front = summarize(store, cache, block, reach, from, start)?;
+    let mut buf = [0i16; 256];
+    let samples = &mut buf[..(stop - start) as usize];
+    read_samples(store, cache, block, reach, start, samples)?;
+    let split = (edge - start) as usize;
+    let before = join(front, of(&samples[..split]));
+    let after = of(&samples[split..]);
+    Ok(Halves { before, after })
 }

@@ -6,10 +6,10 @@ ghost use Rattle.disk_model.specs.Frames.{Kept};
 ghost use Rattle.sample_block.specs.Spelling.{IsBlock};
 ghost use Rattle.block_store.specs.Reads.{Counted, IsFault};
 ghost use Rattle.block_cache.specs.Caches.{IsCacheOf, KeepsCache};
-ghost use Rattle.envelope_view.specs.Halves.{IsEdgeIn, IsKnown};
+ghost use Rattle.envelope_view.specs.Halves.{IsEdgeIn, IsKnown, IsShortEdge};
 ghost use Rattle.envelope_view.specs.Parts.{Summarizes};
 
-use super::halves::up_to_edge;
+use super::halves::{up_to_edge, up_to_short_edge};
 use super::parts::summarize;
 use block_cache::Cache;
 use block_store::BlockFault;
@@ -75,6 +75,70 @@ fn frame_at(len: u32, from: u32, to: u32, reach: u64) -> Option<u32>
     None
 }
 
+/// Where the short frame begins inside which a part ends, on the same conditions.
+fn short_start(len: u32, from: u32, to: u32, reach: u64) -> Option<u32>
+    requires within { to ≤ len }
+    ensures { IfSome result (IsShortEdge len from to) }
+{
+    let start = to / 256 * 256;
+    let stop = short_stop(len, start);
+    if from <= start && start < to && to < stop && u64::from(stop - to) <= reach {
+        return Some(start);
+    }
+    None
+}
+
+/// Where a short frame ends.
+fn short_stop(len: u32, start: u32) -> u32
+    requires { start ≤ len }
+    ensures within { result ≤ len }
+    ensures few { result ≤ start + 256 }
+    ensures last { result < start + 256 → result ≡ len }
+{
+    if len - start < 256 {
+        return len;
+    }
+    start + 256
+}
+
+/// The same where the part ends inside no long frame of which all is asked for: where it ends inside a short one, the
+/// frame's samples are read once for both sides.
+fn summarize_narrow<S: Store>(
+    store: &mut S,
+    cache: &mut Cache,
+    known: &mut Option<Known>,
+    block: BlockRef,
+    from: u32,
+    to: u32,
+    reach: u64,
+) -> Result<Summary, BlockFault>
+    requires block { IsBlock block.id block.len }
+    requires cached { IsTrue (S.tells store.old) → IsCacheOf (S.reads store.old) cache.old }
+    requires rising { from ≤ to }
+    requires within { to ≤ block.len }
+    requires known { IsTrue (S.tells store.old) → IsKnown (S.reads store.old) known.old }
+    ensures cache { KeepsCache (S.tells store.old) (S.reads store.old) (block ∷ []) cache.old cache.new }
+    ensures known { IsTrue (S.tells store.old) → IsKnown (S.reads store.old) known.new }
+    ensures read { IsTrue (S.tells store.old) → Summarizes (S.reads store.old) block from to result }
+    ensures damaged { IsTrue (S.tells store.old)
+        → IfErr result (λ e. IsFault block.id block.len (bytes_of (S.reads store.old block.id)) e) }
+    ensures kept { Kept S.Store store.old store.new }
+    ensures faults { Counted result (S.read_fault_count store.old) (S.read_fault_count store.new) }
+{
+    let Some(start) = short_start(block.len, from, to, reach) else {
+        return summarize(store, cache, block, reach, from, to);
+    };
+    let stop = short_stop(block.len, start);
+    let halves = up_to_short_edge(store, cache, block, reach, from, start, to, stop)?;
+    *known = Some(Known {
+        block,
+        from: to,
+        to: stop,
+        summary: halves.after,
+    });
+    Ok(halves.before)
+}
+
 /// The summary of a part of a block, after which at least `reach` cells more are asked for next. Where the part ends
 /// inside a long frame, what comes after it is known from then on.
 pub(crate) fn summarize_on<S: Store>(
@@ -100,7 +164,7 @@ pub(crate) fn summarize_on<S: Store>(
     ensures faults { Counted result (S.read_fault_count store.old) (S.read_fault_count store.new) }
 {
     let Some(frame) = frame_at(block.len, from, to, reach) else {
-        return summarize(store, cache, block, reach, from, to);
+        return summarize_narrow(store, cache, known, block, from, to, reach);
     };
     let stop = frame_stop(block.len, frame);
     let halves = up_to_edge(store, cache, block, reach, from, frame, to, stop)?;

@@ -21,6 +21,9 @@ use sample_block::LONG_FRAME;
 /// How many samples, or frames, are read at once.
 const PIECE: usize = 512;
 
+/// How many frames are few.
+const FEW: usize = 128;
+
 /// The summary of stretches that follow one another.
 pub(crate) fn join_all(summaries: &[Summary]) -> Summary
     ensures { result ≡ fold joined nothing summaries.now }
@@ -93,6 +96,36 @@ fn by_samples<S: Store>(
     Ok(of(samples))
 }
 
+/// From whole frames that are few: a small buffer is made sooner.
+#[inline(never)]
+fn by_few_frames<S: Store>(
+    store: &mut S,
+    cache: &mut Cache,
+    block: BlockRef,
+    reach: u64,
+    level: Level,
+    first: u32,
+    end: u32,
+) -> Result<Summary, BlockFault>
+    requires block { IsBlock block.id block.len }
+    requires cached { IsTrue (S.tells store.old) → IsCacheOf (S.reads store.old) cache.old }
+    requires rising { first ≤ end }
+    requires within { end ≤ frame_count (frame_len level) block.len }
+    requires few { end ≤ first + 128 }
+    ensures cache { KeepsCache (S.tells store.old) (S.reads store.old) (block ∷ []) cache.old cache.new }
+    ensures read { IsTrue (S.tells store.old)
+        → Summarizes (S.reads store.old) block (frame_len level * first) (frame_len level * end) result }
+    ensures damaged { IsTrue (S.tells store.old)
+        → IfErr result (λ e. IsFault block.id block.len (bytes_of (S.reads store.old block.id)) e) }
+    ensures kept { Kept S.Store store.old store.new }
+    ensures faults { Counted result (S.read_fault_count store.old) (S.read_fault_count store.new) }
+{
+    let mut buf = [NOTHING; FEW];
+    let frames = &mut buf[..(end - first) as usize];
+    read_frames(store, cache, block, reach, level, first, frames)?;
+    Ok(join_all(frames))
+}
+
 /// From whole frames, from number `first` up to `end`. It is kept out of its callers, whose other reads are slower
 /// where its buffer stands beside theirs.
 #[inline(never)]
@@ -118,6 +151,9 @@ fn by_frames<S: Store>(
     ensures kept { Kept S.Store store.old store.new }
     ensures faults { Counted result (S.read_fault_count store.old) (S.read_fault_count store.new) }
 {
+    if end - first <= FEW as u32 {
+        return by_few_frames(store, cache, block, reach, level, first, end);
+    }
     let mut buf = [NOTHING; PIECE];
     let frames = &mut buf[..(end - first) as usize];
     read_frames(store, cache, block, reach, level, first, frames)?;

@@ -1,8 +1,9 @@
 -- Numbers that layouts get.
 use Rattle.std.proofs.Common.{◌≡◌, ⊎_elim, inl, inr, refl, sym, ap, ◌∙◌, subst, ℕ, ◌≤◌, ◌<◌, List, [], ◌∷◌}
 use Rattle.std.proofs.Common.{◌++◌}
-use Rattle.std.proofs.Common.{arith, map, Some}
+use Rattle.std.proofs.Common.{arith, map, Some, length, slice_get, zero, suc}
 use Rattle.std.proofs.lemmas.Bool.{cases_eq, eq-eqb, ne_eqb}
+use Rattle.std.proofs.lemmas.List.{length-map}
 use Rattle.project_state.specs.declared.track.Track.{Track}
 use Rattle.project_state.specs.Tracks.{AllBelow, track_of}
 use Rattle.project_state.specs.Numbers.{unnumbered}
@@ -22,6 +23,12 @@ found_among id (u ∷ us) t is = ⊎_elim
     let rest : track_of id (u ∷ us) ≡ track_of id us = rw (ne_eqb id u.id ne) refl in
     inr (found_among id us t (sym rest ∙ is)))
     (cases_eq id u.id)
+
+-- a track at a place is among all
+pub at_among : (ts : List Track) (i : ℕ) (t : Track) → slice_get ts i ≡ Some t → IsAmong t ts
+at_among [] i t here = absurd cc
+at_among (u ∷ us) zero t here = let same : u ≡ t = cc in inl same
+at_among (u ∷ us) (suc i) t here = inr (at_among us i t here)
 
 -- ---- a track more at the end
 
@@ -136,3 +143,19 @@ below_same id (x ∷ xs) (y ∷ ys) same below =
     let rest : map unnumbered xs ≡ map unnumbered ys = cc in
     let ids : x.id ≡ y.id = ap (λ (t : Track). t.id) head in
     (omega (arith, ids, below.0), below_same id xs ys rest below.1)
+
+-- as many tracks
+pub same_length : (xs ys : List Track) → map unnumbered xs ≡ map unnumbered ys → length xs ≡ length ys
+same_length xs ys same = sym (length-map xs unnumbered) ∙ ap length same ∙ length-map ys unnumbered
+
+-- tracks that are heard the same way, and have the same clips, are the same but for their numbers
+pub same_but_number : (t u : Track) → t.id ≡ u.id → t.gain ≡ u.gain → t.side ≡ u.side → t.mute ≡ u.mute
+    → t.layout ≡ u.layout → unnumbered t ≡ unnumbered u
+same_but_number t u id gain side mute layout = λ k. record {
+  id = id k;
+  gain = gain k;
+  side = side k;
+  mute = mute k;
+  number = 0;
+  layout = layout k;
+}

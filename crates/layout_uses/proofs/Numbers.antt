@@ -1,13 +1,14 @@
 -- Layouts that get their numbers.
-use Rattle.std.proofs.Common.{◌≡◌, ⊎_elim, inl, inr, sym, ap, subst, ℕ, ◌+◌, ◌<◌, List, [], ◌∷◌, ◌++◌}
+use Rattle.std.proofs.Common.{◌≡◌, ⊎_elim, inl, inr, sym, ap, subst, ℕ, ◌+◌, ◌<◌, ◌==◌, List, [], ◌∷◌, ◌++◌}
 use Rattle.std.proofs.Common.{arith}
-use Rattle.std.proofs.lemmas.Bool.{cases_eq, ne_eqb}
+use Rattle.std.proofs.lemmas.Bool.{cases_Bool, cases_eq, ne_eqb}
 use Rattle.project_state.specs.declared.track.Track.{Track}
-use Rattle.project_state.specs.Tracks.{put_in}
+use Rattle.project_state.specs.Numbers.{AgreeById, AgreesIfAny}
+use Rattle.project_state.specs.Tracks.{put_in, track_of}
 use Rattle.project_state.proofs.Points.{put_same, put_other}
 use Rattle.layout_uses.specs.Laws.{AreAmong, IsAmong, NewAgrees, SharedAgree, AnyOrder}
 use Rattle.layout_uses.specs.Layouts.{Agree, AgreesWith, AreDrawn, AreNumbered}
-use Rattle.layout_uses.proofs.Moves.{agrees_both, counts_swapped}
+use Rattle.layout_uses.proofs.Moves.{agrees_back, agrees_both, counts_swapped}
 
 -- a track that is there agrees with all
 pub among_agrees : (t : Track) (ts : List Track) → AreNumbered ts → IsAmong t ts → AgreesWith t ts
@@ -83,3 +84,30 @@ new_agrees next new current ts numbered drawn e among =
 
 pub any_order : AnyOrder
 any_order xs ys zs others uses counts numbered is = counts_swapped xs ys zs others uses counts numbered is
+
+-- ---- tracks by their ids
+
+-- a track that agrees with these agrees with each of them
+agrees_one : (t u : Track) (ts : List Track) → AgreesWith t ts → IsAmong u ts → Agree t u
+agrees_one t u [] agree among = absurd among
+agrees_one t u (x ∷ xs) agree among = ⊎_elim
+    (λ same. subst (λ (y : Track). Agree t y) same agree.0)
+    (λ there. agrees_one t u xs agree.1 there)
+    among
+
+-- with the one of its id too
+agrees_found : (t : Track) (current ts : List Track) → AgreesWith t ts → AreAmong current ts
+    → AgreesIfAny (track_of t.id current) t
+agrees_found t [] ts agree among = tt
+agrees_found t (u ∷ us) ts agree among = elim (cases_Bool (t.id == u.id)) [
+  | inl same ↦ rw same (λ e some. agrees_one t u ts agree among.0 e)
+  | inr differ ↦ rw differ (agrees_found t us ts agree among.1)
+]
+
+-- Tracks that are numbered with all that are there agree with the current ones by their ids.
+pub agree_by_id : (current xs ts : List Track) → AreNumbered (xs ++ ts) → AreAmong current ts → AgreeById current xs
+agree_by_id current [] ts numbered among = tt
+agree_by_id current (x ∷ xs) ts numbered among = (
+  agrees_found x current ts (agrees_back x xs ts numbered.0) among,
+  agree_by_id current xs ts numbered.1 among,
+)

@@ -1,9 +1,10 @@
 // Layouts that get their numbers as a point is taken over from a record.
-ghost use Rattle.std.specs.Prelude.{◌≡◌, ◌+◌, ◌≤◌, ◌<◌, ◌^◌, ◌++◌, ◌∷◌, [], IsTrue, IfOk, IfSome, OnOk};
+ghost use Rattle.std.specs.Prelude.{◌≡◌, ◌+◌, ◌≤◌, ◌<◌, ◌^◌, ◌++◌, ◌∷◌, [], IsTrue, IfOk, IfSome, length, slice_get, Some};
+ghost use Rattle.pcm_base.specs.declared.limits.TheConstants.{MAX_TRACKS};
+ghost use Rattle.project_state.specs.declared.track.Track.{Track};
 ghost use Rattle.project_state.specs.Tracks.{AllBelow};
 ghost use Rattle.project_state.specs.Numbers.{unnumbered};
 ghost use Rattle.layout_uses.specs.Drawing.{Draws, DrawsPoint};
-ghost use Rattle.layout_uses.specs.Laws.{IsAmong};
 
 use clip_track::Clip;
 use pcm_base::{BlockRef, NoMemory};
@@ -40,14 +41,26 @@ fn same_clips(a: &[Clip], b: &[Clip]) -> bool
     true
 }
 
-// The current track of the same id, where it has the same layout.
-fn same_layout<'a>(track: &Track, current: &'a Point) -> Option<&'a Track>
-    ensures { IfSome result (λ t. IsAmong t.now current.now × (t.now.layout ≡ track.now.layout)) }
+// Where the current point has a track of the same id with the same layout.
+fn like_at(track: &Track, current: &Point) -> Option<usize>
+    ensures within { IfSome result (λ i. i < length current.now) }
+    ensures like { IfSome result (λ i. (t : Track) → slice_get current.now i ≡ Some t
+        → (t.id ≡ track.now.id) × (t.layout ≡ track.now.layout)) }
 {
-    match current.track(track.id) {
-        Ok(old) if same_clips(old.layout.as_slice(), track.layout.as_slice()) => Some(old),
-        _ => None,
+    for i in 0..current.len() {
+        let old = current.track_at(i);
+        if old.id == track.id && same_clips(old.layout.as_slice(), track.layout.as_slice()) {
+            return Some(i);
+        }
     }
+    None
+}
+
+// Whether tracks are heard the same way.
+fn same_settings(a: &Track, b: &Track) -> bool
+    ensures { IsTrue result → (a.now.gain ≡ b.now.gain) × (a.now.side ≡ b.now.side) × (a.now.mute ≡ b.now.mute) }
+{
+    a.gain == b.gain && a.side == b.side && a.mute == b.mute
 }
 
 // The track with this number, and with the layout of another one, which both share then.
@@ -64,14 +77,26 @@ fn with_layout(track: &Track, number: u64, like: &Track) -> Result<Track, NoMemo
     })
 }
 
-// A track with a number: that of the current track of its id, where that one has the same layout; else the next one.
-fn number_track(track: &Track, current: &Point, next: u64) -> Result<Track, NoMemory>
-    ensures { IfOk result (λ t. (unnumbered t ≡ unnumbered track.now) × Draws t.layout current.now next t.number) }
+// Puts a track after the others: with the number of the current track of its id, where that one has the same layout, or
+// with the next number. A track that is the current one but for its number is that one, which both points have then.
+// It returns the number.
+fn draw_track(point: &mut Point, track: &Track, current: &Point, next: u64) -> Result<u64, NoMemory>
+    requires above { AllBelow track.now.id point.old }
+    requires few { length point.old < MAX_TRACKS }
+    ensures { IfOk result (λ number. (t : Track) × (point.new ≡ point.old ++ t ∷ [])
+        × (unnumbered t ≡ unnumbered track.now) × (t.number ≡ number) × Draws t.layout current.now next number) }
 {
-    match same_layout(track, current) {
-        Some(old) => with_layout(track, old.number, old),
-        None => with_layout(track, next, track),
+    let Some(i) = like_at(track, current) else {
+        point.push(with_layout(track, next, track)?)?;
+        return Ok(next);
+    };
+    let old = current.track_at(i);
+    if same_settings(old, track) {
+        point.share(current, i)?;
+        return Ok(old.number);
     }
+    point.push(with_layout(track, old.number, old)?)?;
+    Ok(old.number)
 }
 
 // The next number, where this one may be it.
@@ -91,19 +116,9 @@ pub struct Drawn {
     pub next: u64,
 }
 
-// Puts a track after the others.
-fn add_track(point: &mut Point, track: Track) -> Result<(), NoMemory>
-    requires { AllBelow track.id point.old }
-    ensures { OnOk result (point.new ≡ point.old ++ track ∷ []) }
-{
-    match point.add(track) {
-        Ok(()) => Ok(()),
-        Err(_) => Err(NoMemory),
-    }
-}
-
 /// The point that a record says, as it stands after the current one: each layout that the current point's track of the
-/// same id has too is that one, with its number, and each other gets a number of its own.
+/// same id has too is that one, with its number, and each other gets a number of its own. A track that is the current
+/// point's but for its number is that one, which both points have then.
 ///
 /// # Errors
 ///
@@ -120,9 +135,8 @@ pub fn draw_numbers(
     let mut point = Point::new(alloc);
     let mut after = next;
     for i in 0..tracks.len() {
-        let track = number_track(tracks.track_at(i), current, after)?;
-        after = next_after(track.number, after);
-        add_track(&mut point, track)?;
+        let number = draw_track(&mut point, tracks.track_at(i), current, after)?;
+        after = next_after(number, after);
     }
     Ok(Drawn { point, next: after })
 }

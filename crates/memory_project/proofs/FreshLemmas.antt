@@ -7,10 +7,10 @@ use Rattle.disk_model.specs.Frames.{Changed}
 use Rattle.disk_model.specs.Room.{IsWithin}
 use Rattle.disk_model.specs.declared.store.Store.{Ghosts}
 use Rattle.project_journal.specs.Gate.{EachNow}
-use Rattle.project_journal.specs.Header.{form_2}
+use Rattle.project_journal.specs.Header.{form_3}
 use Rattle.project_journal.specs.Journal.{IsAt, fresh}
 use Rattle.project_journal.specs.Rooms.{create_room}
-use Rattle.project_state.specs.Kept.{Keeps}
+use Rattle.record_body.specs.Kept.{Keeps}
 use Rattle.editor_recovery.specs.declared.fault.OpenFault.{OpenFault}
 use Rattle.editor_recovery.specs.declared.fault.OpenFault.TheVariants as fault
 use Rattle.editor_recovery.specs.Causes.{Causes}
@@ -57,7 +57,7 @@ module _ {D : Type 0} (disk : Ghosts D) (p : FreshProject) (can : CanBeMade p) (
       absurd (absent (disk.reads new (suc n)) (changed.reads empty.tells (suc n) other ∙ empty.none (suc n)) some)
 
   pub is_made : IsHonest disk new → Keeps (disk.reads new) (found_of p) → EachNow disk new (λ c. Keeps c (found_of p))
-      → IsAt (form_2 0) disk new 80 (fresh p.rate p.block_size p.depth) → IsMade disk p new
+      → IsAt (form_3 0) disk new 80 (fresh p.rate p.block_size p.depth) → IsMade disk p new
   is_made honest keeps each at = record {
     tells = subst IsTrue (sym changed.tells) empty.tells;
     honest = honest;

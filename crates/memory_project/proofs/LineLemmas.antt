@@ -13,7 +13,7 @@ use Rattle.pcm_base.specs.declared.refusal.Refusal.TheVariants as refusal
 use Rattle.pcm_base.specs.Causes.{Rose}
 use Rattle.pcm_base.specs.Counters.{Needs, commits_of, places_of}
 use Rattle.pcm_base.specs.Refusals.{◌otherwise◌}
-use Rattle.pcm_base.specs.Run.{Answers, Breaks, CarriesOut, ChangeFailed, DiskFails, ReadFailed, Refuses}
+use Rattle.pcm_base.specs.Run.{Answers, Breaks, CarriesOut, ChangeFailed, DiskFails, LeavesAll, ReadFailed, Refuses}
 use Rattle.pcm_base.specs.Run.{may_change, name_in_line, outside, refusal_of, stop_of}
 use Rattle.pcm_base.specs.Studio.{Studio}
 use Rattle.disk_model.specs.Frames.{asked}
@@ -38,6 +38,7 @@ use Rattle.memory_project.proofs.RoomLemmas.{Takes, asked_by, room_left}
 names_none : (c : Command) → IsOfScript c → name_in_line c ≡ None
 names_none c kind =
     none_named c (λ name is. subst IsOfScript is kind) (λ name is. subst IsOfScript is kind)
+    (λ name is. subst IsOfScript is kind)
 
 -- and none packs the journal
 packs_none : (c : Command) → IsOfScript c → packs (Line c) ≡ 0
@@ -64,26 +65,34 @@ told_sound f (Err why) sound = sound
 
 -- ---- why there is no answer
 
--- A line that no test refuses, that names no sound, meets no damage and no fault of the disk has no answer for want of
--- memory alone.
-module _ (t u : Studio) (c : Command) (names : name_in_line c ≡ None) (no_fault : DiskFails t (Line c) silent u → ⊥)
-  where
-    breaks : (why : Refusal) → IsUndamaged why → Breaks t (Line c) silent why u → (why ≡ refusal.NoMemory) × (u ≡ t)
-    breaks (refusal.Damaged file at want have) sound b = absurd sound
-    breaks refusal.DiskFault sound b = absurd (no_fault b)
-    breaks refusal.VaultFault sound b = absurd (absent (name_in_line c) names b.0)
-    breaks refusal.NoMemory sound b = (refl, b.same)
-    breaks why sound b = absurd b
+-- A line that no test refuses, that names no sound, purges to no size, meets no damage and no fault of the disk has no
+-- answer for want of memory alone.
+module _ (t u : Studio) (c : Command) (names : name_in_line c ≡ None)
+    (no_purge : (bytes : ℕ) → c ≡ command.PurgeTo bytes → ⊥) (no_fault : DiskFails t (Line c) silent u → ⊥) where
+  line_or : Call → Command
+  line_or (Line d) = d
+  line_or other = c
 
-    pub no_answer : (why : Refusal) → IsUndamaged why
-        → ((blocks len : ℕ) → Needs (outside t silent) t (Line c) blocks len →
-        refusal_of (outside t silent) t (Line c) blocks len ≡ None)
-        → Answers t (Line c) silent (Err why) u → (why ≡ refusal.NoMemory) × (u ≡ t)
-    no_answer why sound passes answers = ⊎_elim
-        (λ (r : Refuses t (Line c) silent why u).
-        absurd (none-some why (sym (passes r.blocks r.len r.needs) ∙ r.first)))
-        (λ (b : Breaks t (Line c) silent why u). breaks why sound b)
-        answers
+  breaks : (why : Refusal) → IsUndamaged why → Breaks t (Line c) silent why u → (why ≡ refusal.NoMemory) × (u ≡ t)
+  breaks (refusal.Damaged file at want have) sound b = absurd sound
+  breaks refusal.DiskFault sound b = absurd (no_fault b)
+  breaks refusal.VaultFault sound b = absurd (absent (name_in_line c) names b.0)
+  breaks refusal.NoMemory sound b = (refl, b.same)
+  breaks why sound b = absurd b
+
+  pub no_answer : (why : Refusal) → IsUndamaged why
+      → ((blocks len : ℕ) → Needs (outside t silent) t (Line c) blocks len →
+      refusal_of (outside t silent) t (Line c) blocks len ≡ None)
+      → Answers t (Line c) silent (Err why) u → (why ≡ refusal.NoMemory) × (u ≡ t)
+  unfolding line_or
+  no_answer why sound passes answers = ⊎_elim
+      (λ (r : Refuses t (Line c) silent why u).
+      absurd (none-some why (sym (passes r.blocks r.len r.needs) ∙ r.first)))
+      (λ rest. ⊎_elim
+      (λ (left : LeavesAll t (Line c) silent why u). absurd (no_purge left.bytes (ap line_or left.line)))
+      (λ (b : Breaks t (Line c) silent why u). breaks why sound b)
+      rest)
+      answers
 
 -- a count that is 0 has not risen
 rose_not : (old new : ℕ) → old ≡ 0 → new ≡ 0 → Rose old new → ⊥
@@ -216,7 +225,8 @@ module _ {D : Type 0} (disk : Ghosts D) (old new : Core D) (c : Command) (may : 
 
   pub line_wants : (why : Refusal) → Took disk old (quietly (Line c) (Err why)) new → IsUndamaged why
       → (why ≡ refusal.NoMemory) × (u ≡ t)
-  line_wants why took sound = no_answer t u c (names_none c may.kind) no_fault why sound (may.valid silent)
+  line_wants why took sound = no_answer t u c (names_none c may.kind)
+      (λ bytes is. subst IsOfScript is may.kind) no_fault why sound (may.valid silent)
       (took.step may.held)
     where
       no_fault : DiskFails t (Line c) silent u → ⊥

@@ -10,14 +10,14 @@ use Rattle.disk_model.specs.Room.{IsWithin, Room}
 use Rattle.disk_model.specs.declared.store.Store.{Ghosts}
 use Rattle.pcm_base.specs.Studio as model
 use Rattle.project_journal.specs.Gate.{EachNow}
-use Rattle.project_journal.specs.Header.{Form, IsForm, form_2}
+use Rattle.project_journal.specs.Header.{Form, IsForm, form_3}
 use Rattle.project_journal.specs.Journal.{Entry, HasLog, IsAt, IsLog, Log, body_of, entry, fresh}
 use Rattle.project_journal.proofs.Bases.{length-head}
 use Rattle.project_journal.proofs.Chosen.{IsOne, one_journal}
 use Rattle.project_journal.proofs.Kept.{is_project}
 use Rattle.project_journal.proofs.Parses.{form_known}
-use Rattle.project_state.specs.Kept.{Keeps, Kept, new_project}
-use Rattle.project_state.proofs.KeptOnce.{keeps_once}
+use Rattle.record_body.specs.Kept.{Keeps, Kept, new_project}
+use Rattle.record_body.proofs.KeptOnce.{keeps_once}
 use Rattle.editor_core.specs.Core.{Core, form_at}
 use Rattle.editor_core.specs.Studios.{IsDurable, IsHeld, IsStudio, clip_cells, pin_at, shown, studio_of}
 use Rattle.sample_block.specs.Sources.{sources_of}
@@ -43,11 +43,11 @@ none_of_none f [] e = refl
 none_of_none f (x ∷ xs) e = cc
 
 -- the journal of a new project is its header alone
-header_alone : (front : List ℕ) (rate m depth : ℕ) → IsLog (form_2 0) front (fresh rate m depth) → length front ≡ 80
+header_alone : (front : List ℕ) (rate m depth : ℕ) → IsLog (form_3 0) front (fresh rate m depth) → length front ≡ 80
 header_alone front rate m depth is =
     let entries : is.entries ≡ [] = none_of_none body_of is.entries is.bodies in
     ap length is.parts ∙ ap (λ (es : List Entry). length (is.head ++ flat_map entry es)) entries
-    ∙ ap length (append-nil is.head) ∙ length-head (form_2 0) is.head (fresh rate m depth) is.header
+    ∙ ap length (append-nil is.head) ∙ length-head (form_3 0) is.head (fresh rate m depth) is.header
 
 -- where no file is there but the journal, the next block is the first
 first_block : (files : Files) (next : ℕ) → ((file : ℕ) → IsSome (files file) → file ≡ 0) → IsNextBlock files 16 next
@@ -59,11 +59,13 @@ first_block files next only is = ⊎_elim
     absurd (omega (arith, zero_file, low, above)))
     is.least
 
--- version 2 is the last one
-version_two : (version : ℕ) → ◌≡◌ {A = ℕ} (if nat_lt version 2 then 32 else 64) 64 → version ≤ 2 → version ≡ 2
-version_two zero size few = absurd (omega (arith, size))
-version_two (suc zero) size few = absurd (omega (arith, size))
-version_two (suc (suc version)) size few = omega (arith, few)
+-- version 3 is the last one
+version_three : (version : ℕ) → ◌≡◌ {A = ℕ} (if nat_lt version 2 then 1 else if nat_lt version 3 then 2 else 3) 3
+    → version ≤ 3 → version ≡ 3
+version_three zero is few = absurd (omega (arith, is))
+version_three (suc zero) is few = absurd (omega (arith, is))
+version_three (suc (suc zero)) is few = absurd (omega (arith, is))
+version_three (suc (suc (suc version))) is few = omega (arith, few)
 
 -- ---- what opening it gives
 
@@ -100,7 +102,7 @@ module _ {D : Type 0} (disk : Ghosts D) (p : FreshProject) (can : CanBeMade p) (
 
     -- nothing was recorded yet
     kept_is : finds.kept ≡ new_project p.depth
-    kept_is = same_kept (disk.reads store) finds.form (form_2 0) finds.log (fresh p.rate p.block_size p.depth)
+    kept_is = same_kept (disk.reads store) finds.form (form_3 0) finds.log (fresh p.rate p.block_size p.depth)
         finds.kept (new_project p.depth) finds.project.stands
         (new_stands p.rate p.block_size p.depth (disk.reads store) made.there)
 
@@ -112,24 +114,24 @@ module _ {D : Type 0} (disk : Ghosts D) (p : FreshProject) (can : CanBeMade p) (
 
     end_is : start.journal_end ≡ 80
     end_is =
-        let at = to.at_rest made.tells (form_2 0) (fresh p.rate p.block_size p.depth) (inr refl) (omega arith)
+        let at = to.at_rest made.tells (form_3 0) (fresh p.rate p.block_size p.depth) (inr (inr refl)) (omega arith)
         made.there in
         sym at.place ∙ header_alone at.front p.rate p.block_size p.depth at.spelled
 
-    -- the journal is that of version 2 in file 0, of no generation
+    -- the journal is that of version 3 in file 0, of no generation
     durable : IsDurable disk start
     durable = (to.held made.honest).durable to.new.stopped
 
-    stands : IsOne (form_at start) (form_2 0) durable.log (fresh p.rate p.block_size p.depth)
+    stands : IsOne (form_at start) (form_3 0) durable.log (fresh p.rate p.block_size p.depth)
     stands =
         let at = durable.there in
-        one_journal (form_at start) (form_2 0) durable.log (fresh p.rate p.block_size p.depth) (disk.reads start.store)
-        (form_known start.version start.file) (inr refl) to.studio.journal.among (omega arith)
+        one_journal (form_at start) (form_3 0) durable.log (fresh p.rate p.block_size p.depth) (disk.reads start.store)
+        (form_known start.version start.file) (inr (inr refl)) to.studio.journal.among (omega arith)
         (record { front = at.front; spelled = at.spelled; shut = at.read; newest = at.newest })
-        (subst (HasLog (form_2 0) (fresh p.rate p.block_size p.depth)) (sym to.reads) made.there)
+        (subst (HasLog (form_3 0) (fresh p.rate p.block_size p.depth)) (sym to.reads) made.there)
 
-    version_is : start.version ≡ 2
-    version_is = version_two start.version (ap (λ (f : Form). f.header_size) stands.form) to.studio.journal.version_most
+    version_is : start.version ≡ 3
+    version_is = version_three start.version (ap (λ (f : Form). f.version) stands.form) to.studio.journal.version_most
 
     generation_is : start.generation ≡ 0
     generation_is = sym durable.generation ∙ ap (λ (l : Log). l.base.generation) stands.log
@@ -185,7 +187,7 @@ module _ {D : Type 0} (disk : Ghosts D) (p : FreshProject) (can : CanBeMade p) (
   pub opening_wants : (new : D) (why : OpenFault) → (IsHonest disk store → OpensHonest disk store new (Err why))
       → Causes {T = Found} disk store new (Err why) → Changed disk StaysStep two_calls store new → why ≡ fault.NoMemory
   opening_wants new fault.Absent honest cause changed = absurd ((honest made.honest).0
-      (is_project (form_2 0) (fresh p.rate p.block_size p.depth) (disk.reads store) (omega arith) made.there))
+      (is_project (form_3 0) (fresh p.rate p.block_size p.depth) (disk.reads store) (omega arith) made.there))
   opening_wants new fault.Exists honest cause changed = absurd (honest made.honest)
   opening_wants new (fault.Damaged file at want have) honest cause changed = absurd (honest made.honest)
   opening_wants new (fault.Foreign file) honest cause changed = absurd (honest made.honest)

@@ -32,7 +32,7 @@ use Rattle.editor_core.specs.Reads.{Looks}
 use Rattle.editor_core.specs.Studios.{studio_of}
 use Rattle.editor_core.specs.Took.{silent}
 use Rattle.script_gen.proofs.Passing.{both-pass}
-use Rattle.model_laws.proofs.Answered.{answered_same}
+use Rattle.model_laws.proofs.Answered.{answered_same, moves_of, no_generation}
 use Rattle.memory_project.specs.Sums.{HasOneTrack, Looked, MaySum, first_column, first_len, track_cells}
 use Rattle.memory_project.specs.Memory.{no_room as nothing_more}
 use Rattle.memory_project.proofs.LineLemmas.{fails_not, no_answer}
@@ -91,7 +91,7 @@ pub record IsLook (t : Studio) (c : Command) : Type 0 where
   pub tracks : tracks_needed (outside t silent) c ≡ 0
   pub commits : commits_needed c ≡ 0
   pub places : places_of (Line c) 0 ≡ 0
-  pub still : generations_of (Line c) ≡ 0
+  pub still : moves_of (Line c) ≡ 0
   pub needs : (blocks len : ℕ) → Needs (outside t silent) t (Line c) blocks len → (blocks ≡ 0) × (len ≡ 0)
 
 module _ {D : Type 0} (disk : Ghosts D) (s : Core D) (may : MaySum disk s) where
@@ -111,7 +111,7 @@ module _ {D : Type 0} (disk : Ghosts D) (s : Core D) (may : MaySum disk s) where
         let tracks_none = look.tracks in
         let commits_none = look.commits in
         let places_none = look.places in
-        let still = look.still in
+        let still = no_generation (Line c) look.still in
         let a = no_room t.next_block 0 in
         let b = no_room t.state.next_track (tracks_of (outside t silent) (Line c)) in
         let d = no_room t.state.commit (commits_of (Line c)) in
@@ -148,6 +148,7 @@ module _ {D : Type 0} (disk : Ghosts D) (s : Core D) (may : MaySum disk s) where
         → Answers t (Line c) silent (Err why) (studio_of disk new) → why ≡ refusal.NoMemory
     look_wants new why reads changes sound answers =
         (no_answer t (studio_of disk new) c look.names
+        (λ bytes is. omega (arith, look.commits, ap commits_needed is))
         (fails_not t (studio_of disk new) c may.room.reads may.room.changes reads changes) why sound look_passes
         answers).0
 

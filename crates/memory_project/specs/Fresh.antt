@@ -5,9 +5,9 @@ use Rattle.disk_model.specs.Room.{Room}
 use Rattle.disk_model.specs.declared.store.Store.{Ghosts}
 use Rattle.pcm_base.specs.Studio.{fresh}
 use Rattle.project_journal.specs.Gate.{EachNow}
-use Rattle.project_journal.specs.Header.{IsFormat, form_2}
+use Rattle.project_journal.specs.Header.{IsFormat, form_3}
 use Rattle.project_journal.specs.Journal as journal
-use Rattle.project_state.specs.Kept.{Keeps, Opened}
+use Rattle.record_body.specs.Kept.{Keeps, Opened}
 use Rattle.editor_core.specs.Core.{Core}
 use Rattle.editor_core.specs.Studios.{IsHeld, IsStudio, studio_of}
 use Rattle.editor_recovery.specs.Creating.{new_opened}
@@ -53,7 +53,7 @@ pub record IsEmpty {D : Type 0} (disk : Ghosts D) (p : FreshProject) (store : D)
 pub record IsMade {D : Type 0} (disk : Ghosts D) (p : FreshProject) (store : D) : Type 0 where
   pub tells : IsTrue (disk.tells store)
   pub honest : IsHonest disk store
-  pub there : journal.HasLog (form_2 0) (journal.fresh p.rate p.block_size p.depth) (disk.reads store)
+  pub there : journal.HasLog (form_3 0) (journal.fresh p.rate p.block_size p.depth) (disk.reads store)
   pub keeps : Keeps (disk.reads store) (found_of p)
   pub each : EachNow disk store (λ c. Keeps c (found_of p))
   pub only : (file : ℕ) → IsSome (disk.reads store file) → file ≡ 0

@@ -3,8 +3,9 @@ ghost use Rattle.std.specs.Prelude.{◌≡◌, IfOk};
 ghost use Rattle.memory_project.specs.Fresh.{CanBeMade, IsEmpty, IsMade};
 
 use super::fresh::FreshProject;
-use disk_model::{RamStore, Store};
+use disk_model::Store;
 use editor_recovery::{OpenFault, calls_stay_honest, create};
+use memory_disk::RamStore;
 use pcm_base::{NoMemory, Numbers};
 use std::alloc::Global;
 

@@ -4,9 +4,10 @@ ghost use Rattle.editor_core.specs.Core.{core_of};
 ghost use Rattle.memory_project.specs.Fresh.{CanBeMade, IsFresh};
 
 use super::disk::{made_disk, want_of_memory};
-use disk_model::{RamStore, Store};
+use disk_model::Store;
 use editor_core::Studio;
 use editor_recovery::open_store;
+use memory_disk::RamStore;
 use pcm_base::NoMemory;
 use std::alloc::Global;
 
@@ -17,7 +18,7 @@ pub struct FreshProject {
     pub rate: u32,
     /// How many samples a block has at most: even, from 4 to 262,144.
     pub block_size: u32,
-    /// How many points the history keeps: from 1 to 4,096.
+    /// How many points the history keeps: from 1 to 65,536.
     pub depth: u32,
     /// How many files the disk has room for: from 1.
     pub files: usize,

@@ -1,19 +1,20 @@
 -- Tracks that are heard, one after another.
-use Rattle.std.proofs.Common.{◌≡◌, ℕ, zero, suc, ◌≤◌, ◌+◌, Bool, true, false, List, [], ◌∷◌, ◌++◌, length, drop}
-use Rattle.std.proofs.Common.{refl, ap, subst, ◌∙◌, arith}
+use Rattle.std.proofs.Common.{◌≡◌, ℕ, zero, suc, ◌≤◌, ◌+◌, ◌-◌, max, min, Bool, true, false, List, [], ◌∷◌, ◌++◌, length}
+use Rattle.std.proofs.Common.{drop, refl, sym, ap, subst, ◌∙◌, arith}
 use Rattle.std.specs.Prelude.{if◌then◌else◌}
 use Rattle.pcm_base.specs.declared.sound.Cell.{Cell}
 use Rattle.pcm_base.specs.declared.sound.Side.{Side}
 use Rattle.pcm_base.specs.Pieces.{Sources}
 use Rattle.pcm_base.specs.Cells as cells
 use Rattle.pcm_base.specs.Mix.{unmuted}
-use Rattle.clip_track.specs.Clips.{layout_blocks, layout_cells}
+use Rattle.clip_track.specs.Clips.{end_of, layout_blocks, layout_cells}
 use Rattle.project_state.specs.declared.track.Track.{Track}
-use Rattle.project_state.specs.Kept.{meant, point_blocks}
+use Rattle.project_state.specs.Meaning.{meant, point_blocks}
 use Rattle.sample_block.specs.Sources.{AllNamed}
 use Rattle.cell_view.proofs.SeenLaws.{named_front}
 use Rattle.mixdown.specs.Stretches.{gains_of, sides_of}
 use Rattle.mix_view.specs.Heard.{heard_count, heard_gains, heard_sides}
+use Rattle.mix_view.specs.Tracks.{mix_length_of}
 use Rattle.mix_view.proofs.TrackLaws.{named_drop}
 
 -- how many there are
@@ -104,3 +105,24 @@ sides_append [] us = refl
 sides_append (t ∷ ts) us =
     ap (λ ss. if t.mute then ss else t.side ∷ ss) (sides_append ts us)
     ∙ sides_put t.side t.mute (heard_sides ts) (heard_sides us)
+
+-- ---- where none is heard there is no frame
+
+one_silent : (len n rest : ℕ) (mute : Bool) → (n ≡ 0 → rest ≡ 0) → (if mute then 0 else 1) + n ≡ 0
+    → max (if mute then 0 else len) rest ≡ 0
+one_silent len n rest true none is =
+    let few : n ≡ 0 = omega (arith, is) in
+    omega (arith, none few)
+one_silent len n rest false none is = absurd (omega (arith, is))
+
+none_heard : (ts : List Track) → heard_count ts ≡ 0 → mix_length_of ts ≡ 0
+none_heard [] is = refl
+none_heard (t ∷ ts) is =
+    one_silent (end_of 0 t.layout) (heard_count ts) (mix_length_of ts) t.mute (none_heard ts) is
+
+pub no_frame : (ts : List Track) (gains : List ℕ) (from most count : ℕ) → gains ≡ heard_gains ts
+    → count ≡ min most (mix_length_of ts - from) → length gains ≡ 0 → count ≡ 0
+no_frame ts gains from most count are is none =
+    let nothing : mix_length_of ts ≡ 0 =
+    none_heard ts (sym (count_gains ts) ∙ sym (ap length are) ∙ none) in
+    omega (arith, is, nothing)

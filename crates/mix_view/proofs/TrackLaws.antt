@@ -19,8 +19,8 @@ use Rattle.pcm_base.specs.Mix.{mix_length, mix_of, unmuted}
 use Rattle.clip_track.specs.Clips.{layout_cells}
 use Rattle.clip_track.specs.Clips.{layout_blocks}
 use Rattle.project_state.specs.declared.track.Track.{Track}
-use Rattle.project_state.specs.Kept.{meant, meant_track, point_blocks}
-use Rattle.project_state.proofs.Parts.{take_some}
+use Rattle.project_state.specs.Meaning.{meant, meant_track, point_blocks}
+use Rattle.project_state.proofs.Points.{take_some}
 use Rattle.block_store.specs.Reads.{IsFaultIn}
 use Rattle.sample_block.specs.Sources.{sources_of, AllNamed, AllWhole}
 use Rattle.cell_view.specs.Rests.{IsRestOf}

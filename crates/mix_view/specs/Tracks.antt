@@ -6,7 +6,7 @@ use Rattle.pcm_base.specs.declared.sound.Side.{Side}
 use Rattle.pcm_base.specs.Mix.{mix_of}
 use Rattle.clip_track.specs.Clips.{end_of}
 use Rattle.project_state.specs.declared.track.Track.{Track}
-use Rattle.project_state.specs.Kept.{meant}
+use Rattle.project_state.specs.Meaning.{meant}
 use Rattle.cell_view.specs.Stored.{stored_of}
 
 -- the tracks that are heard

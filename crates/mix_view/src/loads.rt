@@ -4,11 +4,11 @@ ghost use Rattle.std.specs.Prelude.{Err, IsTrue, OnOk, IfOk, IfErr, false, if◌
 ghost use Rattle.disk_model.specs.Frames.{Kept};
 ghost use Rattle.block_store.specs.Reads.{Counted, IsFaultIn};
 ghost use Rattle.clip_track.specs.Clips.{layout_blocks};
-ghost use Rattle.pcm_base.specs.declared.limits.TheConstants.{MAX_TRACKS};
+ghost use Rattle.pcm_base.specs.declared.limits.TheConstants.{MAX_LOADED, MAX_TRACKS};
 ghost use Rattle.pcm_base.specs.Cells.{Project};
 ghost use Rattle.pcm_base.specs.Mix.{mix_length, unmuted};
 ghost use Rattle.pcm_base.specs.Pieces.{Sources};
-ghost use Rattle.project_state.specs.Kept.{meant, meant_track, point_blocks};
+ghost use Rattle.project_state.specs.Meaning.{meant, meant_track, point_blocks};
 ghost use Rattle.sample_block.specs.Sources.{sources_of, AllNamed, AllWhole};
 ghost use Rattle.block_cache.specs.Caches.{IsCacheOf, KeepsCache};
 ghost use Rattle.cell_view.specs.Stored.{stored_of};
@@ -224,7 +224,7 @@ fn make_room(cells: &mut Vec<Cell>, count: usize) -> Result<(), NoMemory>
 
 /// Lists the tracks that are heard, and gives each this many cells.
 fn make_ready(point: &Point, count: usize, loaded: &mut Loaded) -> Result<(), NoMemory>
-    requires { count ≤ 65536 }
+    requires { count ≤ MAX_LOADED }
     ensures loaded { OnOk result (IsLoaded loaded.new) }
     ensures gains { OnOk result (loaded.new.gains.items ≡ heard_gains point.now) }
     ensures sides { OnOk result (loaded.new.sides.items ≡ heard_sides point.now) }
@@ -254,6 +254,7 @@ fn fill<S: Store>(
     ensures cache { KeepsCache (S.tells store.old) (S.reads store.old) (point_blocks point.now) cache.old cache.new }
     ensures loaded { IsLoaded loaded.new }
     ensures len { loaded.new.len ≡ loaded.old.len }
+    ensures gains { loaded.new.gains.items ≡ loaded.old.gains.items }
     ensures stored { IsTrue (S.tells store.old) → OnOk result
         (Shows from (meant (stored_of (S.reads store.old)) point.now) loaded.new) }
     ensures damaged { IsTrue (S.tells store.old)
@@ -286,7 +287,7 @@ pub fn load_stretch<S: Store>(
     loaded: &mut Loaded,
 ) -> Result<usize, LoadFault>
     requires named { AllNamed (point_blocks point.now) }
-    requires most { n ≤ 65536 }
+    requires most { n ≤ MAX_LOADED }
     requires few { from + n < 2 ^ 64 }
     requires cached { IsTrue (S.tells store.old) → IsCacheOf (S.reads store.old) cache.old }
     ensures cache { KeepsCache (S.tells store.old) (S.reads store.old) (point_blocks point.now) cache.old cache.new }
@@ -294,6 +295,7 @@ pub fn load_stretch<S: Store>(
     ensures length { (src : Sources) → mix_length (meant src point.now) ≡ mix_length_of point.now }
     ensures len { IfOk result (λ k. loaded.new.len ≡ k) }
     ensures loaded { OnOk result (IsLoaded loaded.new) }
+    ensures gains { OnOk result (loaded.new.gains.items ≡ heard_gains point.now) }
     // It shows what stands in the files of the blocks, and where the disk has all blocks what the tracks mean.
     ensures stored { IsTrue (S.tells store.old) → OnOk result
         (Shows from (meant (stored_of (S.reads store.old)) point.now) loaded.new) }

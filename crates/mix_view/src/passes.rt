@@ -3,7 +3,7 @@ ghost use Rattle.std.specs.Prelude.{◌≡◌, ◌<◌, ◌+◌, ◌^◌, false,
 ghost use Rattle.disk_model.specs.Frames.{Kept};
 ghost use Rattle.block_store.specs.Reads.{Counted, IsFaultIn};
 ghost use Rattle.clip_track.specs.Clips.{layout_blocks};
-ghost use Rattle.project_state.specs.Kept.{meant_track, point_blocks};
+ghost use Rattle.project_state.specs.Meaning.{meant_track, point_blocks};
 ghost use Rattle.sample_block.specs.Sources.{AllNamed};
 ghost use Rattle.block_cache.specs.Caches.{IsCacheOf, KeepsCache};
 ghost use Rattle.cell_view.specs.Rests.{IsRestOf};

@@ -5,7 +5,7 @@ ghost use Rattle.block_store.specs.declared.fault.BlockFault.TheVariants as faul
 ghost use Rattle.disk_model.specs.Frames.{Kept};
 ghost use Rattle.block_store.specs.Reads.{Counted, IsFaultIn};
 ghost use Rattle.pcm_base.specs.Mix.{mix_of};
-ghost use Rattle.project_state.specs.Kept.{meant, point_blocks};
+ghost use Rattle.project_state.specs.Meaning.{meant, point_blocks};
 ghost use Rattle.sample_block.specs.Sources.{sources_of, AllNamed, AllWhole};
 ghost use Rattle.block_cache.specs.Caches.{IsCacheOf, KeepsCache};
 ghost use Rattle.mix_view.specs.Readers.{IsReader};

@@ -5,7 +5,7 @@ ghost use Rattle.block_store.specs.Reads.{Counted, IsFaultIn};
 ghost use Rattle.pcm_base.specs.Arithmetic.{counted_from};
 ghost use Rattle.pcm_base.specs.Mix.{frame_at, unmuted};
 ghost use Rattle.pcm_base.specs.Pieces.{Sources};
-ghost use Rattle.project_state.specs.Kept.{meant, point_blocks};
+ghost use Rattle.project_state.specs.Meaning.{meant, point_blocks};
 ghost use Rattle.block_cache.specs.Caches.{IsCacheOf, KeepsCache};
 ghost use Rattle.cell_view.specs.Stored.{stored_of};
 ghost use Rattle.mixdown.specs.Stretches.{AreStretches};

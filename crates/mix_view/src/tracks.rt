@@ -4,7 +4,7 @@ ghost use Rattle.pcm_base.specs.declared.limits.TheConstants.{MAX_CELLS};
 ghost use Rattle.clip_track.specs.Clips.{layout_cells};
 ghost use Rattle.pcm_base.specs.Mix.{mix_length};
 ghost use Rattle.pcm_base.specs.Pieces.{Sources};
-ghost use Rattle.project_state.specs.Kept.{meant};
+ghost use Rattle.project_state.specs.Meaning.{meant};
 ghost use Rattle.mix_view.specs.Readers.{AreHeard};
 ghost use Rattle.mix_view.specs.Tracks.{heard_length, mix_length_of};
 

@@ -14,7 +14,7 @@ use Rattle.mixdown.specs.Stretches.{AreStretches, gains_of, sides_of}
 use Rattle.mixdown.specs.Sums.{limited}
 use Rattle.mixdown.proofs.LaidLaws.{left_first, right_first, none_before}
 
-left_of : (id gain : ℕ) (side : Side) (mute : Bool) (cells : List Cell) (ts : Project) (i : ℕ)
+pub left_of : (id gain : ℕ) (side : Side) (mute : Bool) (cells : List Cell) (ts : Project) (i : ℕ)
     → left_sum (record { id = id; gain = gain; side = side; mute = mute; cells = cells } ∷ ts) i
     ≡ (if is_on_left side then weight gain (if mute then Gap else get_or cells i Gap) else pos 0) +ℤ left_sum ts i
 left_of id gain Both true cells ts i = none_before (left_sum ts i)
@@ -24,7 +24,7 @@ left_of id gain Both false cells ts i = refl
 left_of id gain Left false cells ts i = refl
 left_of id gain Right false cells ts i = none_before (left_sum ts i)
 
-right_of : (id gain : ℕ) (side : Side) (mute : Bool) (cells : List Cell) (ts : Project) (i : ℕ)
+pub right_of : (id gain : ℕ) (side : Side) (mute : Bool) (cells : List Cell) (ts : Project) (i : ℕ)
     → right_sum (record { id = id; gain = gain; side = side; mute = mute; cells = cells } ∷ ts) i
     ≡ (if is_on_right side then weight gain (if mute then Gap else get_or cells i Gap) else pos 0) +ℤ right_sum ts i
 right_of id gain Both true cells ts i = none_before (right_sum ts i)
@@ -58,7 +58,7 @@ stretches_frame from len p cells k lt are =
     ap₂ limited (left_stretches from len p cells k lt are) (right_stretches from len p cells k lt are)
 
 -- what is made of numbers in a row
-same_counted : {A : Type 0} (f g : ℕ → A) (a b n : ℕ) → ((k : ℕ) → k < n → f (a + k) ≡ g (b + k))
+pub same_counted : {A : Type 0} (f g : ℕ → A) (a b n : ℕ) → ((k : ℕ) → k < n → f (a + k) ≡ g (b + k))
     → map f (counted_from a n) ≡ map g (counted_from b n)
 same_counted f g a b zero same = refl
 same_counted f g a b (suc n) same =

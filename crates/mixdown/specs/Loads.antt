@@ -1,10 +1,12 @@
 -- Stretches of the tracks that are heard, in memory.
-use Rattle.std.specs.Prelude.{◌≡◌, ◌≤◌, ◌*◌, ℕ, List, length, take}
+use Rattle.std.specs.Prelude.{◌≡◌, ◌≤◌, ◌*◌, ℕ, List, [], ◌∷◌, length, take, drop}
 use Rattle.pcm_base.specs.declared.limits.TheConstants.{MAX_TRACKS}
+use Rattle.pcm_base.specs.declared.lists.LoadedTrack.{LoadedTrack}
 use Rattle.pcm_base.specs.declared.sound.Cell.{Cell}
-use Rattle.pcm_base.specs.Cells.{Project}
+use Rattle.pcm_base.specs.declared.sound.Side.{Side}
+use Rattle.pcm_base.specs.Cells.{Project, Track}
 use Rattle.pcm_base.specs.Mix.{unmuted}
-use Rattle.mixdown.specs.Laid.{laid}
+use Rattle.mixdown.specs.Laid.{heard, laid}
 use Rattle.mixdown.specs.Stretches.{AreStretches, gains_of, sides_of}
 use Rattle.mixdown.specs.declared.loaded.Loaded.{Loaded}
 
@@ -27,3 +29,20 @@ pub record Shows (from : ℕ) (p : Project) (l : Loaded) : Type 0 where
   pub gains : l.gains.items ≡ gains_of (unmuted p)
   pub sides : l.sides.items ≡ sides_of (unmuted p)
   pub cells : AreStretches from l.len (unmuted p) (loaded_cells l)
+
+-- ---- as the model replies it
+
+-- stretches of this many cells each, one after the other, one for each gain and side
+abbrev pub cut_in : ℕ → List Cell → List ℕ → List Side → List LoadedTrack
+cut_in len cells [] sides = []
+cut_in len cells (g ∷ gains) [] = []
+cut_in len cells (g ∷ gains) (s ∷ sides) =
+    record { gain = g; side = s; cells = take len cells } ∷ cut_in len (drop len cells) gains sides
+
+-- one of them as a track of the model
+abbrev pub heard_track : LoadedTrack → Track
+heard_track t = heard t.gain t.side t.cells
+
+-- the tracks that are loaded
+abbrev pub tracks_in : Loaded → List LoadedTrack
+tracks_in l = cut_in l.len (loaded_cells l) l.gains.items l.sides.items

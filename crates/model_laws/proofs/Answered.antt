@@ -1,5 +1,6 @@
--- What an answer makes of the journal: another one where it was packed, and the same otherwise.
-use Rattle.std.proofs.Common.{◌≡◌, ◌∙◌, refl, ℕ, ◌+◌, ◌^◌, ◌≤◌, ◌<◌, arith}
+-- What an answer makes of the studio: another journal where it was packed, fewer points where the oldest go, and else
+-- the same.
+use Rattle.std.proofs.Common.{◌≡◌, ◌∙◌, refl, ap, ℕ, ◌+◌, ◌^◌, ◌≤◌, ◌<◌, arith}
 use Rattle.pcm_base.specs.declared.answer.Reply.{Reply}
 use Rattle.pcm_base.specs.declared.answer.Reply.TheVariants as reply
 use Rattle.pcm_base.specs.declared.command.Call.{Call}
@@ -8,32 +9,53 @@ use Rattle.pcm_base.specs.declared.entry.SoundMove.{SoundMove}
 use Rattle.pcm_base.specs.declared.limits.TheConstants.{COUNTER_LIMIT, FIRST_RECORD}
 use Rattle.pcm_base.specs.Counters.{generations_by, generations_of}
 use Rattle.pcm_base.specs.Outside.{Outside}
-use Rattle.pcm_base.specs.Run.{CarriesOut, answered, followed, outside}
+use Rattle.pcm_base.specs.Run.{CarriesOut, answered, followed, outside, told_state}
 use Rattle.pcm_base.specs.Shape.{Shape, NewTrack, DropTrack, SetTrack, PutIn, EditRange, CutRun, CopyRun, PasteRun}
-use Rattle.pcm_base.specs.Shape.{MoveTo, Purge, Look, Reclaim, Compact, Import, Export, View, Cells, Frames, Columns}
-use Rattle.pcm_base.specs.Shape.{Tracks, shape_of}
+use Rattle.pcm_base.specs.Shape.{MoveTo, Purge, PurgeTo, Look, Reclaim, Compact, Import, Export, Bounce, View, Cells}
+use Rattle.pcm_base.specs.Shape.{Frames, Columns, Tracks, shape_of}
 use Rattle.pcm_base.specs.State.{State}
-use Rattle.pcm_base.specs.Step.{MayAnswer, MayReplyBy, seen}
+use Rattle.pcm_base.specs.Step.{MayAnswer, MayReplyBy, after, after_shape, seen}
 use Rattle.pcm_base.specs.Studio.{Studio}
 use Rattle.model_laws.specs.Bounds.{IsBoundedStudio}
+use Rattle.model_laws.proofs.Histories.{purged_points}
 
--- the state stays
-pub answered_state : (r : Reply) (t : Studio) → (answered r t).state ≡ t.state
-answered_state reply.Done t = refl
-answered_state reply.Copied t = refl
-answered_state (reply.Cells cells) t = refl
-answered_state (reply.Frames frames) t = refl
-answered_state (reply.Columns columns) t = refl
-answered_state (reply.Tracks tracks) t = refl
-answered_state (reply.Freed count) t = refl
-answered_state (reply.Packed bytes) t = refl
-answered_state (reply.Wrote bytes) t = refl
-answered_state (reply.Pinned pin) t = refl
-answered_state (reply.Length frames) t = refl
-answered_state (reply.Refused why) t = refl
+-- the commit number stays
+pub answered_commit : (r : Reply) (t : Studio) → (answered r t).state.commit ≡ t.state.commit
+answered_commit reply.Done t = refl
+answered_commit reply.Copied t = refl
+answered_commit (reply.Cells cells) t = refl
+answered_commit (reply.Frames frames) t = refl
+answered_commit (reply.Columns columns) t = refl
+answered_commit (reply.Tracks tracks) t = refl
+answered_commit (reply.Freed count) t = refl
+answered_commit (reply.Packed bytes) t = refl
+answered_commit (reply.Purged n) t = refl
+answered_commit (reply.Wrote bytes) t = refl
+answered_commit (reply.Pinned pin) t = refl
+answered_commit (reply.Length frames) t = refl
+answered_commit (reply.Loaded tracks) t = refl
+answered_commit (reply.Refused why) t = refl
 
--- and all but the journal
+-- what the answer says of the history
+pub answered_told : (r : Reply) (t : Studio) → (answered r t).state ≡ told_state r t.state
+answered_told reply.Done t = refl
+answered_told reply.Copied t = refl
+answered_told (reply.Cells cells) t = refl
+answered_told (reply.Frames frames) t = refl
+answered_told (reply.Columns columns) t = refl
+answered_told (reply.Tracks tracks) t = refl
+answered_told (reply.Freed count) t = refl
+answered_told (reply.Packed bytes) t = refl
+answered_told (reply.Purged n) t = refl
+answered_told (reply.Wrote bytes) t = refl
+answered_told (reply.Pinned pin) t = refl
+answered_told (reply.Length frames) t = refl
+answered_told (reply.Loaded tracks) t = refl
+answered_told (reply.Refused why) t = refl
+
+-- and all but the history and the journal
 pub answered_is : (r : Reply) (t : Studio) → answered r t ≡ record t {
+  state = (answered r t).state;
   file = (answered r t).file;
   version = (answered r t).version;
   generation = (answered r t).generation;
@@ -47,14 +69,17 @@ answered_is (reply.Columns columns) t = refl
 answered_is (reply.Tracks tracks) t = refl
 answered_is (reply.Freed count) t = refl
 answered_is (reply.Packed bytes) t = refl
+answered_is (reply.Purged n) t = refl
 answered_is (reply.Wrote bytes) t = refl
 answered_is (reply.Pinned pin) t = refl
 answered_is (reply.Length frames) t = refl
+answered_is (reply.Loaded tracks) t = refl
 answered_is (reply.Refused why) t = refl
 
--- so a call that is carried out leaves what it leads to, but for the journal
+-- so a call that is carried out leaves what it leads to, but for the history and the journal
 pub carried_is : (t u : Studio) (c : Call) (sound : SoundMove) (r : Reply) (h : CarriesOut t c sound r u) →
     u ≡ record (followed (outside t sound) t c h.blocks h.len) {
+      state = (answered r (followed (outside t sound) t c h.blocks h.len)).state;
       file = (answered r (followed (outside t sound) t c h.blocks h.len)).file;
       version = (answered r (followed (outside t sound) t c h.blocks h.len)).version;
       generation = (answered r (followed (outside t sound) t c h.blocks h.len)).generation;
@@ -62,24 +87,121 @@ pub carried_is : (t u : Studio) (c : Call) (sound : SoundMove) (r : Reply) (h : 
     }
 carried_is t u c sound r h = h.is ∙ answered_is r (followed (outside t sound) t c h.blocks h.len)
 
+-- whether the answer of a line says what changes: 1 for a compact, and for a purge to a size
+abbrev pub moves_by : Shape → ℕ
+moves_by NewTrack = 0
+moves_by (DropTrack id) = 0
+moves_by (SetTrack id setting) = 0
+moves_by (PutIn id at source) = 0
+moves_by (EditRange id from to edit) = 0
+moves_by (CutRun id n from to removing) = 0
+moves_by (CopyRun id n from to) = 0
+moves_by (PasteRun id at placing) = 0
+moves_by (MoveTo move) = 0
+moves_by (Purge n) = 0
+moves_by (PurgeTo bytes) = 1
+moves_by (Look view) = 0
+moves_by (Reclaim limit) = 0
+moves_by Compact = 1
+moves_by (Import name) = 0
+moves_by (Export name) = 0
+moves_by (Bounce name) = 0
+
+abbrev pub moves_of : Call → ℕ
+moves_of (call.Line c) = moves_by (shape_of c)
+moves_of (call.Piece track tag samples) = 0
+moves_of call.Pin = 0
+moves_of (call.PinLen pin) = 0
+moves_of (call.ReadPin pin from count) = 0
+moves_of (call.LoadPin pin from count) = 0
+moves_of (call.Unpin pin) = 0
+
+-- what is answered by `ok` is no such line
+done_line : (out : Outside) (s : State) (shape : Shape) → MayReplyBy out s shape reply.Done → moves_by shape ≡ 0
+done_line out s NewTrack e = refl
+done_line out s (DropTrack id) e = refl
+done_line out s (SetTrack id setting) e = refl
+done_line out s (PutIn id at source) e = refl
+done_line out s (EditRange id from to edit) e = refl
+done_line out s (CutRun id n from to removing) e = refl
+done_line out s (CopyRun id n from to) e = refl
+done_line out s (PasteRun id at placing) e = refl
+done_line out s (MoveTo move) e = refl
+done_line out s (Purge n) e = refl
+done_line out s (PurgeTo bytes) (n, e, some, most) = let no : ⊥ = cc e in absurd no
+done_line out s (Look view) e = refl
+done_line out s (Reclaim limit) e = refl
+done_line out s Compact (n, e, least, most) = let no : ⊥ = cc e in absurd no
+done_line out s (Import name) e = refl
+done_line out s (Export name) e = refl
+done_line out s (Bounce name) e = absurd e
+
+pub done_stays : (out : Outside) (s : State) (c : Call) → MayAnswer out s c reply.Done → moves_of c ≡ 0
+done_stays out s (call.Line c) e = done_line out s (shape_of c) e
+done_stays out s (call.Piece track tag samples) e = refl
+done_stays out s call.Pin e = refl
+done_stays out s (call.PinLen pin) e = refl
+done_stays out s (call.ReadPin pin from count) e = refl
+done_stays out s (call.LoadPin pin from count) e = refl
+done_stays out s (call.Unpin pin) e = refl
+
+-- a call whose answer says nothing of what changes takes no generation
+line_still : (shape : Shape) → moves_by shape ≡ 0 → generations_by shape ≡ 0
+line_still NewTrack none = refl
+line_still (DropTrack id) none = refl
+line_still (SetTrack id setting) none = refl
+line_still (PutIn id at source) none = refl
+line_still (EditRange id from to edit) none = refl
+line_still (CutRun id n from to removing) none = refl
+line_still (CopyRun id n from to) none = refl
+line_still (PasteRun id at placing) none = refl
+line_still (MoveTo move) none = refl
+line_still (Purge n) none = refl
+line_still (PurgeTo bytes) none = refl
+line_still (Look view) none = refl
+line_still (Reclaim limit) none = refl
+line_still Compact none = absurd (omega (arith, none))
+line_still (Import name) none = refl
+line_still (Export name) none = refl
+line_still (Bounce name) none = refl
+
+pub no_generation : (c : Call) → moves_of c ≡ 0 → generations_of c ≡ 0
+no_generation (call.Line c) none = line_still (shape_of c) none
+no_generation (call.Piece track tag samples) none = refl
+no_generation call.Pin none = refl
+no_generation (call.PinLen pin) none = refl
+no_generation (call.ReadPin pin from count) none = refl
+no_generation (call.LoadPin pin from count) none = refl
+no_generation (call.Unpin pin) none = refl
+
 -- a number of bytes that a packed journal may have, and the generation that it takes
-record Packs (generations bytes : ℕ) : Type 0 where
+record Packs (moves generations bytes : ℕ) : Type 0 where
+  moved : moves ≡ 1
   one : generations ≡ 1
   least : FIRST_RECORD < bytes
   most : bytes ≤ COUNTER_LIMIT
 
--- what is seen is no journal
+-- what is seen is no journal, and no number of points that go
 not_seen : (s : State) (view : View) (bytes : ℕ) → reply.Packed bytes ≡ seen s view → ⊥
 not_seen s (Cells id from to) bytes e = cc e
 not_seen s (Frames from to) bytes e = cc e
 not_seen s (Columns id from to columns) bytes e = cc e
 not_seen s Tracks bytes e = cc e
 
+not_purged : (s : State) (view : View) (n : ℕ) → reply.Purged n ≡ seen s view → ⊥
+not_purged s (Cells id from to) n e = cc e
+not_purged s (Frames from to) n e = cc e
+not_purged s (Columns id from to columns) n e = cc e
+not_purged s Tracks n e = cc e
+
+same_count : (n k : ℕ) → reply.Purged n ≡ reply.Purged k → k ≡ n
+same_count n k e = cc e
+
 same_bytes : (n k : ℕ) → reply.Packed n ≡ reply.Packed k → k ≡ n
 same_bytes n k e = cc e
 
 packs_by : (out : Outside) (s : State) (shape : Shape) (bytes : ℕ) → MayReplyBy out s shape (reply.Packed bytes) →
-    Packs (generations_by shape) bytes
+    Packs (moves_by shape) (generations_by shape) bytes
 packs_by out s NewTrack bytes e = let no : ⊥ = cc e in absurd no
 packs_by out s (DropTrack id) bytes e = let no : ⊥ = cc e in absurd no
 packs_by out s (SetTrack id setting) bytes e = let no : ⊥ = cc e in absurd no
@@ -90,25 +212,64 @@ packs_by out s (CopyRun id n from to) bytes e = let no : ⊥ = cc e in absurd no
 packs_by out s (PasteRun id at placing) bytes e = let no : ⊥ = cc e in absurd no
 packs_by out s (MoveTo move) bytes e = let no : ⊥ = cc e in absurd no
 packs_by out s (Purge n) bytes e = let no : ⊥ = cc e in absurd no
+packs_by out s (PurgeTo size) bytes (n, e, some, most) = let no : ⊥ = cc e in absurd no
 packs_by out s (Look view) bytes e = absurd (not_seen s view bytes e)
 packs_by out s (Reclaim limit) bytes (count, e, within) = let no : ⊥ = cc e in absurd no
 packs_by out s Compact bytes (n, e, least, most) =
     let same : n ≡ bytes = same_bytes bytes n e in
-    record { one = refl; least = omega (arith, same, least); most = omega (arith, same, most) }
+    record { moved = refl; one = refl; least = omega (arith, same, least); most = omega (arith, same, most) }
 packs_by out s (Import name) bytes e = let no : ⊥ = cc e in absurd no
 packs_by out s (Export name) bytes e = let no : ⊥ = cc e in absurd no
+packs_by out s (Bounce name) bytes e = absurd e
 
 packs : (out : Outside) (s : State) (c : Call) (bytes : ℕ) → MayAnswer out s c (reply.Packed bytes) →
-    Packs (generations_of c) bytes
+    Packs (moves_of c) (generations_of c) bytes
 packs out s (call.Line c) bytes e = packs_by out s (shape_of c) bytes e
 packs out s (call.Piece track tag samples) bytes e = let no : ⊥ = cc e in absurd no
 packs out s call.Pin bytes e = let no : ⊥ = cc e in absurd no
 packs out s (call.PinLen pin) bytes (p, at, e) = let no : ⊥ = cc e in absurd no
 packs out s (call.ReadPin pin from count) bytes (p, at, e) = let no : ⊥ = cc e in absurd no
+packs out s (call.LoadPin pin from count) bytes (p, at, e) = let no : ⊥ = cc e in absurd no
 packs out s (call.Unpin pin) bytes e = let no : ⊥ = cc e in absurd no
 
--- a call that needs no generation leaves the journal where it is
-pub answered_same : (out : Outside) (s : State) (c : Call) (r : Reply) → MayAnswer out s c r → generations_of c ≡ 0 →
+-- a number of points that go, none of them the current one in the history that the line leads to
+record Purges (moves cursor n : ℕ) : Type 0 where
+  moved : moves ≡ 1
+  within : n ≤ cursor
+
+purges_by : (out : Outside) (s : State) (shape : Shape) (n : ℕ) → MayReplyBy out s shape (reply.Purged n) →
+    Purges (moves_by shape) (after_shape out s shape).history.cursor n
+purges_by out s NewTrack n e = let no : ⊥ = cc e in absurd no
+purges_by out s (DropTrack id) n e = let no : ⊥ = cc e in absurd no
+purges_by out s (SetTrack id setting) n e = let no : ⊥ = cc e in absurd no
+purges_by out s (PutIn id at source) n e = let no : ⊥ = cc e in absurd no
+purges_by out s (EditRange id from to edit) n e = let no : ⊥ = cc e in absurd no
+purges_by out s (CutRun id k from to removing) n e = let no : ⊥ = cc e in absurd no
+purges_by out s (CopyRun id k from to) n e = let no : ⊥ = cc e in absurd no
+purges_by out s (PasteRun id at placing) n e = let no : ⊥ = cc e in absurd no
+purges_by out s (MoveTo move) n e = let no : ⊥ = cc e in absurd no
+purges_by out s (Purge k) n e = let no : ⊥ = cc e in absurd no
+purges_by out s (PurgeTo size) n (k, e, some, most) =
+    let same : k ≡ n = same_count n k e in record { moved = refl; within = omega (arith, same, most) }
+purges_by out s (Look view) n e = absurd (not_purged s view n e)
+purges_by out s (Reclaim limit) n (count, e, within) = let no : ⊥ = cc e in absurd no
+purges_by out s Compact n (k, e, least, most) = let no : ⊥ = cc e in absurd no
+purges_by out s (Import name) n e = let no : ⊥ = cc e in absurd no
+purges_by out s (Export name) n e = let no : ⊥ = cc e in absurd no
+purges_by out s (Bounce name) n e = absurd e
+
+purges : (out : Outside) (s : State) (c : Call) (n : ℕ) → MayAnswer out s c (reply.Purged n) →
+    Purges (moves_of c) (after out s c).history.cursor n
+purges out s (call.Line c) n e = purges_by out s (shape_of c) n e
+purges out s (call.Piece track tag samples) n e = let no : ⊥ = cc e in absurd no
+purges out s call.Pin n e = let no : ⊥ = cc e in absurd no
+purges out s (call.PinLen pin) n (p, at, e) = let no : ⊥ = cc e in absurd no
+purges out s (call.ReadPin pin from count) n (p, at, e) = let no : ⊥ = cc e in absurd no
+purges out s (call.LoadPin pin from count) n (p, at, e) = let no : ⊥ = cc e in absurd no
+purges out s (call.Unpin pin) n e = let no : ⊥ = cc e in absurd no
+
+-- a call that neither packs the journal nor purges to a size leaves the studio as it is
+pub answered_same : (out : Outside) (s : State) (c : Call) (r : Reply) → MayAnswer out s c r → moves_of c ≡ 0 →
     (t : Studio) → answered r t ≡ t
 answered_same out s c reply.Done may none t = refl
 answered_same out s c reply.Copied may none t = refl
@@ -118,23 +279,28 @@ answered_same out s c (reply.Columns columns) may none t = refl
 answered_same out s c (reply.Tracks tracks) may none t = refl
 answered_same out s c (reply.Freed count) may none t = refl
 answered_same out s c (reply.Packed bytes) may none t =
-    let is = packs out s c bytes may in absurd (omega (arith, is.one, none))
+    let is = packs out s c bytes may in absurd (omega (arith, is.moved, none))
+answered_same out s c (reply.Purged n) may none t =
+    let is = purges out s c n may in absurd (omega (arith, is.moved, none))
 answered_same out s c (reply.Wrote bytes) may none t = refl
 answered_same out s c (reply.Pinned pin) may none t = refl
 answered_same out s c (reply.Length frames) may none t = refl
+answered_same out s c (reply.Loaded tracks) may none t = refl
 answered_same out s c (reply.Refused why) may none t = refl
 
--- an answer that the call may give keeps the bounds, where its generation is within them
+-- an answer that the call may give keeps the bounds, where its generation is within them, and the history is the one
+-- that the call leads to
 pub answered_bounded : (out : Outside) (t : Studio) (c : Call) (r : Reply) (u : Studio) → MayAnswer out t.state c r →
-    u.generation + generations_of c ≤ 2 ^ 62 → IsBoundedStudio u → IsBoundedStudio (answered r u)
-answered_bounded out t c reply.Done u may room b = b
-answered_bounded out t c reply.Copied u may room b = b
-answered_bounded out t c (reply.Cells cells) u may room b = b
-answered_bounded out t c (reply.Frames frames) u may room b = b
-answered_bounded out t c (reply.Columns columns) u may room b = b
-answered_bounded out t c (reply.Tracks tracks) u may room b = b
-answered_bounded out t c (reply.Freed count) u may room b = b
-answered_bounded out t c (reply.Packed bytes) u may room b =
+    u.generation + generations_of c ≤ 2 ^ 62 → u.state ≡ after out t.state c → IsBoundedStudio u →
+    IsBoundedStudio (answered r u)
+answered_bounded out t c reply.Done u may room led b = b
+answered_bounded out t c reply.Copied u may room led b = b
+answered_bounded out t c (reply.Cells cells) u may room led b = b
+answered_bounded out t c (reply.Frames frames) u may room led b = b
+answered_bounded out t c (reply.Columns columns) u may room led b = b
+answered_bounded out t c (reply.Tracks tracks) u may room led b = b
+answered_bounded out t c (reply.Freed count) u may room led b = b
+answered_bounded out t c (reply.Packed bytes) u may room led b =
     let is = packs out t.state c bytes may in
     record {
       state = b.state;
@@ -146,7 +312,28 @@ answered_bounded out t c (reply.Packed bytes) u may room b =
       generation = (omega arith, omega (arith, is.one, room));
       journal_end = (omega (arith, is.least), omega (arith, is.most));
     }
-answered_bounded out t c (reply.Wrote bytes) u may room b = b
-answered_bounded out t c (reply.Pinned pin) u may room b = b
-answered_bounded out t c (reply.Length frames) u may room b = b
-answered_bounded out t c (reply.Refused why) u may room b = b
+answered_bounded out t c (reply.Purged n) u may room led b =
+    let is = purges out t.state c n may in
+    record {
+      state = record {
+        history = purged_points u.state.next_track u.state.commit u.state.commit n u.state.history (omega arith)
+            b.state.history (omega (arith, is.within, ap (λ (s : State). s.history.cursor) led));
+        clipboard = b.state.clipboard;
+        pins = b.state.pins;
+        next_track = b.state.next_track;
+        next_pin = b.state.next_pin;
+        commit = b.state.commit;
+      };
+      rate = b.rate;
+      block_size = b.block_size;
+      next_block = b.next_block;
+      file = b.file;
+      version = b.version;
+      generation = b.generation;
+      journal_end = b.journal_end;
+    }
+answered_bounded out t c (reply.Wrote bytes) u may room led b = b
+answered_bounded out t c (reply.Pinned pin) u may room led b = b
+answered_bounded out t c (reply.Length frames) u may room led b = b
+answered_bounded out t c (reply.Loaded tracks) u may room led b = b
+answered_bounded out t c (reply.Refused why) u may room led b = b

@@ -43,12 +43,13 @@ piece_bounded s track tag samples b room made few =
 pub call_bounded : (out : Outside) (s : State) (c : Call) → IsBoundedState s → IsCallInForm s.commit c →
     call_tests out s c ≡ None → s.next_track + tracks_of out c ≤ 2 ^ 62 → s.commit + commits_of c ≤ 2 ^ 62 →
     s.next_pin + pins_of c ≤ 2 ^ 62 → IsBoundedState (after out s c)
-call_bounded out s (call.Line c) b form e tracks room pins = line_bounded out s c b form e tracks room
+call_bounded out s (call.Line c) b form e tracks room pins = line_bounded out s c b form.0 e tracks room
 call_bounded out s (call.Piece track tag samples) b form e tracks room pins =
     piece_bounded s track tag samples b room form.1 (piece_passed s track (length samples) e)
 call_bounded out s call.Pin b form e tracks room pins = pin_bounded s b pins
 call_bounded out s (call.PinLen pin) b form e tracks room pins = b
 call_bounded out s (call.ReadPin pin from count) b form e tracks room pins = b
+call_bounded out s (call.LoadPin pin from count) b form e tracks room pins = b
 call_bounded out s (call.Unpin pin) b form e tracks room pins = unpin_bounded s pin b
 
 -- each counter has room for what is needed of it

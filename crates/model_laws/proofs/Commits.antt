@@ -19,4 +19,5 @@ call_commits out s (call.Piece track tag samples) = refl
 call_commits out s call.Pin = omega arith
 call_commits out s (call.PinLen pin) = omega arith
 call_commits out s (call.ReadPin pin from count) = omega arith
+call_commits out s (call.LoadPin pin from count) = omega arith
 call_commits out s (call.Unpin pin) = omega arith

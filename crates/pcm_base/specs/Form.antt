@@ -1,16 +1,17 @@
 -- The commands of a script and the other calls, in their bounds. The parser gives no others, and an editor is asked no
 -- others.
-use Rattle.std.specs.Prelude.{ℕ, ◌^◌, ◌<◌, ◌≤◌, nat_le, ◌==◌, ◌&&◌, ◌||◌, not, Bool, false, IsTrue, List, [], ◌∷◌}
+use Rattle.std.specs.Prelude.{ℕ, ◌+◌, ◌^◌, ◌<◌, ◌≤◌, nat_le, ◌==◌, ◌&&◌, ◌||◌, not, Bool, false, IsTrue, List, [], ◌∷◌}
 use Rattle.std.specs.Prelude.{length, Option, Some, None}
 use Rattle.std.specs.List.{list_all}
 use Rattle.pcm_base.specs.declared.command.Command.{Command}
+use Rattle.pcm_base.specs.declared.command.Command.TheVariants as command
 use Rattle.pcm_base.specs.declared.command.Call.{Call}
 use Rattle.pcm_base.specs.declared.command.Call.TheVariants as call
-use Rattle.pcm_base.specs.declared.limits.TheConstants.{MAX_GAIN, MAX_RAMP}
+use Rattle.pcm_base.specs.declared.limits.TheConstants.{MAX_GAIN, MAX_LOADED, MAX_RAMP}
 use Rattle.pcm_base.specs.declared.chunk.TheConstants.{BATCH_SAMPLES}
 use Rattle.pcm_base.specs.Shape.{Shape, NewTrack, DropTrack, SetTrack, PutIn, EditRange, CutRun, CopyRun, PasteRun}
-use Rattle.pcm_base.specs.Shape.{MoveTo, Purge, Look, Reclaim, Compact, Import, Export, Source, Given, Ramp, View}
-use Rattle.pcm_base.specs.Shape.{Cells, Frames, Columns, Tracks, shape_of, gain_of_setting, gain_of_edit}
+use Rattle.pcm_base.specs.Shape.{MoveTo, Purge, PurgeTo, Look, Reclaim, Compact, Import, Export, Bounce, Source, Given}
+use Rattle.pcm_base.specs.Shape.{Ramp, View, Cells, Frames, Columns, Tracks, shape_of, gain_of_setting, gain_of_edit}
 
 -- a track's id, a place or a count
 abbrev pub IsNumber : ℕ → Type 0
@@ -79,20 +80,29 @@ IsShapeInForm (CopyRun track count from to) = IsNumber track × IsCount count ×
 IsShapeInForm (PasteRun track at placing) = IsNumber track × IsNumber at
 IsShapeInForm (MoveTo move) = Unit {0}
 IsShapeInForm (Purge count) = IsNumber count
+IsShapeInForm (PurgeTo bytes) = IsNumber bytes
 IsShapeInForm (Look view) = IsViewInForm view
 IsShapeInForm (Reclaim limit) = IsLimit limit
 IsShapeInForm Compact = Unit {0}
 IsShapeInForm (Import name) = IsName name
 IsShapeInForm (Export name) = IsName name
+IsShapeInForm (Bounce name) = IsName name
 
 abbrev pub IsInForm : Command → Type 0
 IsInForm c = IsShapeInForm (shape_of c)
 
--- A call, where this many commits were made: a recording is numbered by one of them, and few samples of it come at once.
+-- The line is one turn. Each is but `bounce`, which takes several: an editor is not asked to carry it out in one.
+abbrev pub IsTurn : Command → Type 0
+IsTurn (command.Bounce name) = ⊥
+IsTurn c = Unit {0}
+
+-- A call, where this many commits were made. A line is one turn. A recording is numbered by one of them, and few samples
+-- of it come at once. Of a pin no more frames are loaded at once than a load may have.
 abbrev pub IsCallInForm : ℕ → Call → Type 0
-IsCallInForm commit (call.Line c) = IsInForm c
+IsCallInForm commit (call.Line c) = IsInForm c × IsTurn c
 IsCallInForm commit (call.Piece track tag samples) = (1 ≤ tag) × (tag ≤ commit) × (length samples ≤ BATCH_SAMPLES)
 IsCallInForm commit call.Pin = Unit {0}
 IsCallInForm commit (call.PinLen pin) = Unit {0}
 IsCallInForm commit (call.ReadPin pin from count) = Unit {0}
+IsCallInForm commit (call.LoadPin pin from count) = (count ≤ MAX_LOADED) × (from + count < 2 ^ 64)
 IsCallInForm commit (call.Unpin pin) = Unit {0}

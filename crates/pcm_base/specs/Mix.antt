@@ -1,10 +1,12 @@
 -- The mix of a project, frame by frame.
-use Rattle.std.specs.Prelude.{ℕ, ℤ, pos, ◌+ℤ◌, List, [], ◌∷◌, map, filter, not, Bool, true, false, slice_index_or}
+use Rattle.std.specs.Prelude.{ℕ, ℤ, ◌-◌, pos, ◌+ℤ◌, List, [], ◌∷◌, map, filter, min, not, Bool, true, false}
+use Rattle.std.specs.Prelude.{slice_index_or}
 use Rattle.pcm_base.specs.declared.sound.Cell.{Cell}
 use Rattle.pcm_base.specs.declared.sound.Cell.TheVariants.{Gap, Sample}
 use Rattle.pcm_base.specs.declared.sound.Side.{Side}
 use Rattle.pcm_base.specs.declared.sound.Side.TheVariants.{Both, Left, Right}
 use Rattle.pcm_base.specs.declared.sound.Frame.{Frame}
+use Rattle.pcm_base.specs.declared.lists.LoadedTrack.{LoadedTrack}
 use Rattle.pcm_base.specs.Arithmetic.{scaled, clamped, counted_from}
 use Rattle.pcm_base.specs.Cells.{Track, Project, longest}
 
@@ -52,3 +54,16 @@ mix_length p = longest (unmuted p)
 
 abbrev pub mix_of : Project → List Frame
 mix_of p = map (frame_at p) (counted_from 0 (mix_length p))
+
+-- ---- tracks that are loaded
+
+-- this many cells of a track from a place on, gaps past its end
+abbrev pub stretch_of : (from n : ℕ) → Track → List Cell
+stretch_of from n t = map (λ i. slice_index_or t.cells i Gap) (counted_from from n)
+
+abbrev pub loaded_track : (from n : ℕ) → Track → LoadedTrack
+loaded_track from n t = record { gain = t.gain; side = t.side; cells = stretch_of from n t }
+
+-- the tracks that are heard from a place on: as many frames as there are, up to a number
+abbrev pub loaded_of : (from most : ℕ) → Project → List LoadedTrack
+loaded_of from most p = map (loaded_track from (min most (mix_length p - from))) (unmuted p)

@@ -2,6 +2,7 @@
 use Rattle.std.specs.Prelude.{◌≡◌, ◌⊎◌, ℕ, ◌+◌, ◌-◌, ◌≤◌, IsTrue, List, [], ◌∷◌, take, Option, Some}
 use Rattle.std.specs.Prelude.{None, IsSome, Result, Ok, Err}
 use Rattle.pcm_base.specs.declared.command.Command.{Command}
+use Rattle.pcm_base.specs.declared.command.Command.TheVariants as command
 use Rattle.pcm_base.specs.declared.command.Call.{Call}
 use Rattle.pcm_base.specs.declared.command.Call.TheVariants as call
 use Rattle.pcm_base.specs.declared.refusal.Refusal.{Refusal}
@@ -13,11 +14,13 @@ use Rattle.pcm_base.specs.declared.entry.Entry.{Entry}
 use Rattle.pcm_base.specs.declared.limits.TheConstants.{COUNTER_LIMIT}
 use Rattle.pcm_base.specs.Causes.{Rose, Cause, Test, Damage, Disk, Vault, Memory, cause_of}
 use Rattle.pcm_base.specs.Counters.{Needs, counter_tests, record_test, record_bytes}
+use Rattle.pcm_base.specs.History.{History, purged}
 use Rattle.pcm_base.specs.Outside.{Outside, Sounds, SameElsewhere}
 pub use Rattle.pcm_base.specs.Reach.{may_change_line, may_change, name_in_line, name_in}
 use Rattle.pcm_base.specs.Refusals.{◌otherwise◌, call_tests}
 use Rattle.pcm_base.specs.Shape.{Shape, NewTrack, DropTrack, SetTrack, PutIn, EditRange, CutRun, CopyRun, PasteRun}
-use Rattle.pcm_base.specs.Shape.{MoveTo, Purge, Look, Reclaim, Compact, Import, Export, shape_of}
+use Rattle.pcm_base.specs.Shape.{MoveTo, Purge, PurgeTo, Look, Reclaim, Compact, Import, Export, Bounce, shape_of}
+use Rattle.pcm_base.specs.State.{State}
 use Rattle.pcm_base.specs.Step.{after, sound_after, mix_file, MayAnswer}
 use Rattle.pcm_base.specs.Studio.{Studio, fault_sum}
 
@@ -37,6 +40,7 @@ stop_test stopped (call.Piece track tag samples) = stop_of stopped
 stop_test stopped call.Pin = stop_of stopped
 stop_test stopped (call.PinLen pin) = stop_of stopped
 stop_test stopped (call.ReadPin pin from count) = stop_of stopped
+stop_test stopped (call.LoadPin pin from count) = stop_of stopped
 stop_test stopped (call.Unpin pin) = None
 
 -- all that refuses a call before a device is asked, want of memory aside, where it needs this many blocks and a record of
@@ -46,7 +50,8 @@ refusal_of out t c blocks len =
     (stop_test t.stopped c) otherwise (call_tests out t.state c) otherwise (counter_tests out t c blocks len) otherwise
     (record_test len)
 
--- the studio after a call that nothing refuses, but for the journal of one that is packed
+-- the studio after a call that nothing refuses, but for the journal of one that is packed, and for the points that a
+-- purge to a size drops
 abbrev pub followed : Outside → Studio → Call → ℕ → ℕ → Studio
 followed out t c blocks len = record t {
   state = after out t.state c;
@@ -54,17 +59,28 @@ followed out t c blocks len = record t {
   journal_end = t.journal_end + record_bytes c len;
 }
 
--- The journal stands in the other file from then on, in version 2, in the next generation and at its end: the last of
+-- The journal stands in the other file from then on, in version 3, in the next generation and at its end: the last of
 -- these bytes is the gate of the next record.
 abbrev pub packed : ℕ → Studio → Studio
 packed bytes t = record t {
   file = 1 - t.file;
-  version = 2;
+  version = 3;
   generation = t.generation + 1;
   journal_end = bytes - 1;
 }
 
--- the studio after the answer: the journal is another one where it was packed
+-- the history after the answer: this many of the oldest points are gone
+abbrev pub told_history : {P : Type 0} → Reply → History P → History P
+told_history (reply.Purged n) h = purged h n
+told_history r h = h
+
+abbrev pub told_state : Reply → State → State
+told_state r s = record s { history = told_history r s.history }
+
+abbrev pub forgotten : ℕ → Studio → Studio
+forgotten n t = record t { state = told_state (reply.Purged n) t.state }
+
+-- the studio after the answer: the journal is another one where it was packed, and the points that it says are gone
 abbrev pub answered : Reply → Studio → Studio
 answered reply.Done t = t
 answered reply.Copied t = t
@@ -74,9 +90,11 @@ answered (reply.Columns columns) t = t
 answered (reply.Tracks tracks) t = t
 answered (reply.Freed count) t = t
 answered (reply.Packed bytes) t = packed bytes t
+answered (reply.Purged n) t = forgotten n t
 answered (reply.Wrote bytes) t = t
 answered (reply.Pinned pin) t = t
 answered (reply.Length frames) t = t
+answered (reply.Loaded tracks) t = t
 answered (reply.Refused why) t = t
 
 -- a call was carried out, with this many new blocks and a record of this length
@@ -95,6 +113,16 @@ pub record Refuses (t : Studio) (c : Call) (sound : SoundMove) (why : Refusal) (
   pub len : ℕ
   pub needs : Needs (outside t sound) t c blocks len
   pub first : refusal_of (outside t sound) t c blocks len ≡ Some why
+  pub same : u ≡ t
+  pub quiet : sound.after ≡ sound.before
+
+-- No point has to go for the files to have at most this many bytes, or the oldest point is current. The sizes of the
+-- files decide which, and the model has none of them.
+pub record LeavesAll (t : Studio) (c : Call) (sound : SoundMove) (why : Refusal) (u : Studio) : Type 0 where
+  pub bytes : ℕ
+  pub line : c ≡ call.Line (command.PurgeTo bytes)
+  pub going : t.stopped ≡ None
+  pub reason : why ≡ refusal.BadRange
   pub same : u ≡ t
   pub quiet : sound.after ≡ sound.before
 
@@ -129,11 +157,13 @@ LeavesBy t (CopyRun id n from to) sound = sound.after ≡ sound.before
 LeavesBy t (PasteRun id at placing) sound = sound.after ≡ sound.before
 LeavesBy t (MoveTo move) sound = sound.after ≡ sound.before
 LeavesBy t (Purge n) sound = sound.after ≡ sound.before
+LeavesBy t (PurgeTo bytes) sound = sound.after ≡ sound.before
 LeavesBy t (Look view) sound = sound.after ≡ sound.before
 LeavesBy t (Reclaim limit) sound = sound.after ≡ sound.before
 LeavesBy t Compact sound = sound.after ≡ sound.before
 LeavesBy t (Import name) sound = sound.after ≡ sound.before
 LeavesBy t (Export name) sound = IsPartOfMix t.rate t sound
+LeavesBy t (Bounce name) sound = sound.after ≡ sound.before
 
 abbrev pub LeavesLine : Studio → Command → SoundMove → Type 0
 LeavesLine t c sound = LeavesBy t (shape_of c) sound
@@ -144,6 +174,7 @@ Leaves t (call.Piece track tag samples) sound = sound.after ≡ sound.before
 Leaves t call.Pin sound = sound.after ≡ sound.before
 Leaves t (call.PinLen pin) sound = sound.after ≡ sound.before
 Leaves t (call.ReadPin pin from count) sound = sound.after ≡ sound.before
+Leaves t (call.LoadPin pin from count) sound = sound.after ≡ sound.before
 Leaves t (call.Unpin pin) sound = sound.after ≡ sound.before
 
 -- A device broke a call off: ids of blocks may have been given, no more than the call may need and there is room for,
@@ -200,15 +231,17 @@ result_of (reply.Columns columns) = Ok (reply.Columns columns)
 result_of (reply.Tracks tracks) = Ok (reply.Tracks tracks)
 result_of (reply.Freed count) = Ok (reply.Freed count)
 result_of (reply.Packed bytes) = Ok (reply.Packed bytes)
+result_of (reply.Purged n) = Ok (reply.Purged n)
 result_of (reply.Wrote bytes) = Ok (reply.Wrote bytes)
 result_of (reply.Pinned pin) = Ok (reply.Pinned pin)
 result_of (reply.Length frames) = Ok (reply.Length frames)
+result_of (reply.Loaded tracks) = Ok (reply.Loaded tracks)
 result_of (reply.Refused why) = Err why
 
 -- what a call answers, and the studio after it
 abbrev pub Answers : Studio → Call → SoundMove → Result Reply Refusal → Studio → Type 0
 Answers t c sound (Ok r) u = CarriesOut t c sound r u
-Answers t c sound (Err why) u = Refuses t c sound why u ⊎ Breaks t c sound why u
+Answers t c sound (Err why) u = Refuses t c sound why u ⊎ (LeavesAll t c sound why u ⊎ Breaks t c sound why u)
 
 -- one step: a call, what becomes of the sound that it names, the reply, and the studio after it
 abbrev pub Step : Studio → Call → SoundMove → Reply → Studio → Type 0

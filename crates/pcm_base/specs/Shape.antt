@@ -48,11 +48,13 @@ pub data Shape : Type 0 where
   PasteRun : ℕ → ℕ → Placing → Shape
   MoveTo : Move → Shape
   Purge : ℕ → Shape
+  PurgeTo : ℕ → Shape
   Look : View → Shape
   Reclaim : Option ℕ → Shape
   Compact : Shape
   Import : List ℕ → Shape
   Export : List ℕ → Shape
+  Bounce : List ℕ → Shape
 
 abbrev pub shape_of : Command → Shape
 shape_of command.Track = NewTrack
@@ -75,6 +77,7 @@ shape_of (command.PasteOver id at) = PasteRun id at Cover
 shape_of command.Undo = MoveTo Back
 shape_of command.Redo = MoveTo Forward
 shape_of (command.Purge n) = Purge n
+shape_of (command.PurgeTo bytes) = PurgeTo bytes
 shape_of (command.Show id from to) = Look (Cells id from to)
 shape_of (command.Mix from to) = Look (Frames from to)
 shape_of (command.Envelope id from to columns) = Look (Columns id from to columns)
@@ -83,6 +86,7 @@ shape_of (command.Reclaim limit) = Reclaim limit
 shape_of command.Compact = Compact
 shape_of (command.Import name) = Import name
 shape_of (command.Export name) = Export name
+shape_of (command.Bounce name) = Bounce name
 
 -- the line of an edit of a range
 abbrev pub range_line : RangeEdit → (id from to : ℕ) → Command
@@ -121,7 +125,7 @@ is_computed range.Silence = true
 is_computed range.Trim = false
 is_computed (range.Gain gain) = true
 
--- whether the line is a commit: not where it only looks, copies, reclaims, compacts or exports
+-- whether the line is a commit: not where it only looks, copies, reclaims, compacts, exports or bounces
 abbrev pub is_commit : Shape → Bool
 is_commit NewTrack = true
 is_commit (DropTrack id) = true
@@ -133,8 +137,10 @@ is_commit (CopyRun id n from to) = false
 is_commit (PasteRun id at placing) = true
 is_commit (MoveTo move) = true
 is_commit (Purge n) = true
+is_commit (PurgeTo bytes) = true
 is_commit (Look view) = false
 is_commit (Reclaim limit) = false
 is_commit Compact = false
 is_commit (Import name) = true
 is_commit (Export name) = false
+is_commit (Bounce name) = false

@@ -16,14 +16,14 @@ use Rattle.pcm_base.specs.Cells.{changed_at}
 use Rattle.pcm_base.specs.Edits.{as_cells, part, range_of, inserted, range_edited, removed, placed, source_cells}
 use Rattle.pcm_base.specs.Edits.{with_setting}
 use Rattle.pcm_base.specs.History.{History, edited, recorded, at_cursor, purged}
-use Rattle.pcm_base.specs.Mix.{mix_of, mix_length}
+use Rattle.pcm_base.specs.Mix.{loaded_of, mix_of, mix_length}
 use Rattle.pcm_base.specs.Recordings.{pieces_in}
 use Rattle.pcm_base.specs.Wave.{Sound, wav_of, wav_text}
 use Rattle.pcm_base.specs.Outside.{Outside}
 use Rattle.pcm_base.specs.Envelope.{columns_of}
 use Rattle.pcm_base.specs.Shape.{Shape, NewTrack, DropTrack, SetTrack, PutIn, EditRange, CutRun, CopyRun, PasteRun}
-use Rattle.pcm_base.specs.Shape.{MoveTo, Purge, Look, Reclaim, Compact, Import, Export, Back, Forward, View, Cells, Frames}
-use Rattle.pcm_base.specs.Shape.{Columns, Tracks, shape_of, is_commit}
+use Rattle.pcm_base.specs.Shape.{MoveTo, Purge, PurgeTo, Look, Reclaim, Compact, Import, Export, Bounce, Back, Forward}
+use Rattle.pcm_base.specs.Shape.{View, Cells, Frames, Columns, Tracks, shape_of, is_commit}
 use Rattle.pcm_base.specs.State.{State, current, clip_of}
 
 -- a new track: unity gain, on both sides, not muted
@@ -93,12 +93,15 @@ history_after out s (PasteRun id at placing) =
 history_after out s (MoveTo Back) = at_cursor s.history (s.history.cursor - 1)
 history_after out s (MoveTo Forward) = at_cursor s.history (s.history.cursor + 1)
 history_after out s (Purge n) = purged s.history n
+-- what goes is what the reply says: `answered` of Run.antt
+history_after out s (PurgeTo bytes) = s.history
 history_after out s (Look view) = s.history
 history_after out s (Reclaim limit) = s.history
 history_after out s Compact = s.history
 history_after out s (Import name) =
     edited s.history (current s ++ channel_tracks s.next_track (channels_of out.sound)) 0
 history_after out s (Export name) = s.history
+history_after out s (Bounce name) = s.history
 
 -- the clipboard after a line: what was cut or copied
 abbrev pub clipboard_after : State → Shape → Option (List (List Cell))
@@ -112,11 +115,13 @@ clipboard_after s (CopyRun id n from to) = Some (copied id n from to (current s)
 clipboard_after s (PasteRun id at placing) = s.clipboard
 clipboard_after s (MoveTo move) = s.clipboard
 clipboard_after s (Purge n) = s.clipboard
+clipboard_after s (PurgeTo bytes) = s.clipboard
 clipboard_after s (Look view) = s.clipboard
 clipboard_after s (Reclaim limit) = s.clipboard
 clipboard_after s Compact = s.clipboard
 clipboard_after s (Import name) = s.clipboard
 clipboard_after s (Export name) = s.clipboard
+clipboard_after s (Bounce name) = s.clipboard
 
 -- how many track ids a line gives, where it gives any
 abbrev pub tracks_given : Outside → Shape → Option ℕ
@@ -130,11 +135,13 @@ tracks_given out (CopyRun id n from to) = None
 tracks_given out (PasteRun id at placing) = None
 tracks_given out (MoveTo move) = None
 tracks_given out (Purge n) = None
+tracks_given out (PurgeTo bytes) = None
 tracks_given out (Look view) = None
 tracks_given out (Reclaim limit) = None
 tracks_given out Compact = None
 tracks_given out (Import name) = Some (length (channels_of out.sound))
 tracks_given out (Export name) = None
+tracks_given out (Bounce name) = None
 
 -- a number that goes on by these, if by any
 abbrev pub onward : ℕ → Option ℕ → ℕ
@@ -176,6 +183,7 @@ after out s (call.Piece track tag samples) = with_piece s track tag samples
 after out s call.Pin = record s { pins = with_pin s.next_pin (current s) s.pins; next_pin = s.next_pin + 1 }
 after out s (call.PinLen pin) = s
 after out s (call.ReadPin pin from count) = s
+after out s (call.LoadPin pin from count) = s
 after out s (call.Unpin pin) = record s { pins = without_pin pin s.pins }
 
 -- the mix as a WAV file
@@ -194,11 +202,13 @@ sound_by out s (CopyRun id n from to) = out.sound
 sound_by out s (PasteRun id at placing) = out.sound
 sound_by out s (MoveTo move) = out.sound
 sound_by out s (Purge n) = out.sound
+sound_by out s (PurgeTo bytes) = out.sound
 sound_by out s (Look view) = out.sound
 sound_by out s (Reclaim limit) = out.sound
 sound_by out s Compact = out.sound
 sound_by out s (Import name) = out.sound
 sound_by out s (Export name) = Some (mix_file out.rate s)
+sound_by out s (Bounce name) = out.sound
 
 abbrev pub sound_after_line : Outside → State → Command → Option (List ℕ)
 sound_after_line out s c = sound_by out s (shape_of c)
@@ -210,6 +220,7 @@ sound_after out s (call.Piece track tag samples) = out.sound
 sound_after out s call.Pin = out.sound
 sound_after out s (call.PinLen pin) = out.sound
 sound_after out s (call.ReadPin pin from count) = out.sound
+sound_after out s (call.LoadPin pin from count) = out.sound
 sound_after out s (call.Unpin pin) = out.sound
 
 -- as many files were removed as were asked for, or fewer
@@ -236,11 +247,14 @@ MayReplyBy out s (CopyRun id n from to) r = r ≡ reply.Copied
 MayReplyBy out s (PasteRun id at placing) r = r ≡ reply.Done
 MayReplyBy out s (MoveTo move) r = r ≡ reply.Done
 MayReplyBy out s (Purge n) r = r ≡ reply.Done
+MayReplyBy out s (PurgeTo bytes) r = (n : ℕ) × (r ≡ reply.Purged n) × (1 ≤ n) × (n ≤ s.history.cursor)
 MayReplyBy out s (Look view) r = r ≡ seen s view
 MayReplyBy out s (Reclaim limit) r = (count : ℕ) × (r ≡ reply.Freed count) × IsWithin limit count
 MayReplyBy out s Compact r = (bytes : ℕ) × (r ≡ reply.Packed bytes) × (FIRST_RECORD < bytes) × (bytes ≤ COUNTER_LIMIT)
 MayReplyBy out s (Import name) r = r ≡ reply.Done
 MayReplyBy out s (Export name) r = r ≡ reply.Wrote (length (mix_file out.rate s))
+-- the line is no step: its turns are
+MayReplyBy out s (Bounce name) r = ⊥
 
 abbrev pub MayReply : Outside → State → Command → Reply → Type 0
 MayReply out s c r = MayReplyBy out s (shape_of c) r
@@ -257,4 +271,5 @@ MayAnswer out s call.Pin r = r ≡ reply.Pinned s.next_pin
 MayAnswer out s (call.PinLen pin) r = FromPin s pin (λ p. reply.Length (mix_length p)) r
 MayAnswer out s (call.ReadPin pin from count) r =
     FromPin s pin (λ p. reply.Frames (take count (drop from (mix_of p)))) r
+MayAnswer out s (call.LoadPin pin from count) r = FromPin s pin (λ p. reply.Loaded (loaded_of from count p)) r
 MayAnswer out s (call.Unpin pin) r = r ≡ reply.Done

@@ -116,6 +116,10 @@ pub enum Command {
     Purge {
         count: u64,
     },
+    /// Forgets so many of the oldest points that the block files of the others have at most this many bytes.
+    PurgeTo {
+        bytes: u64,
+    },
     /// Shows the cells of a range, none beyond the track's end.
     Show {
         track: u64,
@@ -150,11 +154,15 @@ pub enum Command {
     Export {
         name: Name,
     },
+    /// Writes the mix as a sound, as it is when the line begins, and lets others have turns meanwhile.
+    Bounce {
+        name: Name,
+    },
 }
 
 impl Command {
-    /// Whether it is a commit where it is carried out: not where it only looks, copies, reclaims, compacts or
-    /// exports.
+    /// Whether it is a commit where it is carried out: not where it only looks, copies, reclaims, compacts,
+    /// exports or bounces.
     pub fn is_commit(&self) -> bool
         ensures { result ≡ (commits_of (Line self.now) == 1) }
     {
@@ -166,7 +174,8 @@ impl Command {
             | Command::Tracks
             | Command::Reclaim { .. }
             | Command::Compact
-            | Command::Export { .. } => false,
+            | Command::Export { .. }
+            | Command::Bounce { .. } => false,
             _ => true,
         }
     }
@@ -194,6 +203,12 @@ pub enum Call {
     },
     /// Reads the frames of the mix of a pin, from a place on: as many as are there, at most `count`.
     ReadPin {
+        pin: u64,
+        from: u64,
+        count: u64,
+    },
+    /// Loads the tracks of a pin that are heard, from a place on: as many frames as are there, at most `count`.
+    LoadPin {
         pin: u64,
         from: u64,
         count: u64,

@@ -32,9 +32,13 @@ pub use entry::{Entry, Event, SoundMove};
 pub use failed::{Failed, NoMemory};
 pub use limits::{
     COUNTER_LIMIT, FIRST_BLOCK, FIRST_RECORD, LEAST_END, LONGEST_BODY, MAX_BLOCK_SAMPLES,
-    MAX_CELLS, MAX_DEPTH, MAX_GAIN, MAX_RAMP, MAX_TRACKS, MAX_VIEW, UNITY_GAIN,
+    MAX_CELLS, MAX_DEPTH, MAX_GAIN, MAX_LOADED, MAX_RAMP, MAX_TRACKS, MAX_VIEW, OLD_DEPTH,
+    SAMPLE_WIDTH, UNITY_GAIN,
 };
-pub use lists::{Bytes, CellList, Columns, Frames, Items, Numbers, Samples, TrackLines};
+pub use lists::{
+    Bytes, CellList, Columns, Frames, Items, LoadedTrack, LoadedTracks, Numbers, Samples,
+    TrackLines,
+};
 pub use name::Name;
 pub use piece::Piece;
 pub use refusal::Refusal;

@@ -21,8 +21,17 @@ pub const MAX_RAMP: u32 = 1_048_576;
 /// How many cells, frames or columns are shown by one line at most.
 pub const MAX_VIEW: u64 = 4096;
 
+/// How many frames of a pin's tracks are loaded at once at most.
+pub const MAX_LOADED: usize = 65_536;
+
 /// How many points a history keeps at most.
-pub const MAX_DEPTH: u32 = 4096;
+pub const MAX_DEPTH: u32 = 65_536;
+
+/// And at most in a journal of version 1 or 2.
+pub const OLD_DEPTH: u32 = 4096;
+
+/// How many bits a sample has.
+pub const SAMPLE_WIDTH: u32 = 16;
 
 /// How many samples a block has at most.
 pub const MAX_BLOCK_SAMPLES: u32 = 262_144;

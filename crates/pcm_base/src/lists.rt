@@ -1,7 +1,7 @@
 // Lists that commands, answers and devices carry.
 ghost use Rattle.std.specs.Prelude.{◌≡◌};
 
-use super::sound::{Cell, Frame, Scan, TrackLine};
+use super::sound::{Cell, Frame, Scan, Side, TrackLine};
 use std::marker::Model;
 
 /// Values in order. Contracts see the list of them, and nothing of the vector that holds them.
@@ -55,6 +55,21 @@ pub type Columns = Items<Option<Scan>>;
 
 /// What is told of tracks, in their order.
 pub type TrackLines = Items<TrackLine>;
+
+/// A stretch of a track that is heard: its gain, the sides on which it is heard, and a cell for each frame, gaps past
+/// its end.
+#[derive(Debug, Drop)]
+pub struct LoadedTrack {
+    /// The gain.
+    pub gain: u32,
+    /// The sides.
+    pub side: Side,
+    /// The cells.
+    pub cells: CellList,
+}
+
+/// Stretches of the tracks that are heard, in the order of the tracks.
+pub type LoadedTracks = Items<LoadedTrack>;
 
 /// Numbers, in order: of the calls of a device that are to fail, or of commits.
 pub type Numbers = Items<u64>;

@@ -1,7 +1,6 @@
 // The counts of a store over files.
 ghost use Rattle.std.specs.Prelude.{◌≡◌, ◌≤◌, ◌+◌, ◌-◌, ◌^◌, min};
-ghost use Rattle.disk_model.specs.Ram.{counted};
-ghost use Rattle.disk_model.specs.Room.{raised};
+ghost use Rattle.disk_model.specs.Room.{counted, raised};
 
 use pcm_base::Failed;
 

@@ -13,8 +13,9 @@ use std::os::unix::fs::FileExt;
 /// How many files besides file 0 are kept open at most that were written and not asked to be synced since.
 pub(crate) const WRITTEN_FILES: usize = 512;
 
-/// How many more are kept open at most, which were read or synced: as many as a project has tracks.
-const READ_FILES: usize = 64;
+/// How many more are kept open at most, which were read or synced: twice as many as a project has tracks. A mix goes on
+/// to the next file of a track while those of all others are read, and the file that came first is closed.
+const READ_FILES: usize = 128;
 
 /// How many of either kind are kept at least, also where the system grants few descriptors.
 const FEWEST_FILES: usize = 8;

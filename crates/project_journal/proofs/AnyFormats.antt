@@ -1,16 +1,30 @@
--- A header of either version has a format that a header may have.
+-- A header of each version has a format that a header may have.
 use Rattle.std.proofs.Common.{◌≡◌, ◌⊎◌, ℕ, zero, suc, ◌-◌, ◌%◌, ◌^◌, ◌<◌, ◌≤◌, min, max, List, [], ◌∷◌, ◌++◌, None, eqb, refl, sym}
-use Rattle.std.proofs.Common.{arith, subst, inl, inr, ⊎_elim}
+use Rattle.std.proofs.Common.{arith, subst, inl, inr, ⊎_elim, Bool, true, false}
+use Rattle.std.specs.Prelude.{if◌then◌else◌, nat_lt}
 use Rattle.std.proofs.lemmas.Bool.{eqb-true}
 use Rattle.project_journal.specs.Fields.{field}
 use Rattle.disk_model.specs.Disk.{Files}
 use Rattle.project_journal.specs.Header.{Form, IsForm, IsFormat, first_failed, number_tests, base_tests, base_tests_in}
-use Rattle.project_journal.specs.Header.{last_tests, the_zeros, base_fields, base_header_tests}
+use Rattle.project_journal.specs.Header.{last_tests, the_zeros, base_fields, base_header_tests, depth_in}
+use Rattle.project_journal.specs.Header.{wide_header_tests}
+use Rattle.project_journal.specs.Header.{wide_tests}
 use Rattle.project_journal.specs.declared.base.Base.{Base}
 use Rattle.project_journal.specs.declared.fault.Damaged.{Damaged}
 use Rattle.project_journal.specs.Journal.{Log, HasLog, IsHeader}
 use Rattle.project_journal.proofs.Formats.{passed, is_size}
 use Rattle.project_journal.proofs.Seen.{both_pass}
+
+-- no version has more points than the last one
+depth_bounds : (version : ℕ) → (1 ≤ depth_in version) × (depth_in version ≤ 65536)
+depth_bounds version = by_old (nat_lt version 3)
+  where
+    by_old : (old : Bool) → (1 ≤ (if old then 4096 else 65536)) × ((if old then 4096 else 65536) ≤ 65536)
+    by_old true = (omega arith, omega arith)
+    by_old false = (omega arith, omega arith)
+
+capped : (most n : ℕ) → (1 ≤ most) × (most ≤ 65536) → min most (max 1 n) ≡ n → (1 ≤ n) × (n ≤ 65536)
+capped most n bounds is = (omega (arith, bounds.0, is), omega (arith, bounds.1, is))
 
 numbers_format : (version : ℕ) (head : List ℕ) → first_failed (number_tests version head) ≡ None
     → IsFormat (field 9 4 head) (field 13 4 head) (field 17 4 head)
@@ -23,26 +37,31 @@ numbers_format version head e =
     let depth = passed _ _ _ size.1 in
     let r : max 1 (field 9 4 head) ≡ field 9 4 head = eqb-true _ _ rate.0 in
     let m = is_size (field 13 4 head) (eqb-true _ _ size.0) in
-    let d : min 4096 (max 1 (field 17 4 head)) ≡ field 17 4 head = eqb-true _ _ depth.0 in
+    let d = capped (depth_in version) (field 17 4 head) (depth_bounds version) (eqb-true _ _ depth.0) in
     record {
       rate_least = omega (arith, r);
       even = m.0;
       block_least = m.1;
       block_most = m.2;
-      depth_least = omega (arith, d);
-      depth_most = omega (arith, d);
+      depth_least = d.0;
+      depth_most = d.1;
     }
 
--- of either version
+-- of each version
 pub numbers_sound : (form : Form) (head : List ℕ) → IsForm form → first_failed (form.tests head) ≡ None
     → IsFormat (field 9 4 head) (field 13 4 head) (field 17 4 head)
 numbers_sound form head known sound = ⊎_elim
     (λ one.
     let is = subst (λ (f : Form). first_failed (f.tests head) ≡ None) one sound in
     numbers_format 1 head (both_pass (number_tests 1 head) (the_zeros head) is).0)
+    (λ later. ⊎_elim
     (λ two.
     let is = subst (λ (f : Form). first_failed (f.tests head) ≡ None) two sound in
     numbers_format 2 head (both_pass (number_tests 2 head) (base_tests head ++ last_tests head) is).0)
+    (λ three.
+    let is = subst (λ (f : Form). first_failed (f.tests head) ≡ None) three sound in
+    numbers_format 3 head (both_pass (number_tests 3 head) (base_tests head ++ wide_tests head) is).0)
+    later)
     known
 
 pub header_format : (form : Form) (head : List ℕ) (log : Log) → IsForm form → IsHeader form head log
@@ -62,7 +81,7 @@ pub any_format : (form : Form) (log : Log) (c : Files) → IsForm form → HasLo
     → IsFormat log.rate log.block_size log.depth
 any_format form log c known has = header_format form has.spelled.head log known has.spelled.header
 
--- the base of either version is in its bounds
+-- the base of each version is in its bounds
 pub record HasBase (b : Base) : Type 0 where
   pub generation : b.generation ≤ 2 ^ 62
   pub commit : b.commit ≤ 2 ^ 62
@@ -127,6 +146,11 @@ second_base head sound =
     (both_pass (base_tests head) (last_tests head)
     (both_pass (number_tests 2 head) (base_tests head ++ last_tests head) sound).1).0
 
+third_base : (head : List ℕ) → first_failed (wide_header_tests head) ≡ None → first_failed (base_tests head) ≡ None
+third_base head sound =
+    (both_pass (base_tests head) (wide_tests head)
+    (both_pass (number_tests 3 head) (base_tests head ++ wide_tests head) sound).1).0
+
 pub base_sound : (form : Form) (head : List ℕ) → IsForm form → first_failed (form.tests head) ≡ None
     → HasBase (form.base_at head)
 base_sound form head known sound = ⊎_elim
@@ -138,9 +162,14 @@ base_sound form head known sound = ⊎_elim
       track_least = omega arith;
       track_most = omega arith;
     }))
+    (λ later. ⊎_elim
     (λ two.
     let is = subst (λ (f : Form). first_failed (f.tests head) ≡ None) two sound in
     subst (λ (f : Form). HasBase (f.base_at head)) (sym two) (base_bounds head (second_base head is)))
+    (λ three.
+    let is = subst (λ (f : Form). first_failed (f.tests head) ≡ None) three sound in
+    subst (λ (f : Form). HasBase (f.base_at head)) (sym three) (base_bounds head (third_base head is)))
+    later)
     known
 
 pub counts_sound : (form : Form) (head : List ℕ) → IsForm form → first_failed (form.tests head) ≡ None
@@ -148,9 +177,15 @@ pub counts_sound : (form : Form) (head : List ℕ) → IsForm form → first_fai
 counts_sound form head known sound = ⊎_elim
     (λ one. subst (λ (f : Form). HasCounts (field 17 4 head) (f.base_at head)) (sym one)
     (record { few = omega arith; current = inl refl }))
+    (λ later. ⊎_elim
     (λ two.
     let is = subst (λ (f : Form). first_failed (f.tests head) ≡ None) two sound in
     subst (λ (f : Form). HasCounts (field 17 4 head) (f.base_at head)) (sym two) (base_counts head (second_base head is)))
+    (λ three.
+    let is = subst (λ (f : Form). first_failed (f.tests head) ≡ None) three sound in
+    subst (λ (f : Form). HasCounts (field 17 4 head) (f.base_at head)) (sym three)
+    (base_counts head (third_base head is)))
+    later)
     known
 
 pub any_base : (form : Form) (log : Log) (c : Files) → IsForm form → HasLog form log c → HasBase log.base

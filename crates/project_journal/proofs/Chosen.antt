@@ -6,12 +6,12 @@ use Rattle.std.specs.List.{flat_map}
 use Rattle.disk_model.specs.Disk.{Files, bytes_of}
 use Rattle.project_journal.specs.Choice.{HasNoNewer, other_file, generation_at}
 use Rattle.project_journal.specs.Fields.{field}
-use Rattle.project_journal.specs.Header.{Form, IsForm, IsProject, form_1, form_2}
+use Rattle.project_journal.specs.Header.{Form, IsForm, IsProject, form_of}
 use Rattle.project_journal.specs.Journal.{Log, entry, HasLog}
 use Rattle.project_journal.proofs.Kept.{is_project}
 use Rattle.project_journal.proofs.Once.{log_once}
 use Rattle.project_journal.proofs.Parses.{form_least}
-use Rattle.project_journal.proofs.Seen.{log_seen, version_of, least_head, field_front}
+use Rattle.project_journal.proofs.Seen.{log_seen, form_by, least_head, field_front}
 
 -- a disk that has a journal has a project in its file
 pub journal_project : (form : Form) (log : Log) (c : Files) → IsForm form → HasLog form log c
@@ -41,16 +41,9 @@ one_form : (f g : Form) (a b : Log) (c : Files) → IsForm f → IsForm g → f.
 one_form f g a b c f-known g-known same p q =
     let version : field 5 4 p.spelled.head ≡ field 5 4 q.spelled.head = sym (version_here f a c f-known p)
     ∙ ap (λ (n : ℕ). field 5 4 (bytes_of (c n))) same ∙ version_here g b c g-known q in
-    ⊎_elim
-    (λ one. ⊎_elim
-    (λ other. one.0 ∙ ap form_1 same ∙ sym other.0)
-    (λ other. absurd (omega (arith, version, one.1, other.1)))
-    (version_of g q.spelled.head b g-known q.spelled.header))
-    (λ two. ⊎_elim
-    (λ other. absurd (omega (arith, version, two.1, other.1)))
-    (λ other. two.0 ∙ ap form_2 same ∙ sym other.0)
-    (version_of g q.spelled.head b g-known q.spelled.header))
-    (version_of f p.spelled.head a f-known p.spelled.header)
+    sym (form_by f p.spelled.head a f-known p.spelled.header)
+    ∙ ap (λ (v : ℕ). form_of v f.file) version ∙ ap (form_of (field 5 4 q.spelled.head)) same
+    ∙ form_by g q.spelled.head b g-known q.spelled.header
 
 -- of two journals in both files each would be the older
 lower : (f g : Form) (a b : Log) (c : Files) → IsForm g → other_file f.file ≡ g.file → HasLog f a c → HasLog g b c

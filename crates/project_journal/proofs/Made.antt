@@ -4,7 +4,7 @@ use Rattle.std.proofs.Common.{length-append}
 use Rattle.disk_model.specs.Disk.{Files}
 use Rattle.disk_model.specs.declared.store.Store.{Ghosts}
 use Rattle.project_journal.specs.Gate.{IsShut, IsOpen, IsShutOrOpen, IsDurable, EachNow}
-use Rattle.project_journal.specs.Header.{IsFormat, form_2}
+use Rattle.project_journal.specs.Header.{IsFormat, form_3}
 use Rattle.project_journal.specs.Journal.{fresh, HasLog, IsAt}
 use Rattle.project_journal.specs.Packing.{header_row, IsText}
 use Rattle.project_journal.specs.Start.{NoProject}
@@ -30,7 +30,7 @@ module _ (rate block_size depth : ℕ) (row : List ℕ) (fits : IsFormat rate bl
       refl (omega arith, tt)
 
   pub none_or_new : (c : Files) → NoProject 1 c → IsShutOrOpen 0 [] row c
-      → NoProject 0 c ⊎ HasLog (form_2 0) (fresh rate block_size depth) c
+      → NoProject 0 c ⊎ HasLog (form_3 0) (fresh rate block_size depth) c
   none_or_new c none (inl shut) = inl (none_shut 0 c shut)
   none_or_new c none (inr opened) =
       inr (text_there row (fresh rate block_size depth) 0 c fresh_text opened (λ project. absurd (none project)))
@@ -41,7 +41,7 @@ module _ (rate block_size depth : ℕ) (row : List ℕ) (fits : IsFormat rate bl
 
   pub is_new : {D : Type 0} (disk : Ghosts D) (store : D) → IsOpen 0 [] row (disk.reads store)
       → IsDurable disk store 0 → NoProject 1 (disk.reads store) → EachNow disk store (NoProject 1)
-      → IsAt (form_2 0) disk store 80 (fresh rate block_size depth)
+      → IsAt (form_3 0) disk store 80 (fresh rate block_size depth)
   is_new disk store opened same none each =
       let shut : IsShut 0 (opened.0 ∷ fresh_text.header) (disk.reads store) =
       fresh_shut 0 row fresh_text.header opened.0 (disk.reads store) fresh_text.parts opened.2 in

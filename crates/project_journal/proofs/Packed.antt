@@ -8,7 +8,7 @@ use Rattle.disk_model.specs.declared.store.Store.{Ghosts}
 use Rattle.disk_model.proofs.Moments.{each_from, each_on}
 use Rattle.project_journal.specs.Choice.{HasNoNewer, IsOlder, IsNewest, other_file}
 use Rattle.project_journal.specs.Gate.{IsShut, IsOpen, HasGate, IsShutOrOpen, IsDurable, EachNow, EachSince}
-use Rattle.project_journal.specs.Header.{Form, IsProject, form_2}
+use Rattle.project_journal.specs.Header.{Form, IsProject, form_3}
 use Rattle.project_journal.specs.Journal.{Log, HasLog, IsAt, IsLog}
 use Rattle.project_journal.specs.Packing.{IsText, MayPack, HasEither}
 use Rattle.project_journal.specs.Start.{NoProject}
@@ -48,7 +48,7 @@ newer_or_open file g text c = ⊎_elim (λ shut. inl (newer_none file g c (none_
 -- ---- the journal that was put into one header
 
 pub text_log : (text : List ℕ) (packed : Log) (file gate : ℕ) → gate ≢ 0 → (is : IsText text packed)
-    → IsLog (form_2 file) (gate ∷ is.header) packed
+    → IsLog (form_3 file) (gate ∷ is.header) packed
 text_log text packed file gate not_shut is = record {
   head = gate ∷ is.header;
   entries = [];
@@ -59,7 +59,7 @@ text_log text packed file gate not_shut is = record {
 }
 
 pub text_there : (text : List ℕ) (packed : Log) (file : ℕ) (c : Files) → IsText text packed → IsOpen file [] text c
-    → IsNewest file packed.base.generation c → HasLog (form_2 file) packed c
+    → IsNewest file packed.base.generation c → HasLog (form_3 file) packed c
 text_there text packed file c is opened newest = record {
   front = opened.0 ∷ is.header;
   spelled = text_log text packed file opened.0 opened.1 is;
@@ -117,7 +117,7 @@ module _ {D : Type 0} (disk : Ghosts D) (old mid : D) (file : ℕ) (there : Bool
         shut = subst (λ (f : ℕ). IsShut f here.front c) (sym may.same) (still_shut c since);
         newest = subst (λ (f : ℕ). IsNewest f log.base.generation c) (sym may.same) newer;
       }))
-      (λ opened. inr (subst (λ (f : ℕ). HasLog (form_2 (other_file f)) packed c) (sym may.same)
+      (λ opened. inr (subst (λ (f : ℕ). HasLog (form_3 (other_file f)) packed c) (sym may.same)
       (text_there text packed (other_file file) c may.spells opened (text_newest c (older_there c since)))))
       (any c since)
 
@@ -141,17 +141,17 @@ module _ {D : Type 0} (disk : Ghosts D) (old mid : D) (file : ℕ) (there : Bool
       newer_removed file packed.base.generation d c left.1 step,
     ))
 
-    text_left : (c : Files) → Left c → HasLog (form_2 (other_file file)) packed c
+    text_left : (c : Files) → Left c → HasLog (form_3 (other_file file)) packed c
     text_left c left = text_there text packed (other_file file) c may.spells (open_text (other_file file) text c left.0)
         (text_newest c left.1)
 
     pub all_moments : EachSince disk old new (HasEither form log packed)
     all_moments = each_on (HasEither form log packed) (disk.clock old) removes follows.later one_moment
-        (λ c since. inr (subst (λ (f : ℕ). HasLog (form_2 (other_file f)) packed c) (sym may.same)
+        (λ c since. inr (subst (λ (f : ℕ). HasLog (form_3 (other_file f)) packed c) (sym may.same)
         (text_left c (left_since c since))))
 
     pub packed_at : RemoveStep file (disk.reads mid) (disk.reads new) → disk.reads new file ≡ None
-        → IsAt (form_2 (other_file file)) disk new (length text) packed
+        → IsAt (form_3 (other_file file)) disk new (length text) packed
     packed_at step gone =
         let other = other_file file in
         let reads : disk.reads new other ≡ Some (1 ∷ text) = step.others other (others_differ file) ∙ whole in

@@ -6,7 +6,8 @@ use Rattle.std.proofs.lemmas.List.{drop-replicate, get_or-drop, take_min}
 use Rattle.byteorder.specs.Endian.{little_from}
 use Rattle.project_journal.specs.declared.fault.Damaged.{Damaged}
 use Rattle.project_journal.specs.Fields.{field}
-use Rattle.project_journal.specs.Header.{base_fields, base_tests, base_tests_in, last_tests, last_tests_in}
+use Rattle.project_journal.specs.Header.{base_fields, base_tests, base_tests_in, last_tests, last_tests_in, wide_tests}
+use Rattle.project_journal.specs.Header.{wide_tests_in}
 
 zeros_get : (n j : ℕ) → ◌≡◌ {A = ℕ} (get_or (replicate n 0) j 0) 0
 zeros_get zero j = refl
@@ -84,6 +85,14 @@ padded_zeros len bytes = rw (
   padded_byte 63 bytes (omega arith),
 ) refl
 
+pub padded_wide : (len : ℕ) (bytes : List ℕ) → wide_tests_in len (padded bytes) ≡ wide_tests_in len bytes
+unfolding wide_tests_in
+padded_wide len bytes = rw (
+  padded_byte 61 bytes (omega arith),
+  padded_byte 62 bytes (omega arith),
+  padded_byte 63 bytes (omega arith),
+) refl
+
 -- so the tests of the padded bytes are those of all
 pub tests_same : (len : ℕ) (head bytes : List ℕ) (tests : List Damaged) → head ≡ padded bytes → len ≡ length bytes
     → tests ≡ base_tests_in len head → tests ≡ base_tests bytes
@@ -94,6 +103,11 @@ pub zeros_same : (len : ℕ) (head bytes : List ℕ) (tests : List Damaged) → 
     → tests ≡ last_tests_in len head → tests ≡ last_tests bytes
 zeros_same len head bytes tests same size is =
     is ∙ ap (last_tests_in len) same ∙ padded_zeros len bytes ∙ ap (λ (n : ℕ). last_tests_in n bytes) size
+
+pub wide_same : (len : ℕ) (head bytes : List ℕ) (tests : List Damaged) → head ≡ padded bytes → len ≡ length bytes
+    → tests ≡ wide_tests_in len head → tests ≡ wide_tests bytes
+wide_same len head bytes tests same size is =
+    is ∙ ap (wide_tests_in len) same ∙ padded_wide len bytes ∙ ap (λ (n : ℕ). wide_tests_in n bytes) size
 
 pub told_as : (at want have : ℕ) {w h : ℕ} (d : Damaged) → d ≡ record { at = at; want = w; have = h } → w ≡ want → h ≡ have
     → d ≡ record { at = at; want = want; have = have }

@@ -3,6 +3,7 @@ use Rattle.std.proofs.Common.{◌≡◌, ◌≤◌, ⊎_elim, inl, inr, ℕ, Non
 use Rattle.std.specs.List.{flat_map}
 use Rattle.project_journal.specs.Fields.{field}
 use Rattle.project_journal.specs.Header.{Form, IsForm, base_tests, first_failed, form_of, last_tests, number_tests, the_zeros}
+use Rattle.project_journal.specs.Header.{wide_tests}
 use Rattle.project_journal.specs.Journal.{Contents, IsRead, entry, log_of}
 use Rattle.project_journal.proofs.Cuts.{cut_once, never_cut}
 use Rattle.project_journal.proofs.Once.{journal_once}
@@ -53,11 +54,18 @@ read_form form bytes j known is =
     let first = subst (λ (f : Form). first_failed (f.tests bytes) ≡ None) one sound in
     let numbers = numbers_pass 1 bytes (both_pass (number_tests 1 bytes) (the_zeros bytes) first).0 in
     ap (λ (v : ℕ). form_of v form.file) numbers.version_is ∙ sym one)
+    (λ later. ⊎_elim
     (λ two.
     let second = subst (λ (f : Form). first_failed (f.tests bytes) ≡ None) two sound in
     let numbers = numbers_pass 2 bytes
     (both_pass (number_tests 2 bytes) (base_tests bytes ++ last_tests bytes) second).0 in
     ap (λ (v : ℕ). form_of v form.file) numbers.version_is ∙ sym two)
+    (λ three.
+    let third = subst (λ (f : Form). first_failed (f.tests bytes) ≡ None) three sound in
+    let numbers = numbers_pass 3 bytes
+    (both_pass (number_tests 3 bytes) (base_tests bytes ++ wide_tests bytes) third).0 in
+    ap (λ (v : ℕ). form_of v form.file) numbers.version_is ∙ sym three)
+    later)
     known
 
 pub read_once : (form : Form) (bytes : List ℕ) (i j : Contents) → IsForm form → IsRead form bytes i

@@ -8,9 +8,9 @@ use Rattle.disk_model.specs.Disk.{Files, bytes_of}
 use Rattle.project_journal.specs.Choice.{IsOlder, generation_at, choice_tests}
 use Rattle.project_journal.specs.Fields.{field}
 use Rattle.project_journal.specs.Gate.{IsShut}
-use Rattle.project_journal.specs.Header.{Form, IsForm, first_failed, form_1, form_2, number_tests}
+use Rattle.project_journal.specs.Header.{Form, IsForm, first_failed, form_1, form_2, form_3, form_of, number_tests}
 use Rattle.project_journal.specs.declared.base.Base.{Base}
-use Rattle.project_journal.specs.Header.{base_tests, base_tests_in, last_tests, the_zeros}
+use Rattle.project_journal.specs.Header.{base_tests, base_tests_in, last_tests, the_zeros, wide_tests}
 use Rattle.project_journal.specs.declared.fault.Damaged.{Damaged}
 use Rattle.project_journal.specs.Journal.{Log, entry, IsHeader, IsLog}
 use Rattle.project_journal.proofs.Formats.{passed}
@@ -23,9 +23,12 @@ field_front at n head rest within least =
     sym (field_take at n 32 (head ++ rest) within)
     ∙ ap (field at n) (take-append-le 32 head rest least) ∙ field_take at n 32 head within
 
+abbrev IsVersion : ℕ → Type 0
+IsVersion v = (v ≡ 1) ⊎ ((v ≡ 2) ⊎ (v ≡ 3))
+
 pub record Chosen (head : List ℕ) (generation : ℕ) : Type 0 where
   pub magic : field 1 4 head ≡ 827214401
-  pub version : (field 5 4 head ≡ 1) ⊎ (field 5 4 head ≡ 2)
+  pub version : IsVersion (field 5 4 head)
   pub bound : generation ≤ 2 ^ 62
   pub is : generation_at head ≡ generation
 
@@ -36,6 +39,10 @@ first_version bytes is = rw (eq-eqb (field 5 4 bytes) 1 is) refl
 second_version : (bytes : List ℕ) → field 5 4 bytes ≡ 2 → generation_at bytes ≡ field 21 8 bytes
 unfolding generation_at
 second_version bytes is = rw is refl
+
+third_version : (bytes : List ℕ) → field 5 4 bytes ≡ 3 → generation_at bytes ≡ field 21 8 bytes
+unfolding generation_at
+third_version bytes is = rw is refl
 
 -- a list of tests passes where both its parts do
 pub both_pass : (xs ys : List Damaged) → first_failed (xs ++ ys) ≡ None
@@ -86,50 +93,78 @@ chosen_2 file head log is =
     let same : field 21 8 head ≡ log.base.generation = ap (λ (b : Base). b.generation) is.base in
     record {
       magic = numbers.magic;
-      version = inr numbers.version_is;
+      version = inr (inl numbers.version_is);
       bound = omega (arith, same, bound);
       is = second_version head numbers.version_is ∙ same;
+    }
+
+chosen_3 : (file : ℕ) (head : List ℕ) (log : Log) → IsHeader (form_3 file) head log
+    → Chosen head log.base.generation
+chosen_3 file head log is =
+    let parts = both_pass (number_tests 3 head) (base_tests head ++ wide_tests head) is.sound in
+    let numbers = numbers_pass 3 head parts.0 in
+    let bound = bound_passes head (both_pass (base_tests head) (wide_tests head) parts.1).0 in
+    let same : field 21 8 head ≡ log.base.generation = ap (λ (b : Base). b.generation) is.base in
+    record {
+      magic = numbers.magic;
+      version = inr (inr numbers.version_is);
+      bound = omega (arith, same, bound);
+      is = third_version head numbers.version_is ∙ same;
     }
 
 pub chosen : (form : Form) (head : List ℕ) (log : Log) → IsForm form → IsHeader form head log
     → Chosen head log.base.generation
 chosen form head log known is = ⊎_elim
     (λ one. chosen_1 form.file head log (subst (λ (f : Form). IsHeader f head log) one is))
+    (λ later. ⊎_elim
     (λ two. chosen_2 form.file head log (subst (λ (f : Form). IsHeader f head log) two is))
+    (λ three. chosen_3 form.file head log (subst (λ (f : Form). IsHeader f head log) three is))
+    later)
     known
 
-pub version_of : (form : Form) (head : List ℕ) (log : Log) → IsForm form → IsHeader form head log
-    → ((form ≡ form_1 form.file) × (field 5 4 head ≡ 1)) ⊎ ((form ≡ form_2 form.file) × (field 5 4 head ≡ 2))
-version_of form head log known is = ⊎_elim
+-- the version that a header says is that of its form
+pub form_by : (form : Form) (head : List ℕ) (log : Log) → IsForm form → IsHeader form head log
+    → form_of (field 5 4 head) form.file ≡ form
+form_by form head log known is = ⊎_elim
     (λ one.
     let sound = (subst (λ (f : Form). IsHeader f head log) one is).sound in
-    inl (one, (numbers_pass 1 head (both_pass (number_tests 1 head) (the_zeros head) sound).0).version_is))
+    let numbers = numbers_pass 1 head (both_pass (number_tests 1 head) (the_zeros head) sound).0 in
+    ap (λ (v : ℕ). form_of v form.file) numbers.version_is ∙ sym one)
+    (λ later. ⊎_elim
     (λ two.
     let sound = (subst (λ (f : Form). IsHeader f head log) two is).sound in
-    inr (
-      two,
-      (numbers_pass 2 head
-          (both_pass (number_tests 2 head) (base_tests head ++ last_tests head) sound).0).version_is,
-    ))
+    let numbers = numbers_pass 2 head (both_pass (number_tests 2 head) (base_tests head ++ last_tests head) sound).0 in
+    ap (λ (v : ℕ). form_of v form.file) numbers.version_is ∙ sym two)
+    (λ three.
+    let sound = (subst (λ (f : Form). IsHeader f head log) three is).sound in
+    let numbers = numbers_pass 3 head (both_pass (number_tests 3 head) (base_tests head ++ wide_tests head) sound).0 in
+    ap (λ (v : ℕ). form_of v form.file) numbers.version_is ∙ sym three)
+    later)
     known
 
 pub least_head : (form : Form) (head : List ℕ) (log : Log) → IsForm form → IsHeader form head log → 32 ≤ length head
 least_head form head log known is = ⊎_elim
     (λ one. (subst (λ (f : Form). IsHeader f head log) one is).least)
+    (λ later. ⊎_elim
     (λ two.
     let least = (subst (λ (f : Form). IsHeader f head log) two is).least in
     omega (arith, least))
+    (λ three.
+    let least = (subst (λ (f : Form). IsHeader f head log) three is).least in
+    omega (arith, least))
+    later)
     known
 
 pub choice_passes : (bytes : List ℕ) (g : ℕ) → Chosen bytes g → first_failed (choice_tests bytes) ≡ None
 unfolding choice_tests
 choice_passes bytes g is =
-    let version : min 2 (max 1 (field 5 4 bytes)) ≡ field 5 4 bytes = ⊎_elim
-    (λ one. omega (arith, one)) (λ two. omega (arith, two)) is.version in
+    let version : min 3 (max 1 (field 5 4 bytes)) ≡ field 5 4 bytes = ⊎_elim
+    (λ one. omega (arith, one))
+    (λ later. ⊎_elim (λ two. omega (arith, two)) (λ three. omega (arith, three)) later) is.version in
     let bound : min (2 ^ 62) (generation_at bytes) ≡ generation_at bytes = omega (arith, is.bound, is.is) in
     rw (
       eq-eqb 827214401 (field 1 4 bytes) (sym is.magic),
-      eq-eqb (min 2 (max 1 (field 5 4 bytes))) (field 5 4 bytes) version,
+      eq-eqb (min 3 (max 1 (field 5 4 bytes))) (field 5 4 bytes) version,
       eq-eqb (min (2 ^ 62) (generation_at bytes)) (generation_at bytes) bound,
     ) refl
 
@@ -151,7 +186,7 @@ log_seen form front log file c known is shut =
     let was = chosen form head log known is.header in
     let now : Chosen (head ++ rest) log.base.generation = record {
       magic = field_front 1 4 head rest (omega arith) least ∙ was.magic;
-      version = subst (λ (v : ℕ). (v ≡ 1) ⊎ (v ≡ 2)) (sym (field_front 5 4 head rest (omega arith) least)) was.version;
+      version = subst IsVersion (sym (field_front 5 4 head rest (omega arith) least)) was.version;
       bound = was.bound;
       is = generation_front head rest least ∙ was.is;
     } in

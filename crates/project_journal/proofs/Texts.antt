@@ -1,4 +1,4 @@
--- A header of version 2 as it is written.
+-- A header of version 3 as it is written.
 use Rattle.std.proofs.Common.{◌≡◌, ◌≢◌, ℕ, ◌+◌, ◌-◌, ◌^◌, ◌<◌, ◌≤◌, min, max, None, List, [], ◌∷◌, ◌++◌, length, map}
 use Rattle.std.proofs.Common.{replicate, refl, sym, ◌∙◌, ap, subst, arith}
 use Rattle.std.proofs.lemmas.Bool.{eq-eqb}
@@ -6,10 +6,11 @@ use Rattle.std.proofs.lemmas.List.{append-nil, length-map}
 use Rattle.std.specs.List.{flat_map, AllByRecursion}
 use Rattle.byteorder.specs.Endian.{little_number, little_bytes}
 use Rattle.byteorder.specs.Numbers.{little_number-reads_back}
+use Rattle.std.specs.Prelude.{slice_index}
 use Rattle.project_journal.specs.Fields.{field}
 use Rattle.project_journal.specs.Header.{IsFormat, IsBase, first_failed, nearest_size, number_tests, base_tests_in}
 use Rattle.project_journal.specs.declared.base.Base.{Base}
-use Rattle.project_journal.specs.Header.{base_header_tests, base_fields, last_tests_in, zero_tests, form_2}
+use Rattle.project_journal.specs.Header.{base_fields, form_3, wide_header_tests, wide_tests_in, zero_tests}
 use Rattle.project_journal.specs.Journal.{Log, Row, row, bytes_in, IsRow, IsHeader}
 use Rattle.project_journal.specs.Packing.{sized, header_row, IsText, AreShort}
 
@@ -39,23 +40,24 @@ rows_points [] = refl
 rows_points (p ∷ ps) = ap (λ (l : List (List ℕ)). p ∷ l) (rows_points ps)
 
 -- no test fails where each field has its nearest value
-sound_base : (bytes : List ℕ) → field 1 4 bytes ≡ 827214401 → field 5 4 bytes ≡ 2
+sound_base : (bytes : List ℕ) → field 1 4 bytes ≡ 827214401 → field 5 4 bytes ≡ 3
     → max 1 (field 9 4 bytes) ≡ field 9 4 bytes → nearest_size (field 13 4 bytes) ≡ field 13 4 bytes
-    → min 4096 (max 1 (field 17 4 bytes)) ≡ field 17 4 bytes → min (2 ^ 62) (field 21 8 bytes) ≡ field 21 8 bytes
+    → min 65536 (max 1 (field 17 4 bytes)) ≡ field 17 4 bytes → min (2 ^ 62) (field 21 8 bytes) ≡ field 21 8 bytes
     → min (2 ^ 62) (field 29 8 bytes) ≡ field 29 8 bytes
     → min (2 ^ 62) (max 16 (field 37 8 bytes)) ≡ field 37 8 bytes
     → min (2 ^ 62) (max 1 (field 45 8 bytes)) ≡ field 45 8 bytes
     → min (field 17 4 bytes) (max 1 (field 53 4 bytes)) ≡ field 53 4 bytes
     → min (field 53 4 bytes - 1) (field 57 4 bytes) ≡ field 57 4 bytes
-    → 64 ≤ length bytes → first_failed (zero_tests 3 61 bytes) ≡ None → first_failed (base_header_tests bytes) ≡ None
-unfolding number_tests base_tests_in last_tests_in
-sound_base bytes magic version rate block_size depth generation commit block track count cursor long zeros =
+    → 64 ≤ length bytes → slice_index bytes 61 ≡ 16 → first_failed (zero_tests 2 62 bytes) ≡ None
+    → first_failed (wide_header_tests bytes) ≡ None
+unfolding number_tests base_tests_in wide_tests_in
+sound_base bytes magic version rate block_size depth generation commit block track count cursor long width zeros =
     rw (
       eq-eqb 827214401 (field 1 4 bytes) (sym magic),
-      eq-eqb 2 (field 5 4 bytes) (sym version),
+      eq-eqb 3 (field 5 4 bytes) (sym version),
       eq-eqb (max 1 (field 9 4 bytes)) (field 9 4 bytes) rate,
       eq-eqb (nearest_size (field 13 4 bytes)) (field 13 4 bytes) block_size,
-      eq-eqb (min 4096 (max 1 (field 17 4 bytes))) (field 17 4 bytes) depth,
+      eq-eqb (min 65536 (max 1 (field 17 4 bytes))) (field 17 4 bytes) depth,
       eq-eqb (min (2 ^ 62) (field 21 8 bytes)) (field 21 8 bytes) generation,
       eq-eqb (29 + 8) (min (29 + 8) (length bytes)) (omega (arith, long)),
       eq-eqb (min (2 ^ 62) (field 29 8 bytes)) (field 29 8 bytes) commit,
@@ -67,7 +69,9 @@ sound_base bytes magic version rate block_size depth generation commit block tra
       eq-eqb (min (field 17 4 bytes) (max 1 (field 53 4 bytes))) (field 53 4 bytes) count,
       eq-eqb (57 + 4) (min (57 + 4) (length bytes)) (omega (arith, long)),
       eq-eqb (min (field 53 4 bytes - 1) (field 57 4 bytes)) (field 57 4 bytes) cursor,
-      eq-eqb (61 + 3) (min (61 + 3) (length bytes)) (omega (arith, long)),
+      eq-eqb (61 + 1) (min (61 + 1) (length bytes)) (omega (arith, long)),
+      eq-eqb 16 (slice_index bytes 61) (sym width),
+      eq-eqb (62 + 2) (min (62 + 2) (length bytes)) (omega (arith, long)),
     ) zeros
 
 module _ (log : Log) (gate : ℕ) (format : IsFormat log.rate log.block_size log.depth) (rate_fits : log.rate < 2 ^ 32)
@@ -82,7 +86,7 @@ module _ (log : Log) (gate : ℕ) (format : IsFormat log.rate log.block_size log
   points = flat_map sized log.points
 
   abbrev behind_count : List ℕ
-  behind_count = little_bytes 4 b.cursor ++ (replicate 3 0 ++ flat_map sized log.points)
+  behind_count = little_bytes 4 b.cursor ++ (16 ∷ (replicate 2 0 ++ flat_map sized log.points))
 
   abbrev behind_block : List ℕ
   behind_block = little_bytes 8 b.next_track ++ (little_bytes 4 b.count ++ behind_count)
@@ -124,7 +128,7 @@ module _ (log : Log) (gate : ℕ) (format : IsFormat log.rate log.block_size log
   count_is = little_number-reads_back 4 b.count behind_count (omega (arith, is.few, format.depth_most))
 
   cursor_is : field 57 4 head ≡ b.cursor
-  cursor_is = little_number-reads_back 4 b.cursor (replicate 3 0 ++ flat_map sized log.points)
+  cursor_is = little_number-reads_back 4 b.cursor (16 ∷ (replicate 2 0 ++ flat_map sized log.points))
       (omega (arith, is.current, is.few, format.depth_most))
 
   base_is : base_fields head ≡ b
@@ -137,21 +141,21 @@ module _ (log : Log) (gate : ℕ) (format : IsFormat log.rate log.block_size log
     cursor = cursor_is i;
   }
 
-  head_sound : first_failed (base_header_tests head) ≡ None
+  head_sound : first_failed (wide_header_tests head) ≡ None
   head_sound =
       let size : nearest_size log.block_size ≡ log.block_size =
       rw format.even (omega (arith, format.block_least, format.block_most)) in
-      let depth : min 4096 (max 1 log.depth) ≡ log.depth = omega (arith, format.depth_least, format.depth_most) in
+      let depth : min 65536 (max 1 log.depth) ≡ log.depth = omega (arith, format.depth_least, format.depth_most) in
       sound_base head refl refl (omega (arith, rate_is, format.rate_least))
       (subst (λ (n : ℕ). nearest_size n ≡ n) (sym size_is) size)
-      (subst (λ (n : ℕ). min 4096 (max 1 n) ≡ n) (sym depth_is) depth)
+      (subst (λ (n : ℕ). min 65536 (max 1 n) ≡ n) (sym depth_is) depth)
       (omega (arith, generation_is, is.generation)) (omega (arith, commit_is, is.commit))
       (omega (arith, block_is, is.block_least, is.block_most)) (omega (arith, track_is, is.track_least, is.track_most))
       (omega (arith, count_is, depth_is, is.some, is.few)) (omega (arith, cursor_is, count_is, is.current))
-      (omega arith) refl
+      (omega arith) refl refl
 
   written_header : (file : ℕ) → gate ≢ 0 → length log.points ≡ log.base.count → AreShort log.points
-      → IsHeader (form_2 file) head log
+      → IsHeader (form_3 file) head log
   written_header file not_shut many short = record {
     rows = map row_of log.points;
     least = omega arith;

@@ -1,5 +1,5 @@
 -- Records that are added together make the log with all their bodies more.
-use Rattle.std.proofs.Common.{◌≡◌, ◌≢◌, ℕ, ◌+◌, ◌<◌, ◌≤◌, Some, List, [], ◌∷◌, ◌++◌, length, map, drop, refl, sym, ◌∙◌, ap, suc, ◌-◌, ◌*◌, take}
+use Rattle.std.proofs.Common.{◌≡◌, ◌≢◌, ℕ, ◌+◌, ◌≤◌, Some, List, [], ◌∷◌, ◌++◌, length, map, drop, refl, sym, ◌∙◌, ap, suc, ◌-◌, take}
 use Rattle.std.proofs.Common.{arith, inl, inr, append_assoc, length-append, subst}
 use Rattle.std.proofs.lemmas.List.{append-nil, length-drop, take_all}
 use Rattle.std.specs.List.{flat_map, AllByRecursion}

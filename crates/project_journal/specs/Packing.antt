@@ -6,14 +6,14 @@ use Rattle.disk_model.specs.Disk.{Files}
 use Rattle.disk_model.specs.Room.{Room}
 use Rattle.disk_model.specs.declared.store.Store.{Ghosts}
 use Rattle.project_journal.specs.Choice.{other_file}
-use Rattle.project_journal.specs.Header.{Form, IsForm, form_2, base_row}
+use Rattle.project_journal.specs.Header.{Form, IsForm, form_3, base_row}
 use Rattle.project_journal.specs.Journal.{Log, HasLog, IsAt, IsHeader}
 
 -- a point after its length
 abbrev pub sized : List ℕ → List ℕ
 sized point = little_bytes 4 (length point) ++ point
 
--- what stands after the gate of a header of version 2
+-- what stands after the gate of a header of version 3
 abbrev pub header_row : Log → List ℕ
 header_row log = base_row log.rate log.block_size log.depth log.base ++ flat_map sized log.points
 
@@ -22,12 +22,12 @@ abbrev pub AreShort : List (List ℕ) → Type 0
 AreShort [] = Unit {0}
 AreShort (point ∷ points) = (length point < 2 ^ 32) × AreShort points
 
--- This text, after a gate, is a journal without records: a header of version 2, and the first record's gate.
+-- This text, after a gate, is a journal without records: a header of version 3, and the first record's gate.
 pub record IsText (text : List ℕ) (log : Log) : Type 0 where
   pub header : List ℕ
   pub parts : text ≡ header ++ 0 ∷ []
   pub none : log.bodies ≡ []
-  pub spelled : (file gate : ℕ) → gate ≢ 0 → IsHeader (form_2 file) (gate ∷ header) log
+  pub spelled : (file gate : ℕ) → gate ≢ 0 → IsHeader (form_3 file) (gate ∷ header) log
 
 -- it is told whether the file is there
 abbrev pub Tells : Bool → ℕ → Files → Type 0
@@ -47,7 +47,7 @@ pub record MayPack {D : Type 0} (disk : Ghosts D) (store : D) (file : ℕ) (ther
 
 -- the files hold the journal as it was, or put into one header in the other file
 abbrev pub HasEither : Form → Log → Log → Files → Type 0
-HasEither form log packed files = HasLog form log files ⊎ HasLog (form_2 (other_file form.file)) packed files
+HasEither form log packed files = HasLog form log files ⊎ HasLog (form_3 (other_file form.file)) packed files
 
 -- only the files of journals change
 abbrev pub OnlyJournals : ℕ → Files → Files → Type 0

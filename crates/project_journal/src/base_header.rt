@@ -1,14 +1,15 @@
-// The fields of a header of version 2, and their tests.
+// The fields of a header of version 2 or 3, and their tests.
 ghost use Rattle.std.specs.Prelude.{◌≡◌, ◌+◌, ◌-◌, ◌≤◌, ◌++◌, ℕ, List, length, take, replicate};
 ghost use Rattle.project_journal.specs.Header.{base_tests, base_tests_in, last_tests, last_tests_in, base_header_tests};
+ghost use Rattle.project_journal.specs.Header.{wide_header_tests, wide_tests, wide_tests_in};
 ghost use Rattle.project_journal.specs.Header.{base_fields, ends, Tested};
 
 use super::base::Base;
 use super::fault::Damaged;
 use super::fields::{u8_at, u32_at, u64_at};
-use super::form::BASE_VERSION;
+use super::form::{BASE_VERSION, WIDE_VERSION};
 use super::header::{first_failure, test, tests_of};
-use pcm_base::{COUNTER_LIMIT, FIRST_BLOCK};
+use pcm_base::{COUNTER_LIMIT, FIRST_BLOCK, SAMPLE_WIDTH};
 
 // The first 64 bytes, with zeros where there are fewer.
 pub(crate) fn head_of(bytes: &[u8]) -> [u8; 64]
@@ -62,6 +63,43 @@ fn test_base(bytes: &[u8]) -> Result<(), Damaged>
         Ok(()) => first_failure(&last_tests_of(&head, bytes.len())),
         Err(damaged) => Err(damaged),
     }
+}
+
+// The first test of version 3 that fails.
+pub(crate) fn test_third(bytes: &[u8]) -> Result<(), Damaged>
+    requires { 32 ≤ length bytes.now }
+    ensures { Tested (wide_header_tests bytes.now) result }
+{
+    match first_failure(&tests_of(bytes, WIDE_VERSION)) {
+        Ok(()) => test_wide(bytes),
+        Err(damaged) => Err(damaged),
+    }
+}
+
+// The same after the fields that all versions have.
+fn test_wide(bytes: &[u8]) -> Result<(), Damaged>
+    ensures { Tested (base_tests bytes.now ++ wide_tests bytes.now) result }
+{
+    let head = head_of(bytes);
+    match first_failure(&base_tests_of(&head, bytes.len())) {
+        Ok(()) => first_failure(&wide_tests_of(&head, bytes.len())),
+        Err(damaged) => Err(damaged),
+    }
+}
+
+// The width of a sample and 2 zeros, that they are there, and then their values.
+#[tactic(auto, unfolding(crate::specs::Header::wide_tests_in))]
+fn wide_tests_of(head: &[u8], len: usize) -> [Damaged; 5]
+    requires { 64 ≤ length head.now }
+    ensures { result ≡ wide_tests_in len head.now }
+{
+    [
+        ends_in(61, 1, len),
+        test(61, SAMPLE_WIDTH, u8_at(head, 61) as u32),
+        ends_in(62, 2, len),
+        test(62, 0, u8_at(head, 62) as u32),
+        test(63, 0, u8_at(head, 63) as u32),
+    ]
 }
 
 // In a file of this many bytes, a field has to be there.

@@ -7,7 +7,7 @@ ghost use Rattle.project_journal.specs.Opening.{Chooses, ChoosesNewer, two_files
 
 use super::fault::{Damaged, JournalFault};
 use super::fields::{u32_at, u64_at};
-use super::form::{BASE_VERSION, FILE, MAGIC, OTHER, VERSION};
+use super::form::{BASE_VERSION, FILE, MAGIC, OTHER, VERSION, WIDE_VERSION};
 use super::header::{first_failure, test};
 use pcm_base::COUNTER_LIMIT;
 
@@ -51,7 +51,7 @@ fn choice_tests_of(bytes: &[u8]) -> [Damaged; 3]
     let generation = generation_of(bytes);
     [
         test(1, MAGIC, u32_at(bytes, 1)),
-        test(5, version.max(VERSION).min(BASE_VERSION), version),
+        test(5, version.max(VERSION).min(WIDE_VERSION), version),
         Damaged {
             at: 21,
             want: generation.min(COUNTER_LIMIT) as u128,

@@ -7,7 +7,7 @@ ghost use Rattle.disk_model.specs.Disk.{Files, SameElsewhere, RemoveStep};
 ghost use Rattle.disk_model.specs.Frames.{Kept, Changed};
 ghost use Rattle.project_journal.specs.Choice.{HasNoNewer, other_file};
 ghost use Rattle.project_journal.specs.Gate.{IsOpen, EachNow, EachSince, IsDurable};
-ghost use Rattle.project_journal.specs.Header.{Form, form_2};
+ghost use Rattle.project_journal.specs.Header.{Form, form_3};
 ghost use Rattle.project_journal.specs.Journal.{Log, IsAt};
 ghost use Rattle.project_journal.specs.Packing.{Tells, MayPack, HasEither, OnlyJournals, pack_room};
 
@@ -94,7 +94,7 @@ pub fn compact<S: Store>(store: &mut S, file: u64, there: bool, text: &[u8]) -> 
         → EachSince S.Store store.old store.new (HasEither form log packed) }
     // After it the store and each image have it put into one header, in the other file.
     ensures done { (form : Form) (log packed : Log) → MayPack S.Store store.old file there text.now form log packed
-        → OnOk result (IsAt (form_2 (other_file file)) S.Store store.new (length text.now) packed) }
+        → OnOk result (IsAt (form_3 (other_file file)) S.Store store.new (length text.now) packed) }
     // And nothing else stands in that file, and this one is gone.
     ensures alone { IsTrue (S.tells store.old) → Tells there (other_file file) (S.reads store.old)
         → OnOk result (S.reads store.new (other_file file) ≡ Some (1 ∷ text.now)) }

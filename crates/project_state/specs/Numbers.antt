@@ -1,9 +1,8 @@
--- Tracks without the numbers of their layouts, as records and headers say them.
-use Rattle.std.specs.Prelude.{◌≡◌, List, [], ◌∷◌, map}
+-- Tracks without the numbers of their layouts, as records and headers say them, and tracks that agree by these numbers.
+use Rattle.std.specs.Prelude.{◌≡◌, ◌<◌, ◌==◌, ◌&&◌, nat_lt, Bool, List, [], ◌∷◌, map, Option, Some, None}
 use Rattle.pcm_base.specs.History.{History}
-use Rattle.project_state.specs.declared.body.Body.{Body}
-use Rattle.project_state.specs.declared.body.Body.TheVariants.{Edit, Undo, Redo, Purge}
 use Rattle.project_state.specs.declared.track.Track.{Track}
+use Rattle.project_state.specs.Tracks.{track_of}
 
 -- a track whose layout has no number
 abbrev pub unnumbered : Track → Track
@@ -14,14 +13,27 @@ abbrev pub AreUnnumbered : List Track → Type 0
 AreUnnumbered [] = Unit {0}
 AreUnnumbered (t ∷ ts) = (t.number ≡ 0) × AreUnnumbered ts
 
--- a body whose layouts have no numbers
-abbrev pub unnumbered_body : Body → Body
-unnumbered_body (Edit tag next_block next_track tracks) = Edit tag next_block next_track (map unnumbered tracks)
-unnumbered_body Undo = Undo
-unnumbered_body Redo = Redo
-unnumbered_body (Purge n) = Purge n
-
 -- a history whose layouts have no numbers
 abbrev pub unnumbered_history : History (List Track) → History (List Track)
 unnumbered_history h =
     record { points = map (λ p. (map unnumbered p.0, p.1)) h.points; cursor = h.cursor; depth = h.depth }
+
+-- ---- what equal numbers say
+
+-- two layouts have one number, and it is not 0
+abbrev pub are_numbered_alike : Track → Track → Bool
+are_numbered_alike old new = (new.number == old.number) && nat_lt 0 new.number
+
+-- two layouts of one number are the same, unless it is 0
+abbrev pub NumbersAgree : Track → Track → Type 0
+NumbersAgree old new = new.number ≡ old.number → 0 < new.number → new.layout ≡ old.layout
+
+-- where there is the first track
+abbrev pub AgreesIfAny : Option Track → Track → Type 0
+AgreesIfAny None new = Unit {0}
+AgreesIfAny (Some old) new = NumbersAgree old new
+
+-- each track with the one of the current point that has its id
+abbrev pub AgreeById : List Track → List Track → Type 0
+AgreeById current [] = Unit {0}
+AgreeById current (t ∷ ts) = AgreesIfAny (track_of t.id current) t × AgreeById current ts

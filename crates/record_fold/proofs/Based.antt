@@ -15,13 +15,13 @@ use Rattle.project_journal.specs.Reader.{IsHeading, contents, reader_form}
 use Rattle.project_journal.proofs.AnyFormats.{HasBase, base_sound}
 use Rattle.project_journal.proofs.Parses.{form_known}
 use Rattle.project_journal.proofs.Readings.{heading_read}
-use Rattle.project_state.specs.Kept.{BeginsBy, IsTold, Kept, new_project}
-use Rattle.project_state.specs.PointTests.{point_at, point_count}
+use Rattle.record_body.specs.Kept.{BeginsBy, IsTold, Kept, new_project}
+use Rattle.record_body.specs.PointTests.{point_at, point_count}
 use Rattle.project_state.specs.declared.track.Track.{Track}
 use Rattle.project_state.specs.Numbers.{AreUnnumbered}
-use Rattle.project_state.specs.Sound.{IsSoundTagged}
-use Rattle.project_state.proofs.SoundBodies.{tracks_unnumbered}
-use Rattle.project_state.proofs.KeptBounds.{new_sound}
+use Rattle.record_body.specs.Sound.{IsSoundTagged}
+use Rattle.record_body.proofs.SoundBodies.{tracks_unnumbered}
+use Rattle.record_body.proofs.KeptBounds.{new_sound}
 use Rattle.record_fold.specs.Bases.{base_by}
 use Rattle.record_fold.specs.Folds.{kept_of, Brings, FoldsStored, IsBrought, IsValid}
 use Rattle.record_fold.specs.Heads.{HasPoints}

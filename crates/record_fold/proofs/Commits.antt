@@ -1,8 +1,8 @@
 -- How many commits records lead to.
 use Rattle.std.proofs.Common.{◌≡◌, ℕ, zero, suc, ◌+◌, ◌≤◌, ◌^◌, List, [], ◌∷◌, length, ap, arith}
-use Rattle.project_state.specs.ChangeTests.{delta_tests}
-use Rattle.project_state.specs.Kept.{Kept, LeadIn, after_body, before_of, current_tracks}
-use Rattle.project_state.proofs.Passing.{all_pass}
+use Rattle.record_body.specs.ChangeTests.{delta_tests}
+use Rattle.record_body.specs.Kept.{Kept, LeadIn, after_body, before_of, current_tracks}
+use Rattle.record_body.proofs.Passing.{all_pass}
 use Rattle.record_fold.proofs.Stepping.{after_commit}
 
 pub lead_commits : (version m : ℕ) (k end : Kept) (bodies : List (List ℕ)) → LeadIn version m k bodies end

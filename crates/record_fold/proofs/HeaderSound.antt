@@ -8,11 +8,11 @@ use Rattle.project_journal.specs.Header.{Form}
 use Rattle.project_journal.specs.Journal.{Contents, log_of}
 use Rattle.project_journal.proofs.AnyFormats.{HasBase}
 use Rattle.project_state.specs.declared.track.Track.{Track}
-use Rattle.project_state.specs.Kept.{Begins, BeginsBy, IsTold, Kept, point_bytes}
-use Rattle.project_state.specs.PointTests.{point_at}
+use Rattle.record_body.specs.Kept.{Begins, BeginsBy, IsTold, Kept, point_bytes}
+use Rattle.record_body.specs.PointTests.{point_at}
 use Rattle.project_state.specs.Numbers.{AreUnnumbered}
-use Rattle.project_state.specs.Sound.{IsSoundTagged}
-use Rattle.project_state.proofs.HeaderPoints.{point_back, point_is}
+use Rattle.record_body.specs.Sound.{IsSoundTagged}
+use Rattle.record_body.proofs.HeaderPoints.{point_back, point_is}
 use Rattle.record_fold.specs.Bases.{base_by, base_of, point_before, points_fault}
 
 module _ (m : ℕ) (b : Base) (large : 4 ≤ m) (small : m < 2 ^ 32) (bounds : HasBase b) where

@@ -16,8 +16,8 @@ use Rattle.project_journal.specs.Journal.{Contents, body_at, log_of}
 use Rattle.project_journal.specs.Reader.{IsReading, IsLater, Goes, contents, last_record, reader_form}
 use Rattle.project_journal.proofs.Begun.{continued}
 use Rattle.project_journal.proofs.Parses.{form_known}
-use Rattle.project_state.specs.Kept.{Begins, BeginsBy, Kept, LeadIn, new_project, version_of}
-use Rattle.project_state.specs.Sound.{IsSoundTagged}
+use Rattle.record_body.specs.Kept.{Begins, BeginsBy, Kept, LeadIn, new_project, version_of}
+use Rattle.record_body.specs.Sound.{IsSoundTagged}
 use Rattle.record_fold.specs.declared.project.Project.{Project}
 use Rattle.record_fold.specs.Bases.{base_by, base_of, points_fault}
 use Rattle.record_fold.specs.Faults.{first_fault_in, journal_fault}

@@ -19,9 +19,9 @@ use Rattle.project_journal.proofs.Headed.{headed_base, headed_counts, headed_end
 use Rattle.project_journal.proofs.Parses.{form_known, form_least}
 use Rattle.project_journal.proofs.Readings.{heading_stored, last_long}
 use Rattle.project_state.specs.declared.track.Track.{Track}
-use Rattle.project_state.specs.Kept.{point_bytes, version_of}
-use Rattle.project_state.specs.PointTests.{point_at, point_tests}
-use Rattle.project_state.specs.Sound.{IsSoundTagged}
+use Rattle.record_body.specs.Kept.{point_bytes, version_of}
+use Rattle.record_body.specs.PointTests.{point_at, point_tests}
+use Rattle.record_body.specs.Sound.{IsSoundTagged}
 use Rattle.record_fold.specs.Bases.{base_of, point_before, points_fault}
 use Rattle.record_fold.specs.Faults.{first_fault_in}
 use Rattle.record_fold.specs.Heads.{BringsPoints, FailsPoint, HasFault, HasPoints, MetOne, ReadsOn, ReadsPoint, TakesPoint}

@@ -3,20 +3,20 @@ use Rattle.std.proofs.Common.{◌≡◌, ℕ, zero, suc, ◌≤◌, ◌<◌, ◌
 use Rattle.std.proofs.Common.{subst, slice_index}
 use Rattle.std.proofs.lemmas.Bool.{eq-eqb}
 use Rattle.project_journal.specs.Header.{first_failed}
-use Rattle.project_state.specs.declared.body.Body.{Body}
-use Rattle.project_state.specs.declared.body.Body.TheVariants.{Edit, Undo, Redo, Purge}
-use Rattle.project_state.specs.declared.limits.Before.{Before}
+use Rattle.record_body.specs.declared.body.Body.{Body}
+use Rattle.record_body.specs.declared.body.Body.TheVariants.{Edit, Undo, Redo, Purge}
+use Rattle.record_body.specs.declared.limits.Before.{Before}
 use Rattle.project_state.specs.declared.track.Track.{Track}
-use Rattle.project_state.specs.ChangePlaces.{all_told_at}
-use Rattle.project_state.specs.DeltaBodies.{SaysBody}
-use Rattle.project_state.specs.FirstFault.{body_tests}
-use Rattle.project_state.specs.Kept.{Kept, MayFollow, IsNextIn, before_of, current_tracks}
-use Rattle.project_state.specs.Places.{body_at, track_count}
-use Rattle.project_state.specs.Sound.{IsSound}
-use Rattle.project_state.specs.Spelling.{spelling}
-use Rattle.project_state.proofs.ReadBack.{read_back}
+use Rattle.record_body.specs.ChangePlaces.{all_told_at}
+use Rattle.record_body.specs.DeltaBodies.{SaysBody}
+use Rattle.record_body.specs.FirstFault.{body_tests}
+use Rattle.record_body.specs.Kept.{Kept, MayFollow, IsNextIn, before_of, current_tracks}
+use Rattle.record_body.specs.Places.{body_at, track_count}
+use Rattle.record_body.specs.Sound.{IsSound}
+use Rattle.record_body.specs.Spelling.{spelling}
+use Rattle.record_body.proofs.ReadBack.{read_back}
 use Rattle.record_fold.specs.Faults.{known, told_body, said, says, field_tests, IsSaid, before_at}
-use Rattle.project_state.proofs.Moved.{delta_moved}
+use Rattle.record_body.proofs.Moved.{delta_moved}
 
 known_all : (ts : List Track) → known (map Some ts) ≡ ts
 known_all [] = refl

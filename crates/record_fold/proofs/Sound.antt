@@ -8,16 +8,16 @@ use Rattle.project_journal.specs.declared.fault.Damaged.{Damaged}
 use Rattle.project_journal.specs.Header.{first_failed}
 use Rattle.project_journal.specs.Journal as journal
 use Rattle.project_state.specs.declared.track.Track.{Track}
-use Rattle.project_state.specs.declared.body.Body.{Body}
-use Rattle.project_state.specs.declared.body.Body.TheVariants.{Edit, Undo, Redo, Purge}
-use Rattle.project_state.specs.declared.limits.BadBody.{BadBody}
-use Rattle.project_state.specs.declared.limits.BadBody.TheVariants as bad
-use Rattle.project_state.specs.FirstFault.{Finds, place}
-use Rattle.project_state.proofs.Passing.{all_pass, passed, failed}
-use Rattle.project_state.specs.Kept.{Kept, after_body, current_tracks, MayFollow, IsNextIn, LeadIn, LeadTo}
+use Rattle.record_body.specs.declared.body.Body.{Body}
+use Rattle.record_body.specs.declared.body.Body.TheVariants.{Edit, Undo, Redo, Purge}
+use Rattle.record_body.specs.declared.limits.BadBody.{BadBody}
+use Rattle.record_body.specs.declared.limits.BadBody.TheVariants as bad
+use Rattle.record_body.specs.FirstFault.{Finds, place}
+use Rattle.record_body.proofs.Passing.{all_pass, passed, failed}
+use Rattle.record_body.specs.Kept.{Kept, after_body, current_tracks, MayFollow, IsNextIn, LeadIn, LeadTo}
 use Rattle.record_fold.specs.Faults.{record_tests, history_tests, first_fault, first_fault_in, before_at, out_of_range}
 use Rattle.record_fold.specs.Faults.{field_tests, says, IsSaid}
-use Rattle.project_state.proofs.Moved.{pass_none}
+use Rattle.record_body.proofs.Moved.{pass_none}
 use Rattle.record_fold.proofs.Said.{says_is, said_next, next_read}
 use Rattle.record_fold.proofs.Stepping.{fault_behind}
 

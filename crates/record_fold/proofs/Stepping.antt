@@ -9,11 +9,11 @@ use Rattle.project_journal.specs.Header.{first_failed}
 use Rattle.project_journal.specs.declared.reader.Reader.{Reader}
 use Rattle.project_journal.specs.Journal.{body_at}
 use Rattle.project_journal.specs.Reader.{IsReading}
-use Rattle.project_state.specs.declared.body.Body.{Body}
-use Rattle.project_state.specs.declared.body.Body.TheVariants.{Edit, Undo, Redo, Purge}
-use Rattle.project_state.specs.Kept.{Kept, after_body, IsNextIn, LeadIn}
-use Rattle.project_state.specs.KeptSound.{IsSoundKept}
-use Rattle.project_state.proofs.KeptBounds.{next_kept}
+use Rattle.record_body.specs.declared.body.Body.{Body}
+use Rattle.record_body.specs.declared.body.Body.TheVariants.{Edit, Undo, Redo, Purge}
+use Rattle.record_body.specs.Kept.{Kept, after_body, IsNextIn, LeadIn}
+use Rattle.record_body.specs.KeptSound.{IsSoundKept}
+use Rattle.record_body.proofs.KeptBounds.{next_kept}
 use Rattle.record_fold.specs.Faults.{record_tests, first_fault_in, says}
 use Rattle.record_fold.specs.Folds.{IsValid}
 

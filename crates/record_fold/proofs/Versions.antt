@@ -3,17 +3,17 @@ use Rattle.std.proofs.Common.{◌≡◌, ℕ, zero, suc, ◌≤◌, ◌<◌, Lis
 use Rattle.std.proofs.Common.{Result, Ok, Err}
 use Rattle.std.proofs.lemmas.Option.{none-some, same_Some}
 use Rattle.pcm_base.specs.History.{point_of}
-use Rattle.project_state.specs.declared.body.Body.{Body}
-use Rattle.project_state.specs.declared.limits.BadBody.{BadBody}
-use Rattle.project_state.specs.declared.limits.BadBody.TheVariants as bad
-use Rattle.project_state.specs.declared.limits.Before.{Before}
+use Rattle.record_body.specs.declared.body.Body.{Body}
+use Rattle.record_body.specs.declared.limits.BadBody.{BadBody}
+use Rattle.record_body.specs.declared.limits.BadBody.TheVariants as bad
+use Rattle.record_body.specs.declared.limits.Before.{Before}
 use Rattle.project_state.specs.declared.track.Track.{Track}
-use Rattle.project_state.specs.ChangeTests.{delta_tests}
-use Rattle.project_state.specs.DeltaBodies.{SaysBody}
-use Rattle.project_state.specs.FirstFault.{body_tests, Finds}
-use Rattle.project_state.specs.Kept.{first_tracks}
-use Rattle.project_state.specs.Sound.{IsSound}
-use Rattle.project_state.specs.Spelling.{spelling}
+use Rattle.record_body.specs.ChangeTests.{delta_tests}
+use Rattle.record_body.specs.DeltaBodies.{SaysBody}
+use Rattle.record_body.specs.FirstFault.{body_tests, Finds}
+use Rattle.record_body.specs.Kept.{first_tracks}
+use Rattle.record_body.specs.Sound.{IsSound}
+use Rattle.record_body.specs.Spelling.{spelling}
 use Rattle.std.specs.Prelude.{IfOk}
 use Rattle.record_fold.specs.Faults.{field_tests, IsSaid}
 

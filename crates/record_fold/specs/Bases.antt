@@ -5,9 +5,9 @@ use Rattle.project_journal.specs.declared.base.Base.{Base}
 use Rattle.project_journal.specs.declared.fault.Damaged.{Damaged}
 use Rattle.project_journal.specs.Header.{first_failed}
 use Rattle.project_journal.specs.Journal.{Contents}
-use Rattle.project_state.specs.declared.limits.Before.{Before}
-use Rattle.project_state.specs.Kept.{Kept, new_project}
-use Rattle.project_state.specs.PointTests.{point_at, point_tests}
+use Rattle.record_body.specs.declared.limits.Before.{Before}
+use Rattle.record_body.specs.Kept.{Kept, new_project}
+use Rattle.record_body.specs.PointTests.{point_at, point_tests}
 
 -- what comes before a point of a header that stands at this place
 abbrev pub point_before : Base → ℕ → Before

@@ -8,18 +8,18 @@ use Rattle.project_journal.specs.Fields.{field}
 use Rattle.project_journal.specs.Header.{Form, first_failed}
 use Rattle.project_journal.specs.Journal.{Contents}
 use Rattle.project_state.specs.declared.track.Track.{Track}
-use Rattle.project_state.specs.declared.body.Body.{Body}
-use Rattle.project_state.specs.declared.body.Body.TheVariants.{Edit, Undo, Redo, Purge}
-use Rattle.project_state.specs.declared.kinds.TheConstants.{UNDO_KIND, REDO_KIND, DELTA_KIND}
-use Rattle.project_state.specs.declared.limits.Before.{Before}
-use Rattle.project_state.specs.ChangePlaces.{all_told_at}
-use Rattle.project_state.specs.ChangeTests.{delta_tests}
-use Rattle.project_state.specs.DeltaBodies.{SaysBody}
-use Rattle.project_state.specs.FirstFault.{body_tests, least, place}
-use Rattle.project_state.specs.Kept.{Kept, after_body, current_tracks, version_of}
-use Rattle.project_state.specs.Places.{body_at, track_count}
-use Rattle.project_state.specs.Sound.{IsSound}
-use Rattle.project_state.specs.Spelling.{spelling}
+use Rattle.record_body.specs.declared.body.Body.{Body}
+use Rattle.record_body.specs.declared.body.Body.TheVariants.{Edit, Undo, Redo, Purge}
+use Rattle.record_body.specs.declared.kinds.TheConstants.{UNDO_KIND, REDO_KIND, DELTA_KIND}
+use Rattle.record_body.specs.declared.limits.Before.{Before}
+use Rattle.record_body.specs.ChangePlaces.{all_told_at}
+use Rattle.record_body.specs.ChangeTests.{delta_tests}
+use Rattle.record_body.specs.DeltaBodies.{SaysBody}
+use Rattle.record_body.specs.FirstFault.{body_tests, least, place}
+use Rattle.record_body.specs.Kept.{Kept, after_body, current_tracks, version_of}
+use Rattle.record_body.specs.Places.{body_at, track_count}
+use Rattle.record_body.specs.Sound.{IsSound}
+use Rattle.record_body.specs.Spelling.{spelling}
 use Rattle.record_fold.specs.Bases.{base_of, points_fault}
 
 -- the tracks that can be known
@@ -37,7 +37,7 @@ told_body current bytes =
     else if slice_index bytes 0 == REDO_KIND then Redo
     else Purge (field 1 8 bytes)
 
--- in a journal of this version, 1 or else 2
+-- in a journal of this version, 1 or a later one
 abbrev pub said : ℕ → List Track → List ℕ → Body
 said zero current bytes = body_at bytes
 said (suc zero) current bytes = body_at bytes

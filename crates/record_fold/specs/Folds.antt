@@ -7,8 +7,8 @@ use Rattle.project_journal.specs.declared.fault.JournalFault.TheVariants as jour
 use Rattle.project_journal.specs.declared.reader.Reader.{Reader}
 use Rattle.project_journal.specs.Header.{first_failed}
 use Rattle.project_journal.specs.Reader.{IsReading, IsStored, contents, reader_form}
-use Rattle.project_state.specs.Kept.{Kept, Begins, after_body, IsNextIn, LeadIn, version_of}
-use Rattle.project_state.specs.KeptSound.{IsSoundKept}
+use Rattle.record_body.specs.Kept.{Kept, Begins, after_body, IsNextIn, LeadIn, version_of}
+use Rattle.record_body.specs.KeptSound.{IsSoundKept}
 use Rattle.record_fold.specs.declared.project.Project.{Project}
 use Rattle.record_fold.specs.Bases.{base_by, base_of, points_fault}
 use Rattle.record_fold.specs.Faults.{record_tests, journal_fault, says}

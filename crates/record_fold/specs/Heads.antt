@@ -12,9 +12,9 @@ use Rattle.project_journal.specs.Header.{Form, first_failed}
 use Rattle.project_journal.specs.Journal.{Contents}
 use Rattle.project_journal.specs.Reader.{IsHeading, IsLater, IsStored, contents, last_record, reader_form}
 use Rattle.project_state.specs.declared.track.Track.{Track}
-use Rattle.project_state.specs.Kept.{point_bytes}
-use Rattle.project_state.specs.PointTests.{point_at, point_tests}
-use Rattle.project_state.specs.Sound.{IsSoundTagged}
+use Rattle.record_body.specs.Kept.{point_bytes}
+use Rattle.record_body.specs.PointTests.{point_at, point_tests}
+use Rattle.record_body.specs.Sound.{IsSoundTagged}
 use Rattle.record_fold.specs.Bases.{point_before, points_fault}
 use Rattle.record_fold.specs.Faults.{journal_fault}
 

@@ -1,7 +1,7 @@
 -- What is proved of the definitions themselves.
 use Rattle.std.specs.Prelude.{◌≡◌, ℕ, ◌≤◌, ◌<◌, ◌^◌, None, List, map}
 use Rattle.project_journal.specs.Journal.{body_at}
-use Rattle.project_state.specs.Kept.{Kept, LeadIn}
+use Rattle.record_body.specs.Kept.{Kept, LeadIn}
 use Rattle.record_fold.specs.Faults.{first_fault_in}
 
 -- Records that lead from one project to another in a journal of any version have no fault, wherever they stand, at each

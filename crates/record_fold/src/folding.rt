@@ -4,8 +4,8 @@ ghost use Rattle.pcm_base.specs.declared.limits.TheConstants.{COUNTER_LIMIT};
 ghost use Rattle.disk_model.specs.Frames.{Kept as IsKept};
 ghost use Rattle.project_journal.specs.Answer.{Causes};
 ghost use Rattle.project_journal.specs.Reader.{IsHeading, IsPlaced, last_record, reader_form};
-ghost use Rattle.project_state.specs.FirstFault.{Finds};
-ghost use Rattle.project_state.specs.Kept.{new_project, after_body, version_of, IsNextIn};
+ghost use Rattle.record_body.specs.FirstFault.{Finds};
+ghost use Rattle.record_body.specs.Kept.{new_project, after_body, version_of, IsNextIn};
 ghost use Rattle.record_fold.specs.Faults.{record_tests, says};
 ghost use Rattle.record_fold.specs.Folds.{kept_of, Brings, FoldsOne, FoldsStored, IsBrought, IsValid};
 ghost use Rattle.record_fold.specs.Heads.{ReadsOn};
@@ -16,7 +16,7 @@ use super::reading::{current_of, read_record};
 use super::steps::take_body;
 use disk_model::Store;
 use project_journal::{JournalFault, Next, Reader};
-use project_state::{BadBody, Before};
+use record_body::{BadBody, Before};
 use std::alloc::Global;
 
 /// Folds one record more, whose body stands at this place of the file.
@@ -88,11 +88,14 @@ fn bring<S: Store>(
     })
 }
 
-/// The version of the journal's form, 1 or 2.
+/// The version of the journal's form, 1 to 3.
 pub fn version_in(reader: &Reader) -> u32
     ensures { result ≡ version_of (reader_form reader.now) }
 {
-    if reader.version() < 2 { 1 } else { 2 }
+    if reader.version() < 2 {
+        return 1;
+    }
+    if reader.version() < 3 { 2 } else { 3 }
 }
 
 /// Folds the record that was read last.

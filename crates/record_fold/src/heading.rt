@@ -9,7 +9,8 @@ ghost use Rattle.record_fold.specs.Heads.{BringsPoints, ReadsOn, ReadsPoint, Tak
 
 use disk_model::Store;
 use project_journal::{Base, Damaged, JournalFault, Next, Reader};
-use project_state::{BadBody, Before, Point, read_point};
+use project_state::Point;
+use record_body::{BadBody, Before, read_point};
 use std::alloc::Global;
 use undo_history::History;
 

@@ -1,6 +1,6 @@
 // A project while records are folded into it.
 ghost use Rattle.std.specs.Prelude.{◌≡◌, ◌≤◌, IfOk};
-ghost use Rattle.project_state.specs.Kept.{new_project};
+ghost use Rattle.record_body.specs.Kept.{new_project};
 ghost use Rattle.record_fold.specs.Folds.{kept_of};
 
 use pcm_base::{FIRST_BLOCK, NoMemory};

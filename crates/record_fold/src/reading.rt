@@ -1,11 +1,12 @@
 // A record's body, by the version of its journal.
 ghost use Rattle.std.specs.Prelude.{◌≡◌};
-ghost use Rattle.project_state.specs.FirstFault.{Finds};
-ghost use Rattle.project_state.specs.Kept.{current_tracks};
-ghost use Rattle.project_state.specs.Sound.{IsSoundPoint};
+ghost use Rattle.record_body.specs.FirstFault.{Finds};
+ghost use Rattle.record_body.specs.Kept.{current_tracks};
+ghost use Rattle.record_body.specs.Sound.{IsSoundPoint};
 ghost use Rattle.record_fold.specs.Faults.{field_tests, IsSaid};
 
-use project_state::{BadBody, Before, Body, Point, read_body, read_delta_body};
+use project_state::Point;
+use record_body::{BadBody, Before, Body, read_body, read_delta_body};
 use std::alloc::Global;
 use undo_history::History;
 
@@ -16,8 +17,8 @@ pub(crate) fn current_of(history: &History<Point>) -> &Point
     history.point(history.cursor())
 }
 
-/// Reads the body of a record in a journal of this version, 1 or else 2. In version 2 an edit may be written by the
-/// current point.
+/// Reads the body of a record in a journal of this version. After version 1 an edit may be written by the current
+/// point.
 pub(crate) fn read_record(
     alloc: Global,
     bytes: &[u8],

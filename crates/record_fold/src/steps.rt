@@ -1,9 +1,9 @@
 // What one record makes of a project.
 ghost use Rattle.std.specs.Prelude.{◌≡◌, ◌+◌, ◌-◌, ◌<◌, ◌^◌, ◌∷◌, [], OnOk};
 ghost use Rattle.pcm_base.specs.History.{at_cursor, purged};
-ghost use Rattle.project_state.specs.declared.body.Body.TheVariants as body;
-ghost use Rattle.project_state.specs.FirstFault.{Finds, least};
-ghost use Rattle.project_state.specs.Kept.{after_body};
+ghost use Rattle.record_body.specs.declared.body.Body.TheVariants as body;
+ghost use Rattle.record_body.specs.FirstFault.{Finds, least};
+ghost use Rattle.record_body.specs.Kept.{after_body};
 ghost use Rattle.record_fold.specs.Faults as fault;
 ghost use Rattle.record_fold.specs.Faults.{history_tests};
 ghost use Rattle.record_fold.specs.Folds.{kept_of};
@@ -11,7 +11,8 @@ ghost use Rattle.record_fold.specs.Folds.{kept_of};
 use super::project::Project;
 use pcm_base::NoMemory;
 use project_journal::Damaged;
-use project_state::{BadBody, Body, Point};
+use project_state::Point;
+use record_body::{BadBody, Body};
 use undo_history::History;
 
 /// The history has nowhere to go, which is reported at the record's kind.

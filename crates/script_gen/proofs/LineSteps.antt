@@ -6,18 +6,19 @@ use Rattle.pcm_base.specs.declared.answer.Reply.{Reply}
 use Rattle.pcm_base.specs.declared.answer.Reply.TheVariants as reply
 use Rattle.pcm_base.specs.declared.command.Command.{Command}
 use Rattle.pcm_base.specs.declared.command.Command.TheVariants as command
+use Rattle.pcm_base.specs.declared.command.Call.TheVariants as call
 use Rattle.pcm_base.specs.Cells.{cells_at}
-use Rattle.pcm_base.specs.Counters.{LineNeeds, commits_needed, generations_by, met_cells, tracks_needed}
+use Rattle.pcm_base.specs.Counters.{LineNeeds, commits_needed, met_cells, tracks_needed}
 use Rattle.pcm_base.specs.Envelope.{columns_of}
 use Rattle.pcm_base.specs.Form.{IsInForm}
 use Rattle.pcm_base.specs.Outside.{Outside}
 use Rattle.pcm_base.specs.Refusals.{own_tests, track_limit}
 use Rattle.pcm_base.specs.Run.{result_of}
 use Rattle.pcm_base.specs.Sizes.{blocks_of_cells}
-use Rattle.pcm_base.specs.Shape.{shape_of}
 use Rattle.pcm_base.specs.State.{State, clip_of, current, new_state}
 use Rattle.pcm_base.specs.Step.{MayReply, after_line, line_of_track, sound_after_line}
 use Rattle.pcm_base.specs.Studio.{Studio}
+use Rattle.model_laws.proofs.Answered.{moves_of}
 use Rattle.script_gen.proofs.Editing.{IsAt, copy-after, delete-after, gain-after, paste-after, ramp-after, redo-after}
 use Rattle.script_gen.proofs.Editing.{silence-after, track-after, undo-after}
 use Rattle.script_gen.proofs.Needing.{IsFew, edit-few, met-few, one-clip, record-few}
@@ -40,7 +41,7 @@ pub record Goes (P Q : State → Type 0) (c : Command) : Type 0 where
   pub form : IsInForm c
   pub tracks : (out : Outside) → tracks_needed out c ≤ 1
   pub commits : commits_needed c ≤ 1
-  pub still : generations_by (shape_of c) ≡ 0
+  pub still : moves_of (call.Line c) ≡ 0
   pub passes : (out : Outside) (s : State) → P s → own_tests out s c ≡ None
   pub few : (out : Outside) (t : Studio) (blocks len : ℕ) → P t.state → LineNeeds out t c blocks len →
       IsFew t.block_size blocks len

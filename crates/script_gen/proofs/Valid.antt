@@ -12,7 +12,7 @@ use Rattle.pcm_base.specs.Outside.{Outside}
 use Rattle.pcm_base.specs.Run.{CarriesOut, followed, outside}
 use Rattle.pcm_base.specs.State.{State, new_state}
 use Rattle.pcm_base.specs.Studio.{Studio, fresh}
-use Rattle.model_laws.proofs.Answered.{answered_same}
+use Rattle.model_laws.proofs.Answered.{answered_same, no_generation}
 use Rattle.script_gen.specs.declared.place.Place.{Place}
 use Rattle.script_gen.specs.Bounds.{IsPlace}
 use Rattle.script_gen.specs.Script.{first_place, line_at, lines_from, script_of}
@@ -61,7 +61,7 @@ goes-valid made P Q c t small b goes sound blocks len needs =
     let few = goes.few out t blocks len b.state needs in
     line-passes out t c blocks len (behind-room made P t small b) (goes.passes out t.state b.state)
     (few-blocks t.block_size blocks len few) (few-bytes t.block_size blocks len few) (goes.tracks out) goes.commits
-    goes.still
+    (no_generation (call.Line c) goes.still)
 
 goes-on : (made : ℕ) (P Q : State → Type 0) (c : Command) (t : Studio) → made ≤ 4096 → IsBehind made P t →
     Goes P Q c →

@@ -2,16 +2,15 @@
 use Rattle.std.proofs.Common.{◌≡◌, inl, inr, ℕ, ◌+◌, nat_lt, if◌then◌else◌, Bool, true, false, IsTrue, List, [], ◌∷◌}
 use Rattle.std.proofs.Common.{◌++◌, Result, Ok, Err, IfErr, Option, Some, None, IsSome, ◌≤◌, refl, sym, ◌∙◌, ap, subst}
 use Rattle.std.proofs.Common.{append_assoc, eq-eqb, arith}
-use Rattle.std.specs.Prelude.{MatchBool}
+use Rattle.std.specs.Prelude.{MatchBool, OnErr, OnOk}
+use Rattle.std.specs.List.{flat_map}
 use Rattle.std.proofs.lemmas.List.{append-nil}
 use Rattle.pcm_base.specs.declared.answer.Answer.{Answer}
 use Rattle.pcm_base.specs.declared.answer.Reply.{Reply}
 use Rattle.pcm_base.specs.declared.command.Call.TheVariants.{Line}
 use Rattle.pcm_base.specs.declared.command.Command.{Command}
-use Rattle.pcm_base.specs.declared.entry.Entry.{Entry}
 use Rattle.pcm_base.specs.declared.entry.SoundMove.{SoundMove}
 use Rattle.pcm_base.specs.declared.refusal.Refusal.{Refusal}
-use Rattle.pcm_base.specs.Outside.{Sounds}
 use Rattle.pcm_base.specs.declared.refusal.Refusal.TheVariants as refusal
 use Rattle.pcm_base.specs.Arithmetic.{counted_from}
 use Rattle.pcm_base.specs.Causes.{Rose}
@@ -25,16 +24,15 @@ use Rattle.studio_seats.specs.declared.deed.Deed.{Deed}
 use Rattle.studio_seats.specs.Deeds.{commits, deed, entries_of, number_after}
 use Rattle.studio_seats.specs.Merge.{by_seat, deeds_of, numbers_of}
 use Rattle.studio_seats.proofs.FaultLemmas.{rose_first, rose_last}
-use Rattle.studio_seats.proofs.Grown.{entries_append, number_append}
+use Rattle.studio_seats.proofs.Grown.{number_append}
 use Rattle.studio_seats.proofs.MergeLemmas.{deeds_append, deeds_others, numbers_append, numbers_others}
-use Rattle.script_session.specs.Added.{Adds, IsNoVault, SessionsAdd, SparesVault}
-use Rattle.script_session.specs.Place.{CountsFaults, Enters, Place, line_deed, made_commit, seen_after}
+use Rattle.wav_pcm.specs.Written.{MayBegin}
+use Rattle.pcm_base.specs.Outside.{SameElsewhere, Sounds}
+use Rattle.sound_bounce.specs.Bounces.{BounceDeeds, FaultsOf, IsUnread, text_by}
+use Rattle.script_session.specs.Added.{Adds, FollowsLines, IsNoVault, LineMoves, MayHold, SessionsAdd, SparesVault}
+use Rattle.script_session.specs.Place.{batch, Bounces, CountsFaults, Enters, Place, line_deed, made_commit, seen_after}
 use Rattle.script_session.specs.Session.{Next, Session, Turn}
-
--- the sounds of one list of entries, and then of another
-follows_on : (a b c : Sounds) (es fs : List Entry) → Follows a es b → Follows b fs c → Follows a (es ++ fs) c
-follows_on a b c [] fs h k = subst (λ (s : Sounds). Follows s fs c) h k
-follows_on a b c (e ∷ es) fs h k = (h.0, h.1, follows_on h.0 b c es fs h.2 k)
+use Rattle.script_session.proofs.BounceLemmas.{bounce_spares, none_numbered}
 
 own_deed : (seat : ℕ) (c : Command) (what : Result Reply Refusal) (sound : SoundMove)
     → deeds_of (by_seat seat) (deed seat (Line c) what sound ∷ []) ≡ deed seat (Line c) what sound ∷ []
@@ -87,9 +85,10 @@ record AddsOne (p q : Place) : Type 0 where
   seen : q.seen ≡ p.seen ++ added
   seat : q.seat ≡ p.seat
   first : q.first ≡ p.first
+  rate : q.rate ≡ p.rate
   tells : q.tells ≡ p.tells
   numbers : q.commits ≡ p.commits ++ numbers_of (by_seat p.seat) (number_after p.first p.seen) added
-  sounds : IsTrue p.tells → Follows p.sounds (entries_of (deeds_of (by_seat p.seat) added)) q.sounds
+  sounds : IsTrue p.tells → LineMoves p.rate (deeds_of (by_seat p.seat) added) p.sounds q.sounds
   faults : p.faults ≤ q.faults
   spares : (Rose p.faults q.faults → ⊥) → Each SparesVault (deeds_of (by_seat p.seat) added)
 
@@ -100,9 +99,10 @@ adds_none p q used is = record {
   seen = ap (λ (z : Place). z.seen) is ∙ sym (append-nil p.seen);
   seat = ap (λ (z : Place). z.seat) is;
   first = ap (λ (z : Place). z.first) is;
+  rate = ap (λ (z : Place). z.rate) is;
   tells = ap (λ (z : Place). z.tells) is;
   numbers = ap (λ (z : Place). z.commits) is ∙ sym (append-nil p.commits);
-  sounds = λ told. ap (λ (z : Place). z.sounds) is;
+  sounds = λ told. record { moves = inl (ap (λ (z : Place). z.sounds) is) };
   faults = let same = ap (λ (z : Place). z.faults) is in omega (arith, same);
   spares = λ calm. tt;
 }
@@ -129,27 +129,78 @@ module _ (p q : Place) (c : Command) (r : Reply) (h : Enters p c r q) where
   told_at = number_append p.first (p.seen ++ h.between) (e ∷ [])
       ∙ ap (λ (m : ℕ). number_after m (e ∷ [])) (number_append p.first p.seen h.between)
 
+  -- the sounds follow its deed
+  pub turn_sounds : IsTrue p.tells
+      → Follows p.sounds (entries_of (deeds_of (by_seat p.seat) (h.between ++ e ∷ []))) q.sounds
+  turn_sounds told = subst (λ (l : List Deed). Follows p.sounds (entries_of l) q.sounds) (sym own_is)
+      (q.sounds, h.heard (λ _. told), refl)
+
   adds_turn : AddsOne p q
   adds_turn = record {
     added = h.between ++ e ∷ [];
     seen = ap (λ (z : Place). z.seen) h.after ∙ append_assoc p.seen h.between (e ∷ []);
     seat = ap (λ (z : Place). z.seat) h.after;
     first = ap (λ (z : Place). z.first) h.after;
+    rate = ap (λ (z : Place). z.rate) h.after;
     tells = ap (λ (z : Place). z.tells) h.after;
     numbers = ap (λ (z : Place). z.commits) h.after ∙ ap (λ (l : List ℕ). p.commits ++ l)
         (ap (λ (m : ℕ). if made_commit h.what c then m ∷ [] else []) told_at ∙ sym numbers_are);
-    sounds = λ told. subst (λ (l : List Deed). Follows p.sounds (entries_of l) q.sounds) (sym own_is)
-        (q.sounds, h.heard (λ _. told), refl);
+    sounds = λ told. record { moves = inl (turn_sounds told) };
     faults = later (name_in_line c) h.what p.faults q.faults h.counted;
     spares = λ calm. subst (λ (l : List Deed). Each SparesVault l) (sym own_is)
         (spares_vault (name_in_line c) h.what p.faults q.faults h.counted calm, tt);
   }
 
+-- a bounce
+may_hold : (text : List ℕ) (what : Result ℕ Refusal) (old new : Option (List ℕ)) → OnOk what (new ≡ Some text)
+    → OnErr what (MayBegin text old new) → MayHold text what old new
+may_hold text (Ok bytes) old new written failed = written
+may_hold text (Err why) old new written failed = failed
+
+later_of : (what : Result ℕ Refusal) (own : List Deed) (old new : ℕ) → FaultsOf what own old new → old ≤ new
+later_of (Ok bytes) own old new h = omega (arith, h)
+later_of (Err why) own old new (inl h) = h.2
+later_of (Err why) own old new (inr h) = let same : new ≡ old = h.0 in omega (arith, same)
+
+moves_by : (rate : ℕ) (own : List Deed) (before after : Sounds)
+    → (Each (λ (d : Deed). IsUnread d.what) own → after ≡ before)
+    → ((name : List ℕ) × (used_up : Bool) × (what : Result ℕ Refusal) × BounceDeeds used_up batch what own
+    × MayHold (text_by rate own) what (before name) (after name) × SameElsewhere name before after)
+    → LineMoves rate own before after
+moves_by rate [] before after unread h = record { moves = inl (unread tt) }
+moves_by rate (d ∷ ds) before after unread h = record { moves = inr h }
+
+adds_bounce : (p q : Place) (name : List ℕ) (r : Reply) → Bounces p name r q → AddsOne p q
+adds_bounce p q name r h =
+    let own : List Deed = deeds_of (by_seat p.seat) h.added in
+    let n : ℕ = number_after p.first p.seen in
+    record {
+      added = h.added;
+      seen = ap (λ (z : Place). z.seen) h.after;
+      seat = ap (λ (z : Place). z.seat) h.after;
+      first = ap (λ (z : Place). z.first) h.after;
+      rate = ap (λ (z : Place). z.rate) h.after;
+      tells = ap (λ (z : Place). z.tells) h.after;
+      numbers = ap (λ (z : Place). z.commits) h.after ∙ sym (append-nil p.commits)
+          ∙ ap (λ (l : List ℕ). p.commits ++ l) (sym (none_numbered p.seat n h.added h.asks));
+      sounds = λ told. moves_by p.rate own p.sounds q.sounds h.unread (
+        name,
+        q.used_up,
+        h.what,
+        h.own,
+        may_hold (text_by p.rate own) h.what (p.sounds name) (q.sounds name) (h.written told) (h.failed told),
+        h.others told,
+      );
+      faults = later_of h.what own p.faults q.faults h.counted;
+      spares = λ calm. bounce_spares p.seat h.added h.asks;
+    }
+
 adds_one : (p q : Place) (said : Result Command ℕ) (r : Reply) → Turn p said r q → AddsOne p q
 adds_one p q (Err column) r h = adds_none p q p.used_up h.1
-adds_one p q (Ok c) r (inl h) = adds_turn p q c r h
+adds_one p q (Ok c) r (inl h) = adds_turn p q c r h.1
 adds_one p q (Ok c) r (inr (inl h)) = adds_none p q true h.1
-adds_one p q (Ok c) r (inr (inr h)) = adds_none p q p.used_up h.1
+adds_one p q (Ok c) r (inr (inr (inl h))) = adds_none p q p.used_up h.1
+adds_one p q (Ok c) r (inr (inr (inr h))) = adds_bounce p q h.0 r h.2
 
 -- one line, and the rest
 module _ (p mid q : Place) where
@@ -174,15 +225,15 @@ module _ (p mid q : Place) where
             ∙ append_assoc p.commits (numbers_of (by_seat p.seat) n h.added)
             (numbers_of (by_seat p.seat) (number_after n h.added) k.added)
             ∙ ap (λ (l : List ℕ). p.commits ++ l) (sym (numbers_append (by_seat p.seat) n h.added k.added));
-        sounds = λ told.
-            let later : Follows mid.sounds (entries_of (deeds_in k.added)) q.sounds =
-            subst (λ (n : ℕ). Follows mid.sounds (entries_of (deeds_of (by_seat n) k.added)) q.sounds) seat
-            (k.sounds (subst (λ (b : Bool). IsTrue b) (sym h.tells) told)) in
-            let both : Follows p.sounds (entries_of (deeds_in h.added) ++ entries_of (deeds_in k.added)) q.sounds =
-            follows_on p.sounds mid.sounds q.sounds (entries_of (deeds_in h.added)) (entries_of (deeds_in k.added))
-            (h.sounds told) later in
-            subst (λ (l : List Entry). Follows p.sounds l q.sounds)
-            (sym (ap entries_of parts ∙ entries_append (deeds_in h.added) (deeds_in k.added))) both;
+        lines = deeds_in h.added ∷ k.lines;
+        own = parts ∙ ap (λ (l : List Deed). deeds_in h.added ++ l)
+            (subst (λ (m : ℕ). deeds_of (by_seat m) k.added ≡ flat_map (λ (ds : List Deed). ds) k.lines) seat k.own);
+        sounds = λ told. (
+          mid.sounds,
+          h.sounds told,
+          subst (λ (m : ℕ). FollowsLines m mid.sounds k.lines q.sounds) h.rate
+              (k.sounds (subst (λ (b : Bool). IsTrue b) (sym h.tells) told)),
+        );
         faults = let a = h.faults in let b = k.faults in omega (arith, a, b);
         spares = λ calm.
             let front : Each SparesVault (deeds_in h.added) =
@@ -211,6 +262,8 @@ sessions_add [] answers p q h = record {
   first = ap (λ (z : Place). z.first) h.1;
   tells = ap (λ (z : Place). z.tells) h.1;
   numbers = ap (λ (z : Place). z.commits) h.1 ∙ sym (append-nil p.commits);
+  lines = [];
+  own = refl;
   sounds = λ told. ap (λ (z : Place). z.sounds) h.1;
   faults = let same = ap (λ (z : Place). z.faults) h.1 in omega (arith, same);
   spares = λ calm. tt;

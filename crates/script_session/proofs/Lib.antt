@@ -1,3 +1,4 @@
+pub mod BounceLemmas
 pub mod AddedLemmas
 pub mod ServedLemmas
 pub mod SpentLemmas

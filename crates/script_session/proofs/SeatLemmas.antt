@@ -10,6 +10,7 @@ use Rattle.pcm_base.specs.declared.command.Command.{Command}
 use Rattle.pcm_base.specs.declared.entry.SoundMove.{SoundMove}
 use Rattle.pcm_base.specs.declared.refusal.Refusal.{Refusal}
 use Rattle.pcm_base.specs.declared.said.Said.{Said}
+use Rattle.pcm_base.specs.Form.{IsTurn}
 use Rattle.pcm_base.specs.Outside.{Sounds}
 use Rattle.pcm_base.specs.Run.{Heard, name_in_line}
 use Rattle.disk_model.specs.declared.store.Store.{Ghosts}
@@ -141,17 +142,20 @@ module _ {D V : Type 0} (disk : Ghosts D) (vaults : vault.Ghosts V) (start : Cor
         → numbers' ≡ with_number (made_commit (Ok r) c) numbers said.at
         → (IsTold (Line c) tells → Heard (name_in_line c) sound before after)
         → (w.used_up ≡ false → IsSome (name_in_line c) → VaultCounted said.what old new)
-        → (name_in_line c ≡ None → new ≡ old)
+        → (name_in_line c ≡ None → new ≡ old) → IsTurn c
         → Turn (place_of start v last numbers tells before old) (Ok c) r
         (place_of start w (max last said.at) numbers' tells after new)
-    ok_turn r said last numbers numbers' ok h low listed heard named silent = ⊎_elim
+    ok_turn r said last numbers numbers' ok h low listed heard named silent turn = ⊎_elim
         (λ (x : Turned (origin disk vaults start) (asked (Line c) (told_by (λ _. r) said.what) sound) said.at
         (views v w)).
-        inl (enters (Ok r) said.at last numbers numbers' (subst
-        (λ (z : Result (Unit {0}) Refusal).
-        Turned (origin disk vaults start) (asked (Line c) (told_by (λ _. r) z) sound) said.at (views v w))
-        ok x)
-        low listed heard (told_count r said (Ok tt) ok x named silent)))
+        inl (
+          turn,
+          enters (Ok r) said.at last numbers numbers' (subst
+              (λ (z : Result (Unit {0}) Refusal).
+              Turned (origin disk vaults start) (asked (Line c) (told_by (λ _. r) z) sound) said.at (views v w))
+              ok x)
+              low listed heard (told_count r said (Ok tt) ok x named silent),
+        ))
         (λ (x : Spends v said w). not_ok (Turn (place_of start v last numbers tells before old) (Ok c) r
         (place_of start w (max last said.at) numbers' tells after new)) tt said.what ok x.what)
         h
@@ -163,17 +167,20 @@ module _ {D V : Type 0} (disk : Ghosts D) (vaults : vault.Ghosts V) (start : Cor
         → (IsTold (Line c) tells → Heard (name_in_line c) sound before after)
         → (w.used_up ≡ true → (after ≡ before) × (new ≡ old))
         → (w.used_up ≡ false → IsSome (name_in_line c) → VaultCounted said.what old new)
-        → (name_in_line c ≡ None → new ≡ old)
+        → (name_in_line c ≡ None → new ≡ old) → IsTurn c
         → Turn (place_of start v last numbers tells before old) (Ok c) (Refused reason)
         (place_of start w (max last said.at) numbers tells after new)
-    err_turn r reason said last numbers err h low heard still named silent = ⊎_elim
+    err_turn r reason said last numbers err h low heard still named silent turn = ⊎_elim
         (λ (x : Turned (origin disk vaults start) (asked (Line c) (told_by (λ _. r) said.what) sound) said.at
         (views v w)).
-        inl (enters (Err reason) said.at last numbers numbers (subst
-        (λ (z : Result (Unit {0}) Refusal).
-        Turned (origin disk vaults start) (asked (Line c) (told_by (λ _. r) z) sound) said.at (views v w))
-        err x)
-        low (sym (append-nil numbers)) heard (told_count r said (Err reason) err x named silent)))
+        inl (
+          turn,
+          enters (Err reason) said.at last numbers numbers (subst
+              (λ (z : Result (Unit {0}) Refusal).
+              Turned (origin disk vaults start) (asked (Line c) (told_by (λ _. r) z) sound) said.at (views v w))
+              err x)
+              low (sym (append-nil numbers)) heard (told_count r said (Err reason) err x named silent),
+        ))
         (λ (x : Spends v said w). inr (inl (
           ap Refused (reason_is reason said.what err x.what),
           (let same = still (ap (λ (z : View (Held D V) Deed). z.used_up) x.view) in

@@ -15,6 +15,7 @@ use Rattle.script_session.specs.Place.{Enters, Place, line_deed}
 use Rattle.script_session.specs.Session.{Next, Session, Turn}
 use Rattle.script_session.specs.Spent.{Finds, SessionsSpend, TellSpent}
 use Rattle.script_session.proofs.AddedLemmas.{sessions_add}
+use Rattle.script_session.proofs.BounceLemmas.{bounce_spent}
 
 -- what one line leaves of whether a turn is left
 record FindsOne (p q : Place) (a : Answer) : Type 0 where
@@ -40,14 +41,18 @@ finds_one p q (Err column) a (inr wants, same) = record {
   stays = λ used. ap (λ (z : Place). z.used_up) same ∙ used;
   found = λ had is. absurd (cc);
 }
-finds_one p q (Ok c) a (inl h) = finds_enters p q c a h
+finds_one p q (Ok c) a (inl h) = finds_enters p q c a h.1
 finds_one p q (Ok c) a (inr (inl h)) = record {
   stays = λ used. ap (λ (z : Place). z.used_up) h.1;
   found = λ had is. ap (λ (z : Place). z.used_up) h.1;
 }
-finds_one p q (Ok c) a (inr (inr h)) = record {
+finds_one p q (Ok c) a (inr (inr (inl h))) = record {
   stays = λ used. ap (λ (z : Place). z.used_up) h.1 ∙ used;
   found = λ had is. let wants = h.0 in absurd (cc);
+}
+finds_one p q (Ok c) a (inr (inr (inr h))) = record {
+  stays = λ used. (h.2.spent used).1;
+  found = λ had is. bounce_spent p q h.0 a.reply h.2 had is;
 }
 
 -- one line, and the rest

@@ -1,6 +1,7 @@
 -- What the contracts cite, lowest first.
 pub mod Change
 pub mod Kept
+pub mod Calls
 pub mod Place
 pub mod Session
 pub mod Added

@@ -1,27 +1,37 @@
 -- Where a script stands at a desk.
 use Rattle.std.specs.Prelude.{◌≡◌, ℕ, nat_lt, if◌then◌else◌, Bool, false, List, [], ◌∷◌, ◌++◌, Option, Some, None}
-use Rattle.std.specs.Prelude.{Result}
+use Rattle.std.specs.Prelude.{Result, ◌+◌, ◌*◌, ◌<◌, true, IsTrue, IfOk, OnOk, OnErr}
 use Rattle.pcm_base.specs.declared.answer.Reply.{Reply}
+use Rattle.pcm_base.specs.declared.answer.Reply.TheVariants.{Wrote}
 use Rattle.pcm_base.specs.declared.command.Call.TheVariants.{Line}
 use Rattle.pcm_base.specs.declared.command.Command.{Command}
+use Rattle.pcm_base.specs.declared.limits.TheConstants.{MAX_LOADED}
 use Rattle.pcm_base.specs.declared.refusal.Refusal.{Refusal}
-use Rattle.pcm_base.specs.Outside.{Sounds}
+use Rattle.pcm_base.specs.Outside.{SameElsewhere, Sounds}
 use Rattle.pcm_base.specs.Run.{Heard, name_in_line}
 use Rattle.pin_turn.specs.declared.view.View.{View}
 use Rattle.pin_turn.specs.Rule.{ByOthers}
 use Rattle.editor_core.specs.Applied.{IsTold, move_of, reply_of}
 use Rattle.editor_core.specs.Core.{Core}
 use Rattle.editor_core.specs.Imports.{VaultCounted}
+use Rattle.editor_core.specs.Took.{told_by}
+use Rattle.wav_pcm.specs.Written.{MayBegin}
 use Rattle.studio_seats.specs.declared.deed.Deed.{Deed}
 use Rattle.studio_seats.specs.declared.held.Held.{Held}
 use Rattle.studio_seats.specs.Deeds.{actor_of, commits, deed, number_after}
+use Rattle.studio_seats.specs.Merge.{by_seat, deeds_of}
+use Rattle.studio_seats.specs.Onward.{Asks}
+use Rattle.pin_turn.specs.Counts.{Each}
+use Rattle.sound_bounce.specs.Bounces.{BounceDeeds, FaultsOf, IsOfBounce, IsUnread, length_in, text_by}
 
--- The seat of the script, the commit number with which the desk began, the deeds that the seat has seen, its own and
--- those of others, the commit number that it told last, the numbers of its commits, whether it found that no turn is
--- left; and of the vault whether it tells its bytes, the sounds in it, and its count of faults.
+-- The seat of the script, the commit number with which the desk began, the project's frames in a second, the deeds that
+-- the seat has seen, its own and those of others, the commit number that it told last, the numbers of its commits,
+-- whether it found that no turn is left; and of the vault whether it reports its bytes, the sounds in it, and its count
+-- of faults.
 pub record Place : Type 0 where
   pub seat : ℕ
   pub first : ℕ
+  pub rate : ℕ
   pub seen : List Deed
   pub last : ℕ
   pub commits : List ℕ
@@ -35,6 +45,7 @@ abbrev pub place_of : {D V : Type 0} → Core D → View (Held D V) Deed → ℕ
 place_of start v last numbers tells sounds faults = record {
   seat = v.number;
   first = start.commit_number;
+  rate = start.rate;
   seen = v.seen;
   last = last;
   commits = numbers;
@@ -87,3 +98,45 @@ pub record Enters (p : Place) (c : Command) (r : Reply) (q : Place) : Type 0 whe
   pub heard : IsTold (Line c) p.tells
       → Heard (name_in_line c) (move_of (name_in_line c) p.sounds q.sounds) p.sounds q.sounds
   pub counted : CountsFaults (name_in_line c) what p.faults q.faults
+
+-- ---- a bounce, which takes several turns
+
+-- how many frames one of its turns loads at most
+abbrev pub batch : ℕ
+batch = MAX_LOADED
+
+-- the number that is printed last after the own deeds of a bounce: that after the turn of its pin, if it had one
+abbrev pub TellsBounce : Place → (added own : List Deed) → (last : ℕ) → Type 0
+TellsBounce p added [] last = last ≡ p.last
+TellsBounce p added (d ∷ ds) last = (front back : List Deed) × (added ≡ front ++ d ∷ back)
+    × (last ≡ number_after p.first (p.seen ++ (front ++ d ∷ [])))
+
+-- After what was seen come the turns of the bounce, with deeds of others between them. None of its own is a commit, and
+-- none names a sound. After it the sound of the name is the file that its deeds make, or as much of it as was written.
+-- No other changes.
+pub record Bounces (p : Place) (name : List ℕ) (r : Reply) (q : Place) : Type 0 where
+  pub added : List Deed
+  pub what : Result ℕ Refusal
+  pub asks : Asks IsOfBounce p.seat added
+  pub own : BounceDeeds q.used_up batch what (deeds_of (by_seat p.seat) added)
+  pub reply : r ≡ reply_of (told_by Wrote what)
+  pub after : q ≡ record p {
+    seen = p.seen ++ added;
+    last = q.last;
+    used_up = q.used_up;
+    sounds = q.sounds;
+    faults = q.faults;
+  }
+  pub last : TellsBounce p added (deeds_of (by_seat p.seat) added) q.last
+  pub spent : p.used_up ≡ true → (added ≡ []) × (q.used_up ≡ true)
+  pub written : IsTrue p.tells
+      → OnOk what (q.sounds name ≡ Some (text_by p.rate (deeds_of (by_seat p.seat) added)))
+  pub failed : IsTrue p.tells
+      → OnErr what (MayBegin (text_by p.rate (deeds_of (by_seat p.seat) added)) (p.sounds name) (q.sounds name))
+  pub size : IfOk what (λ bytes. bytes ≡ 44 + 4 * length_in (deeds_of (by_seat p.seat) added))
+  -- a mix that is too long leaves the sound
+  pub too_long : 4294967295 < 36 + 4 * length_in (deeds_of (by_seat p.seat) added) → q.sounds ≡ p.sounds
+  -- and so does one of which no length was answered
+  pub unread : Each (λ (d : Deed). IsUnread d.what) (deeds_of (by_seat p.seat) added) → q.sounds ≡ p.sounds
+  pub others : IsTrue p.tells → SameElsewhere name p.sounds q.sounds
+  pub counted : FaultsOf what (deeds_of (by_seat p.seat) added) p.faults q.faults

@@ -1,20 +1,23 @@
 -- A session: what the lines of a script are answered.
 use Rattle.std.specs.Prelude.{◌≡◌, ◌⊎◌, ℕ, List, [], ◌∷◌, Bool, true, false, MatchBool, Result, Ok, Err}
 use Rattle.pcm_base.specs.declared.command.Command.{Command}
+use Rattle.pcm_base.specs.declared.command.Command.TheVariants.{Bounce}
 use Rattle.pcm_base.specs.declared.refusal.Refusal.TheVariants.{BadLine, NoMemory}
 use Rattle.pcm_base.specs.declared.answer.Reply.TheVariants.{Refused}
 use Rattle.pcm_base.specs.declared.answer.Reply.{Reply}
 use Rattle.pcm_base.specs.declared.answer.Answer.{Answer}
-use Rattle.script_session.specs.Place.{Place, Enters}
+use Rattle.pcm_base.specs.Form.{IsTurn}
+use Rattle.script_session.specs.Place.{Place, Bounces, Enters}
 use Rattle.studio_seats.specs.Desks.{spent}
 use Rattle.script_text.specs.Grammar.{line_of, is_silent}
 
--- what a line is answered, and where that leads: a line out of the grammar is refused by its column, a command takes a
--- turn; where no turn is left, or memory is wanting before it, there is none, and nothing was asked
+-- What a line is answered, and where that leads. A line out of the grammar is refused by its column. A command takes a
+-- turn, and a bounce several. Where no turn is left, or memory is wanting before it, there is none, and nothing was
+-- asked.
 abbrev pub Turn : Place → Result Command ℕ → Reply → Place → Type 0
 Turn p (Err column) r q = ((r ≡ Refused (BadLine column)) ⊎ (r ≡ Refused NoMemory)) × (q ≡ p)
-Turn p (Ok command) r q = Enters p command r q ⊎ ((r ≡ Refused spent) × (q ≡ record p { used_up = true }))
-    ⊎ ((r ≡ Refused NoMemory) × (q ≡ p))
+Turn p (Ok c) r q = (IsTurn c × Enters p c r q) ⊎ ((r ≡ Refused spent) × (q ≡ record p { used_up = true }))
+    ⊎ ((r ≡ Refused NoMemory) × (q ≡ p)) ⊎ ((name : List ℕ) × (c ≡ Bounce name) × Bounces p name r q)
 
 -- the same of an answer, which tells the commit number after the turn, and where there was none the number told last
 abbrev pub Answers : Place → List ℕ → Answer → Place → Type 0

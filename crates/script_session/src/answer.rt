@@ -15,6 +15,7 @@ use pcm_base::{Answer, Command, Failed, Refusal, Reply};
 use script_text::LineFault;
 use std::alloc::Global;
 use std::sync::Wait;
+use std::thread::Threads;
 
 /// A session: the editor, the line that has not ended yet, and whether a line was refused.
 #[derive(Drop)]
@@ -42,7 +43,7 @@ fn is_refusal(reply: &Reply) -> bool
     }
 }
 
-fn command_reply<R: Wait, E: Editor>(
+fn command_reply<R: Threads + Wait + Sync, E: Editor>(
     rt: &R,
     alloc: Global,
     editor: &mut E,
@@ -58,7 +59,12 @@ fn command_reply<R: Wait, E: Editor>(
     }
 }
 
-fn line_reply<R: Wait, E: Editor>(rt: &R, alloc: Global, editor: &mut E, line: &LineBuffer) -> Reply
+fn line_reply<R: Threads + Wait + Sync, E: Editor>(
+    rt: &R,
+    alloc: Global,
+    editor: &mut E,
+    line: &LineBuffer,
+) -> Reply
     ensures turn { (part : List ℕ) → Holds line.now part →
         Turn (E.place editor.old) (line_of part) result (E.place editor.new) }
     ensures follows { (first : E) → E.follows first editor.old → E.follows first editor.new }
@@ -79,7 +85,11 @@ fn line_reply<R: Wait, E: Editor>(rt: &R, alloc: Global, editor: &mut E, line: &
     }
 }
 
-fn next_answer<R: Wait, E: Editor>(rt: &R, alloc: Global, session: &mut Session<E>) -> Answer
+fn next_answer<R: Threads + Wait + Sync, E: Editor>(
+    rt: &R,
+    alloc: Global,
+    session: &mut Session<E>,
+) -> Answer
     ensures answers { (part : List ℕ) → Holds session.old.line part →
         Answers (E.place session.old.editor) part result (E.place session.new.editor) }
     ensures cleared { Holds session.new.line [] }
@@ -96,7 +106,7 @@ fn next_answer<R: Wait, E: Editor>(rt: &R, alloc: Global, session: &mut Session<
 }
 
 /// Answers the line that is kept, between two passes of a gate. A silent line passes none.
-pub fn answer_line<R: Wait, E: Editor, O: Sink, G: Gate>(
+pub fn answer_line<R: Threads + Wait + Sync, E: Editor, O: Sink, G: Gate>(
     rt: &R,
     alloc: Global,
     session: &mut Session<E>,

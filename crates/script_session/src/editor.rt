@@ -1,5 +1,6 @@
 // What carries out the commands.
 ghost use Rattle.std.specs.Prelude.{◌≡◌, Ok, MatchResult};
+ghost use Rattle.std.specs.Thread.{IsSync};
 ghost use Rattle.pcm_base.specs.Form.{IsInForm};
 ghost use Rattle.pcm_base.specs.declared.answer.Reply.TheVariants as reply;
 ghost use Rattle.script_session.specs.Place.{Place};
@@ -8,6 +9,7 @@ ghost use Rattle.script_session.specs.Session.{Turn};
 use pcm_base::{Command, Refusal, Reply};
 use std::alloc::Global;
 use std::sync::Wait;
+use std::thread::Threads;
 
 /// An editor, which others may use between two commands: a list of entries grows, of which some are its own.
 pub trait Editor {
@@ -18,8 +20,14 @@ pub trait Editor {
     ghost follows: { Self → Self → Type 0 };
 
     /// Carries a command out and answers its reply, or the reason that refuses it.
-    fn apply<R: Wait>(&mut self, rt: &R, alloc: Global, command: &Command) -> Result<Reply, Refusal>
-        requires { IsInForm command.now }
+    fn apply<R: Threads + Wait + Sync>(
+        &mut self,
+        rt: &R,
+        alloc: Global,
+        command: &Command,
+    ) -> Result<Reply, Refusal>
+        requires in_form { IsInForm command.now }
+        requires sync { IsSync R.row }
         ensures turn { MatchResult result
             (λ r. Turn (place self.old) (Ok command.now) r (place self.new))
             (λ reason. Turn (place self.old) (Ok command.now) (reply.Refused reason) (place self.new)) }

@@ -14,12 +14,13 @@ use memchr::memchr;
 use pcm_base::Failed;
 use std::alloc::Global;
 use std::sync::Wait;
+use std::thread::Threads;
 
 /// How many bytes of a script are read at most.
 pub const MAX_SCRIPT: u64 = 4_294_967_296;
 
 // The rest of a line and its LF: the line is answered.
-fn end_line<R: Wait, E: Editor, O: Sink, G: Gate>(
+fn end_line<R: Threads + Wait + Sync, E: Editor, O: Sink, G: Gate>(
     rt: &R,
     alloc: Global,
     session: &mut Session<E>,
@@ -44,7 +45,7 @@ fn end_line<R: Wait, E: Editor, O: Sink, G: Gate>(
 }
 
 // A piece more of the script: its lines are answered as they end.
-fn take_piece<R: Wait, E: Editor, O: Sink, G: Gate>(
+fn take_piece<R: Threads + Wait + Sync, E: Editor, O: Sink, G: Gate>(
     rt: &R,
     alloc: Global,
     session: &mut Session<E>,
@@ -73,7 +74,7 @@ fn take_piece<R: Wait, E: Editor, O: Sink, G: Gate>(
 }
 
 // The end of the script: what has come of a last line is a line.
-fn end_script<R: Wait, E: Editor, O: Sink, G: Gate>(
+fn end_script<R: Threads + Wait + Sync, E: Editor, O: Sink, G: Gate>(
     rt: &R,
     alloc: Global,
     session: &mut Session<E>,
@@ -97,7 +98,7 @@ fn end_script<R: Wait, E: Editor, O: Sink, G: Gate>(
 }
 
 /// Answers the lines of a script, until it ends or something stops it. Each answer is between two passes of a gate.
-pub fn read_script<R: Wait, E: Editor, A: Source, O: Sink, G: Gate>(
+pub fn read_script<R: Threads + Wait + Sync, E: Editor, A: Source, O: Sink, G: Gate>(
     rt: &R,
     alloc: Global,
     session: &mut Session<E>,

@@ -1,19 +1,25 @@
 // A seat at a desk as an editor.
-ghost use Rattle.std.specs.Prelude.{◌≡◌, ◌≤◌, ◌<◌, [], vec_len, vec_capacity};
+ghost use Rattle.std.specs.Prelude.{◌≡◌, ◌≤◌, ◌<◌, [], vec_len, vec_capacity, MatchResult};
+ghost use Rattle.pcm_base.specs.declared.answer.Reply.TheVariants as reply;
 ghost use Rattle.pin_turn.specs.Calls.{known};
 ghost use Rattle.studio_seats.specs.Deeds.{number_after};
 ghost use Rattle.studio_seats.specs.Desks.{IsAt, start_at};
-ghost use Rattle.script_session.specs.Place.{with_number};
+ghost use Rattle.editor_core.specs.Took.{told_by};
+ghost use Rattle.studio_seats.specs.Onward.{Onward};
+ghost use Rattle.script_session.specs.Calls.{IsOfScript};
+ghost use Rattle.script_session.specs.Place.{Bounces, place_of, with_number};
 
 use super::editor::Editor;
 use disk_model::Store;
 use edit_ports::Vault;
-use pcm_base::{Answer, Command, Numbers, Refusal, Reply, Said};
+use pcm_base::{Answer, Command, MAX_LOADED, Numbers, Refusal, Reply, Said};
+use sound_bounce::bounce;
 use std::alloc::Global;
 use std::sync::Wait;
+use std::thread::Threads;
 use studio_seats::{Desk, DeskSeat};
 
-/// Each command is one turn of the seat, and names sounds of a vault that was lent.
+/// Each command is one turn of the seat, and a bounce takes several. They name sounds of a vault that was lent.
 #[derive(Drop)]
 pub struct DeskEditor<'a, S: Store, V: Vault> {
     desk: &'a Desk<S, V>,
@@ -38,22 +44,23 @@ fn note(numbers: &mut Vec<u64>, commit: bool, at: u64)
 }
 
 impl<'a, S: Store, V: Vault> Editor for DeskEditor<'a, S, V> {
-    ghost use Rattle.script_session.specs.Place.{place_of};
-    ghost use Rattle.studio_seats.specs.Onward.{Onward, IsLine};
-
     ghost place = { λ s. place_of (start_at s.desk.now) (known s.seat) s.last s.commits.items (V.tells s.vault.now)
         (V.holds s.vault.now) (V.fault_count s.vault.now) };
 
-    // It is of the same desk and the same vault, and its seat went on by turns of its own, all of them lines.
+    // It is of the same desk and the same vault, and its seat went on by turns of its own, each a line or one of a
+    // bounce.
     ghost follows = { λ first s. (s.desk.now ≡ first.desk.now) × (s.vault.ghost_name ≡ first.vault.ghost_name)
-        × Onward IsLine (known first.seat) (known s.seat) };
+        × Onward IsOfScript (known first.seat) (known s.seat) };
 
-    fn apply<R: Wait>(
+    fn apply<R: Threads + Wait + Sync>(
         &mut self,
         rt: &R,
         alloc: Global,
         command: &Command,
     ) -> Result<Reply, Refusal> {
+        if let Command::Bounce { name } = command {
+            return self.carry_bounce(rt, alloc, name.as_str());
+        }
         if self.commits.reserve(1).is_err() {
             return Err(Refusal::NoMemory);
         }
@@ -84,7 +91,52 @@ impl<'a, S: Store, V: Vault> Editor for DeskEditor<'a, S, V> {
     }
 }
 
+// The reply to a bounce.
+fn wrote(what: Result<u64, Refusal>) -> Result<Reply, Refusal>
+    ensures { result ≡ told_by reply.Wrote what }
+{
+    match what {
+        Ok(bytes) => Ok(Reply::Wrote { bytes }),
+        Err(reason) => Err(reason),
+    }
+}
+
 impl<'a, S: Store, V: Vault> DeskEditor<'a, S, V> {
+    // Carries a bounce out, which takes several turns.
+    fn carry_bounce<R: Threads + Wait + Sync>(
+        &mut self,
+        rt: &R,
+        alloc: Global,
+        name: &str,
+    ) -> Result<Reply, Refusal>
+        ensures turn { MatchResult result
+            (λ r. Bounces (place_of (start_at self.old.desk.now) (known self.old.seat) self.old.last
+            self.old.commits.items (V.tells self.old.vault.now) (V.holds self.old.vault.now)
+            (V.fault_count self.old.vault.now)) name.now r
+            (place_of (start_at self.new.desk.now) (known self.new.seat) self.new.last self.new.commits.items
+            (V.tells self.new.vault.now) (V.holds self.new.vault.now) (V.fault_count self.new.vault.now)))
+            (λ reason. Bounces (place_of (start_at self.old.desk.now) (known self.old.seat) self.old.last
+            self.old.commits.items (V.tells self.old.vault.now) (V.holds self.old.vault.now)
+            (V.fault_count self.old.vault.now)) name.now (reply.Refused reason)
+            (place_of (start_at self.new.desk.now) (known self.new.seat) self.new.last self.new.commits.items
+            (V.tells self.new.vault.now) (V.holds self.new.vault.now) (V.fault_count self.new.vault.now))) }
+        ensures of { (self.new.desk.now ≡ self.old.desk.now)
+            × (self.new.vault.ghost_name ≡ self.old.vault.ghost_name) }
+        ensures goes { Onward IsOfScript (known self.old.seat) (known self.new.seat) }
+    {
+        let Said { at, what } = bounce(
+            rt,
+            alloc,
+            self.desk,
+            &mut self.seat,
+            self.vault,
+            name,
+            MAX_LOADED,
+        );
+        self.last = self.last.max(at);
+        wrote(what)
+    }
+
     /// An editor by this seat, at which this commit number was told last.
     pub fn new(
         alloc: Global,

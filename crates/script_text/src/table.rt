@@ -84,6 +84,7 @@ fn other_line(first: &Found, words: &mut Words) -> Result<Command, LineFault>
         b"undo" => Undo,
         b"redo" => Redo,
         b"purge" => Purge { count: number },
+        b"purge-to" => PurgeTo { bytes: number },
         b"show" => Show { track: number, from: number, to: number },
         b"mix" => Mix { from: number, to: number },
         b"envelope" => Envelope { track: number, from: number, to: number, columns: number },
@@ -92,5 +93,6 @@ fn other_line(first: &Found, words: &mut Words) -> Result<Command, LineFault>
         b"compact" => Compact,
         b"import" => Import { name: name },
         b"export" => Export { name: name },
+        b"bounce" => Bounce { name: name },
     }
 }

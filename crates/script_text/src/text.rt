@@ -78,9 +78,13 @@ fn put_reply<O: Sink>(text: &mut Gathered, out: &mut O, commit: u64, reply: &Rep
         }
         Reply::Freed { count } => put_pair(text, out, b"freed", commit, *count),
         Reply::Packed { bytes } => put_pair(text, out, b"packed", commit, *bytes),
+        Reply::Purged { count } => put_pair(text, out, b"purged", commit, *count),
         Reply::Wrote { bytes } => put_pair(text, out, b"wrote", commit, *bytes),
         Reply::Pinned { pin } => put_pair(text, out, b"pinned", commit, *pin),
         Reply::Length { frames } => put_pair(text, out, b"length", commit, *frames),
+        Reply::Loaded { tracks } => {
+            put_pair(text, out, b"loaded", commit, tracks.as_slice().len() as u64)
+        }
         Reply::Refused { reason } => {
             put_named(text, out, b"no", commit);
             text.put(out, b" ");

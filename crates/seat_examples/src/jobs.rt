@@ -11,8 +11,9 @@ ghost use Rattle.studio_seats.specs.Stands.{origin};
 ghost use Rattle.seat_examples.specs.Jobs.{IsPinOf, IsRampIn, asked, did, needed, piece_count};
 
 use super::lines::{RamDesk, RamSeat, line};
-use disk_model::{RamStore, Store};
+use disk_model::Store;
 use edit_ports::{FrameGiver, MemVault, PieceTaker, Vault};
+use memory_disk::RamStore;
 use pcm_base::{Answer, Chunk, Command, Frame, Refusal, Reply};
 use std::alloc::Global;
 use std::sync::Wait;

@@ -2,14 +2,14 @@
 ghost use Rattle.std.specs.Prelude.{◌≡◌, ◌+◌, ◌≤◌, length, OnOk};
 ghost use Rattle.pcm_base.specs.declared.command.Call.TheVariants.{Line};
 ghost use Rattle.pcm_base.specs.Counters.{commits_of};
-ghost use Rattle.pcm_base.specs.Form.{IsInForm};
+ghost use Rattle.pcm_base.specs.Form.{IsInForm, IsTurn};
 ghost use Rattle.pin_turn.specs.Calls.{known};
 ghost use Rattle.studio_seats.specs.Deeds.{number_after};
 ghost use Rattle.studio_seats.specs.Desks.{IsAt, start_at};
 ghost use Rattle.studio_seats.specs.Onward.{Onward};
 
-use disk_model::RamStore;
 use edit_ports::MemVault;
+use memory_disk::RamStore;
 use pcm_base::{Answer, Command, Numbers, Refusal, Said};
 use std::alloc::Global;
 use std::sync::Wait;
@@ -36,6 +36,7 @@ pub fn line<R: Wait>(
 ) -> Said<()>
     requires seat { IsAt desk.now seat.old }
     requires in_form { IsInForm command.now }
+    requires turn { IsTurn command.now }
     ensures same { IsAt desk.now seat.new }
     // All that the seat did is this line, in one turn where it was carried out.
     ensures goes { Onward (λ call. call ≡ Line command.now) (known seat.old) (known seat.new) }

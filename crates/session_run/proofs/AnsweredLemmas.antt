@@ -4,6 +4,7 @@ use Rattle.std.proofs.Common.{append_assoc, Result, Ok, Err}
 use Rattle.std.specs.Prelude.{MatchBool}
 use Rattle.pcm_base.specs.declared.answer.Answer.{Answer}
 use Rattle.pcm_base.specs.declared.command.Command.{Command}
+use Rattle.pcm_base.specs.declared.command.Command.TheVariants.{Bounce}
 use Rattle.pcm_base.specs.declared.entry.Entry.{Entry}
 use Rattle.pin_turn.specs.Counts.{Each}
 use Rattle.pin_turn.specs.Rule.{ByOthers}
@@ -12,13 +13,15 @@ use Rattle.script_text.specs.Grammar.{is_silent, line_of}
 use Rattle.studio_seats.specs.declared.deed.Deed.{Deed}
 use Rattle.studio_seats.specs.Deeds.{actor_of, entries_of, entry_of, number_after}
 use Rattle.studio_seats.proofs.Grown.{entries_append, number_append}
-use Rattle.script_session.specs.Place.{Enters, Place, line_deed}
+use Rattle.studio_seats.specs.Merge.{by_seat, deeds_of}
+use Rattle.script_session.specs.Place.{Bounces, Enters, Place, line_deed}
 use Rattle.script_session.specs.Session.{Next, Session, Turn}
 use Rattle.script_session.proofs.AddedLemmas.{sessions_add}
 use Rattle.desk_session.proofs.ListLemmas.{same_rest}
-use Rattle.session_run.specs.Answered.{Answered, IsNext, IsUnasked}
+use Rattle.session_run.specs.Answered.{Answered, BounceEntries, BounceNumber, IsNext, IsUnasked}
 use Rattle.session_run.specs.Entries.{entries_by, last_number}
-use Rattle.session_run.proofs.EntryLemmas.{IsPlain, last_as, none_by}
+use Rattle.session_run.proofs.BounceEntries.{bounce_entries, bounce_number}
+use Rattle.session_run.proofs.EntryLemmas.{IsPlain, entries_as, last_as, none_by}
 
 -- the commit number to which what a place has seen leads
 abbrev number_at : Place → ℕ
@@ -91,7 +94,7 @@ module _ (lines : List (List ℕ)) (q : Place) (later : List Deed)
       ∙ number_append p.first p.seen (x.between ++ d ∷ []))) in
       let number_t : number_at t ≡ a.commit =
       (λ i. number_after (first_t i) (seen_t i)) ∙ sym (commit ∙ last_t) in
-      inr (
+      inr (inl (
         entries_of rest,
         record {
           command = command;
@@ -113,7 +116,54 @@ module _ (lines : List (List ℕ)) (q : Place) (later : List Deed)
               by_others = led.by_others;
               plain = back;
             })),
-      )
+      ))
+
+  -- a bounce
+  bounced : (p t : Place) (command : Command) (name : List ℕ) (a : Answer) (answers : List Answer) (added : List Deed)
+      → command ≡ Bounce name → Bounces p name a.reply t → a.commit ≡ t.last → Session t lines answers q
+      → Led p q later added → IsNext (number_at p) p.last (Ok command) (a ∷ answers) (entries_of added) Later
+  bounced p t command name a answers added is x commit session led =
+      let own : List Deed = deeds_of (by_seat p.seat) x.added in
+      let more = sessions_add lines answers t q session in
+      let rest = more.added ++ later in
+      let seen_t : t.seen ≡ p.seen ++ x.added = ap (λ (z : Place). z.seen) x.after in
+      let first_t : t.first ≡ p.first = ap (λ (z : Place). z.first) x.after in
+      let on : q.seen ++ later ≡ t.seen ++ rest =
+      ap (λ (l : List Deed). l ++ later) more.seen ∙ append_assoc t.seen more.added later in
+      let parts : added ≡ x.added ++ rest = same_rest p.seen added (x.added ++ rest) (sym led.seen
+      ∙ (on ∙ (ap (λ (l : List Deed). l ++ rest) seen_t ∙ append_assoc p.seen x.added rest))) in
+      let plain : Each IsPlain (x.added ++ rest) = subst (λ (l : List Deed). Each IsPlain l) parts led.plain in
+      let front : Each IsPlain x.added = Each-left IsPlain x.added rest plain in
+      let back : Each IsPlain rest = Each-right IsPlain x.added rest plain in
+      let own_is : entries_by 0 (entries_of x.added) ≡ entries_of own =
+      entries_as 0 x.added ∙ ap (λ (n : ℕ). entries_of (deeds_of (by_seat n) x.added)) (sym led.script) in
+      let number_t : number_at t ≡ last_number (number_at p) (entries_of x.added) =
+      (λ i. number_after (first_t i) (seen_t i)) ∙ number_append p.first p.seen x.added
+      ∙ sym (last_as (number_at p) x.added front) in
+      inr (inr (
+        entries_of x.added,
+        entries_of rest,
+        record {
+          name = name;
+          read = ap Ok is;
+          cut = ap entries_of parts ∙ entries_append x.added rest;
+          own = subst (λ (es : List Entry). BounceEntries a.reply es) (sym own_is)
+              (bounce_entries t.used_up x.what own a.reply x.reply x.own);
+          commit = subst
+              (λ (es : List Entry). BounceNumber (number_at p) p.last a.commit (entries_of x.added) es) (sym own_is)
+              (subst (λ (n : ℕ). BounceNumber (number_at p) p.last n (entries_of x.added) (entries_of own)) (sym commit)
+              (bounce_number p x.added own t.last
+              (λ f b d are. Each-left IsPlain (f ++ d ∷ []) b
+              (subst (λ (l : List Deed). Each IsPlain l) (are ∙ sym (append_assoc f (d ∷ []) b)) front)) x.last));
+        },
+        subst (λ (z : ℕ × ℕ). Answered z.0 z.1 lines answers (entries_of rest)) (λ i. (number_t i, sym commit i))
+            (go answers t rest session (record {
+              script = ap (λ (z : Place). z.seat) x.after ∙ led.script;
+              seen = on;
+              by_others = led.by_others;
+              plain = back;
+            })),
+      ))
 
   next : (p : Place) (line : List ℕ) (answers : List Answer) (added : List Deed)
       → Next p line answers (λ mid more. Session mid lines more q) → Led p q later added
@@ -126,11 +176,12 @@ module _ (lines : List (List ℕ)) (q : Place) (later : List Deed)
       by (Err column) (reply, same) =
           unasked p t (Err column) a answers added (ap (λ (z : Place). z.seat) same) (ap (λ (z : Place). z.first) same)
           (ap (λ (z : Place). z.seen) same) (ap (λ (z : Place). z.last) same) reply commit session led
-      by (Ok command) (inl x) = entered p t command a answers added x commit session led
+      by (Ok command) (inl x) = entered p t command a answers added x.1 commit session led
       by (Ok command) (inr (inl (reply, same))) =
           unasked p t (Ok command) a answers added (ap (λ (z : Place). z.seat) same) (ap (λ (z : Place). z.first) same)
           (ap (λ (z : Place). z.seen) same) (ap (λ (z : Place). z.last) same) (inl reply) commit session led
-      by (Ok command) (inr (inr (reply, same))) =
+      by (Ok command) (inr (inr (inr x))) = bounced p t command x.0 a answers added x.1 x.2 commit session led
+      by (Ok command) (inr (inr (inl (reply, same)))) =
           unasked p t (Ok command) a answers added (ap (λ (z : Place). z.seat) same) (ap (λ (z : Place). z.first) same)
           (ap (λ (z : Place). z.seen) same) (ap (λ (z : Place). z.last) same) (inr reply) commit session led
 

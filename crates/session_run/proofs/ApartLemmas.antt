@@ -36,9 +36,10 @@ use Rattle.editor_core.proofs.Bounding.{bounded}
 use Rattle.studio_seats.specs.declared.deed.Deed.{Deed}
 use Rattle.studio_seats.specs.Deeds.{entries_of, entry_of}
 use Rattle.studio_seats.specs.Merge.{Rises, by_seat}
-use Rattle.studio_seats.specs.Onward.{Asks, IsLine}
+use Rattle.studio_seats.specs.Onward.{Asks}
 use Rattle.studio_seats.specs.Stands.{AllTell, Chain}
 use Rattle.studio_seats.proofs.OnwardLemmas.{each_append}
+use Rattle.script_session.specs.Calls.{IsOfScript}
 use Rattle.script_session.specs.Session.{is_refusal}
 use Rattle.desk_session.specs.declared.opening.Opened.{Opened}
 use Rattle.desk_session.specs.declared.side.Side.{Side}
@@ -124,6 +125,7 @@ IsTagged (call.Piece track tag samples) = 1 ≤ tag
 IsTagged call.Pin = Unit {0}
 IsTagged (call.PinLen pin) = Unit {0}
 IsTagged (call.ReadPin pin from count) = Unit {0}
+IsTagged (call.LoadPin pin from count) = Unit {0}
 IsTagged (call.Unpin pin) = Unit {0}
 
 module _ {D V : Type 0} (disk : Ghosts D) (vaults : vault.Ghosts V) where
@@ -145,6 +147,8 @@ module _ {D V : Type 0} (disk : Ghosts D) (vaults : vault.Ghosts V) where
       one (studio_of disk old) (studio_of disk new) actor (call.PinLen pin) sound what h
   by_call old new actor (call.ReadPin pin from count) sound what is numbered h =
       one (studio_of disk old) (studio_of disk new) actor (call.ReadPin pin from count) sound what h
+  by_call old new actor (call.LoadPin pin from count) sound what is numbered h =
+      one (studio_of disk old) (studio_of disk new) actor (call.LoadPin pin from count) sound what h
   by_call old new actor (call.Unpin pin) sound what is numbered h =
       one (studio_of disk old) (studio_of disk new) actor (call.Unpin pin) sound what h
 
@@ -181,8 +185,13 @@ pin_tagged spent_ NotAsked own h = subst (λ (l : List Deed). Each (λ d. IsTagg
 pin_tagged spent_ (Made pin) own h = own_tagged spent_ 0 Pin (Ok (reply.Pinned pin)) own tt h
 pin_tagged spent_ (Refused why) own h = own_tagged spent_ 0 Pin (Err why) own tt h
 
-line_tagged : (c : Call) → IsLine c → IsTagged c
-line_tagged c h = subst IsTagged (sym h.1) tt
+-- a line, or a turn of a bounce
+script_tagged : (c : Call) → IsOfScript c → IsTagged c
+script_tagged c (inl line) = subst IsTagged (sym line.1) tt
+script_tagged c (inr (inl pin)) = subst IsTagged (sym pin) tt
+script_tagged c (inr (inr (number, inl (inl len)))) = subst IsTagged (sym len) tt
+script_tagged c (inr (inr (number, inl (inr load)))) = subst IsTagged (sym load.2) tt
+script_tagged c (inr (inr (number, inr release))) = subst IsTagged (sym release) tt
 
 record_tagged : (n track : ℕ) (recording : Side) (c : Call) → Rises n (record_commits recording)
     → record_calls track recording c → IsTagged c
@@ -198,13 +207,13 @@ play_tagged (Made number) c (inl read) = subst IsTagged (sym read.2) tt
 play_tagged (Made number) c (inr release) = subst IsTagged (sym release) tt
 
 rest_tagged : (seats : Seats) (n track : ℕ) (opened : Opened) (ds : List Deed) → seats.script ≡ 0
-    → Rises n (record_commits opened.recording) → Each (λ d. is_by seats d ≡ true) ds → Asks IsLine 0 ds
+    → Rises n (record_commits opened.recording) → Each (λ d. is_by seats d ≡ true) ds → Asks IsOfScript 0 ds
     → Asks (record_calls track opened.recording) seats.recorder ds → Asks (play_calls opened.pin) seats.player ds
     → Each (λ d. IsTagged d.call) ds
 rest_tagged seats n track opened [] first rises all lines pieces_ reads = tt
 rest_tagged seats n track opened (d ∷ ds) first rises all lines pieces_ reads = (
   ⊎_elim
-      (λ script. line_tagged d.call (lines.0 (sym (eqb-true seats.script d.actor script) ∙ first)))
+      (λ script. script_tagged d.call (lines.0 (sym (eqb-true seats.script d.actor script) ∙ first)))
       (λ other. ⊎_elim
       (λ recorder.
       record_tagged n track opened.recording d.call rises

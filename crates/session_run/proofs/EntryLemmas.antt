@@ -41,9 +41,11 @@ plain_reply (reply.Columns columns) is = refl
 plain_reply (reply.Tracks tracks) is = refl
 plain_reply (reply.Freed count) is = refl
 plain_reply (reply.Packed bytes) is = refl
+plain_reply (reply.Purged n) is = refl
 plain_reply (reply.Wrote bytes) is = refl
 plain_reply (reply.Pinned pin) is = refl
 plain_reply (reply.Length frames) is = refl
+plain_reply (reply.Loaded tracks) is = refl
 plain_reply (reply.Refused why) is = cc
 
 -- what was carried out is no refusal

@@ -4,7 +4,9 @@ pub mod StreamLemmas
 pub mod SurviveLemmas
 pub mod FourLemmas
 pub mod EntryLemmas
+pub mod BounceEntries
 pub mod AnsweredLemmas
+pub mod SoundLemmas
 pub mod PrintedLemmas
 pub mod SideEntries
 pub mod SpentLemmas

@@ -1,5 +1,5 @@
 -- What one call needs of the blocks and of the journal, by what it answers.
-use Rattle.std.proofs.Common.{◌≡◌, inl, inr, refl, sym, ap, ℕ, ◌+◌, ◌≤◌, Bool, true, false}
+use Rattle.std.proofs.Common.{◌≡◌, inl, inr, refl, sym, ap, subst, ℕ, ◌+◌, ◌≤◌, Bool, true, false}
 use Rattle.std.proofs.Common.{if◌then◌else◌, Result, Ok, Err, arith}
 use Rattle.std.specs.Prelude.{IfErr}
 use Rattle.std.proofs.lemmas.Bool.{true≢false}
@@ -13,7 +13,7 @@ use Rattle.pcm_base.specs.Counters.{Needs, NeedsBy}
 use Rattle.pcm_base.specs.Outside.{Outside}
 use Rattle.pcm_base.specs.Run.{Answers, Breaks, BreaksOff, CarriesOut, Refuses, outside}
 use Rattle.pcm_base.specs.Shape.{Shape, NewTrack, DropTrack, SetTrack, PutIn, EditRange, CutRun, CopyRun, PasteRun}
-use Rattle.pcm_base.specs.Shape.{MoveTo, Purge, Look, Reclaim, Compact, Import, Export, shape_of}
+use Rattle.pcm_base.specs.Shape.{MoveTo, Purge, PurgeTo, Look, Reclaim, Compact, Import, Export, Bounce, shape_of}
 use Rattle.pcm_base.specs.Studio.{Studio}
 use Rattle.editor_core.specs.Exchanges.{begun_in_vain, is_broken_off, is_cut_off, may_begin, may_have_begun}
 use Rattle.editor_core.specs.Exchanges.{reads_sound}
@@ -36,11 +36,13 @@ line_mixed out t c (CopyRun id n from to) blocks len few short a b = (a.0, b.1)
 line_mixed out t c (PasteRun id at placing) blocks len few short a b = (a.0, b.1)
 line_mixed out t c (MoveTo move) blocks len few short a b = (a.0, b.1)
 line_mixed out t c (Purge n) blocks len few short a b = (a.0, b.1)
+line_mixed out t c (PurgeTo bytes) blocks len few short a b = (a.0, b.1)
 line_mixed out t c (Look view) blocks len few short a b = (a.0, b.1)
 line_mixed out t c (Reclaim limit) blocks len few short a b = (a.0, b.1)
 line_mixed out t c Compact blocks len few short a b = (a.0, b.1)
 line_mixed out t c (Import name) blocks len few short a b = (a.0, b.1)
 line_mixed out t c (Export name) blocks len few short a b = (a.0, b.1)
+line_mixed out t c (Bounce name) blocks len few short a b = (a.0, b.1)
 
 pub mixed : (out : Outside) (t : Studio) (c : Call) (blocks len few short : ℕ) → Needs out t c blocks len
     → Needs out t c few short → Needs out t c blocks short
@@ -50,6 +52,7 @@ mixed out t (call.Piece track tag samples) blocks len few short a b = (a.0, b.1,
 mixed out t call.Pin blocks len few short a b = (a.0, b.1)
 mixed out t (call.PinLen pin) blocks len few short a b = (a.0, b.1)
 mixed out t (call.ReadPin pin from count) blocks len few short a b = (a.0, b.1)
+mixed out t (call.LoadPin pin from count) blocks len few short a b = (a.0, b.1)
 mixed out t (call.Unpin pin) blocks len few short a b = (a.0, b.1)
 
 -- ---- a call that may have asked the disk
@@ -101,7 +104,11 @@ module _ (t u : Studio) (c : Call) (sound : SoundMove) where
   pub began : (what : Result Reply Refusal) → has_begun what ≡ true → Answers t c sound what u → Began t u c sound
   began (Ok r) is h = carried r h
   began (Err why) is (inl h) = refused why h
-  began (Err why) is (inr h) = broken why is h
+  began (Err why) is (inr (inl left)) =
+      let no : has_begun (Err refusal.BadRange) ≡ true =
+      subst (λ (w : Refusal). has_begun (Err w) ≡ true) left.reason is in
+      absurd (true≢false (sym no))
+  began (Err why) is (inr (inr h)) = broken why is h
 
   -- ---- one that asked nothing
 
@@ -115,7 +122,8 @@ module _ (t u : Studio) (c : Call) (sound : SoundMove) where
   pub idle : (what : Result Reply Refusal) → has_begun what ≡ false → Answers t c sound what u → u ≡ t
   idle (Ok r) is h = absurd (true≢false is)
   idle (Err why) is (inl h) = h.same
-  idle (Err why) is (inr h) = unbroken why is h
+  idle (Err why) is (inr (inl left)) = left.same
+  idle (Err why) is (inr (inr h)) = unbroken why is h
 
 -- ---- what no device broke off
 

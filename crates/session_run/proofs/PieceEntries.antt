@@ -49,6 +49,7 @@ call_samples (call.Piece track tag samples) = pieces_of samples
 call_samples call.Pin = []
 call_samples (call.PinLen pin) = []
 call_samples (call.ReadPin pin from count) = []
+call_samples (call.LoadPin pin from count) = []
 call_samples (call.Unpin pin) = []
 
 -- those of the deeds that were carried out

@@ -4,7 +4,8 @@ use Rattle.std.proofs.Common.{Some, true}
 use Rattle.std.specs.Prelude.{IfErr}
 use Rattle.pcm_base.specs.declared.limits.TheConstants.{COUNTER_LIMIT}
 use Rattle.pcm_base.specs.declared.entry.Entry.{Entry}
-use Rattle.pcm_base.specs.Run.{Follows, Run, result_of}
+use Rattle.pcm_base.specs.Outside.{Sounds}
+use Rattle.pcm_base.specs.Run.{Run, result_of}
 use Rattle.disk_model.specs.Disk.{Files}
 use Rattle.disk_model.specs.declared.store.Store.{Ghosts}
 use Rattle.pin_turn.specs.Counts.{Each}
@@ -37,6 +38,7 @@ use Rattle.session_run.specs.Ports.{Job, lent_of}
 use Rattle.session_run.specs.Promise.{Ended, Met, Promise}
 use Rattle.session_run.specs.Runs.{RunsOn}
 use Rattle.session_run.specs.Sides.{PlaysSide, RecordsSide}
+use Rattle.session_run.specs.VaultSounds.{SoundsFollow}
 use Rattle.session_run.specs.Streams.{input, output}
 use Rattle.session_run.proofs.AnsweredLemmas.{answered}
 use Rattle.session_run.proofs.ApartLemmas.{all_tagged, deeds_apart}
@@ -47,6 +49,7 @@ use Rattle.session_run.proofs.PrintedLemmas.{answered_all, broke, printed}
 use Rattle.session_run.proofs.PromiseLemmas.{each_maker, each_own, each_reply, plain_deeds, stopped_for}
 use Rattle.session_run.proofs.SeatEntries.{plays_side, records_side}
 use Rattle.session_run.proofs.SessionLemmas.{found_spent, quiet, recorded}
+use Rattle.session_run.proofs.SoundLemmas.{SoundsTo, sounds_to}
 use Rattle.session_run.proofs.SideEntries.{pin_actor, pin_side, track_actor, track_side}
 use Rattle.session_run.proofs.SurviveLemmas.{Survives, opened_keeps, survives}
 
@@ -184,7 +187,7 @@ module _ {D V M P : Type 0} (k : Kinds D V M P) (ask : DeedsAsk k.disk k.vaults)
       (entries_of rest)
   lines = subst (λ (m : ℕ). Answered m m s.scripted.lines s.scripted.answers (entries_of rest)) (sym opened_number)
       (answered s.scripted.lines s.scripted.answers
-      (place_behind n s.made.opening s.scripted.used_up (k.vaults.tells j.ports.vault.before)
+      (place_behind n start.rate s.made.opening s.scripted.used_up (k.vaults.tells j.ports.vault.before)
       (k.vaults.holds j.ports.vault.before) (k.vaults.fault_count j.ports.vault.before))
       s.scripted.last s.scripted.later rest s.scripted.session (record {
         script = refl;
@@ -192,6 +195,26 @@ module _ {D V M P : Type 0} (k : Kinds D V M P) (ask : DeedsAsk k.disk k.vaults)
         by_others = s.scripted.by_others;
         plain = plain_rest;
       }))
+
+  -- the sounds, from line to line
+  sounds_are : SoundsTo (entries_of rest) (λ parts. SoundsFollow (studio_of disk start) (entries_of s.made.opening)
+      s.scripted.lines s.scripted.answers parts (k.vaults.holds j.ports.vault.before) s.scripted.last.sounds)
+  sounds_are = sounds_to disk k.vaults start final s.deeds s.stands told held s.scripted.lines s.scripted.last
+      s.scripted.answers
+      (place_behind n start.rate s.made.opening s.scripted.used_up (k.vaults.tells j.ports.vault.before)
+      (k.vaults.holds j.ports.vault.before) (k.vaults.fault_count j.ports.vault.before))
+      rest s.scripted.session refl refl (told j.ports.vault.before) s.made.split s.scripted.later
+      (sym (s.made.split ∙ s.scripted.seen)) s.scripted.by_others
+
+  opening_is : entries_of s.made.opening ≡ opening_entries
+  opening_is = ap entries_of s.made.opening_is ∙ entries_append track pin
+
+  sounds_follow : SoundsFollow (studio_of disk start) opening_entries s.scripted.lines s.scripted.answers
+      sounds_are.parts (k.vaults.holds j.ports.vault.before) (k.vaults.holds j.ports.vault.now)
+  sounds_follow = subst (λ (es : List Entry). SoundsFollow (studio_of disk start) es s.scripted.lines
+      s.scripted.answers sounds_are.parts (k.vaults.holds j.ports.vault.before) (k.vaults.holds j.ports.vault.now)) opening_is
+      (subst (λ (z : Sounds). SoundsFollow (studio_of disk start) (entries_of s.made.opening) s.scripted.lines
+      s.scripted.answers sounds_are.parts (k.vaults.holds j.ports.vault.before) z) s.scripted.ends.0 sounds_are.follows)
 
   had_rest : Each HadTurn rest
   had_rest = Each-right HadTurn (track ++ pin) rest had_all
@@ -244,8 +267,11 @@ module _ {D V M P : Type 0} (k : Kinds D V M P) (ask : DeedsAsk k.disk k.vaults)
     read = s.scripted.bytes;
     carried = s.scripted.cut;
     lines = lines;
-    sounds = subst (λ (l : List Entry). Follows (k.vaults.holds j.ports.vault.before) l
-        (k.vaults.holds j.ports.vault.now)) (sym (entries_as 0 rest)) (s.scripted.sounds (told j.ports.vault.before));
+    parts = sounds_are.parts;
+    later = sounds_are.later;
+    parted = sounds_are.parted;
+    later_is = sounds_are.later_is;
+    sounds = sounds_follow;
     track_is = track_side s.spent n ran.out.opened.recording track pin s.made.track_is
         (ap (numbers_of any_seat n) (sym s.made.opening_is) ∙ s.opening_numbers)
         (Each-left IsPlain track pin plain_opening);

@@ -5,8 +5,8 @@ use Rattle.disk_model.specs.Disk.{Files}
 use Rattle.disk_model.specs.declared.store.Store.{Ghosts}
 use Rattle.edit_ports.specs.declared.vault.Vault as vault
 use Rattle.project_journal.specs.Gate.{EachNow, EachSince}
-use Rattle.project_state.specs.Kept as kept
-use Rattle.project_state.specs.Kept.{Keeps}
+use Rattle.record_body.specs.Kept as kept
+use Rattle.record_body.specs.Kept.{Keeps}
 use Rattle.editor_core.specs.Core.{Core}
 use Rattle.editor_core.specs.Events.{KeepsPrefix}
 use Rattle.editor_core.specs.Studios.{IsHeld, shown, studio_of}

@@ -45,6 +45,7 @@ call_apart (call.Piece track tag samples) e =
 call_apart call.Pin e = e ∷ []
 call_apart (call.PinLen pin) e = e ∷ []
 call_apart (call.ReadPin pin from count) e = e ∷ []
+call_apart (call.LoadPin pin from count) e = e ∷ []
 call_apart (call.Unpin pin) e = e ∷ []
 
 -- entries, their pieces taken apart

@@ -8,7 +8,7 @@ use Rattle.disk_model.specs.Frames.{Changed}
 use Rattle.disk_model.specs.declared.store.Store.{Ghosts}
 use Rattle.project_journal.specs.Gate.{EachNow, EachSince, IsDurable}
 use Rattle.project_journal.specs.Rooms.{create_room}
-use Rattle.project_state.specs.Kept.{Keeps}
+use Rattle.record_body.specs.Kept.{Keeps}
 use Rattle.call_words.specs.declared.asked.NewProject.{NewProject}
 use Rattle.editor_core.specs.Core.{Core}
 use Rattle.editor_core.specs.Studios.{IsHeld, studio_of}

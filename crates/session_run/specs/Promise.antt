@@ -21,13 +21,13 @@ use Rattle.pcm_base.specs.declared.command.Command.TheVariants.{Track}
 use Rattle.pcm_base.specs.declared.entry.Entry.{Entry}
 use Rattle.pcm_base.specs.Causes.{Rose}
 use Rattle.pcm_base.specs.Outside.{Sounds}
-use Rattle.pcm_base.specs.Run.{Follows, Run, result_of}
+use Rattle.pcm_base.specs.Run.{Run, result_of}
 use Rattle.pcm_base.specs.Studio.{Studio, fault_sum}
 use Rattle.disk_model.specs.declared.store.Store.{Ghosts}
 use Rattle.edit_ports.specs.Told.{preceded}
 use Rattle.pin_turn.specs.Counts.{Each}
 use Rattle.project_journal.specs.Gate.{EachNow, EachSince}
-use Rattle.project_state.specs.Kept.{Keeps}
+use Rattle.record_body.specs.Kept.{Keeps}
 use Rattle.script_text.specs.declared.last.PlayEnd.TheVariants as play
 use Rattle.script_text.specs.declared.last.PlayLine.{PlayLine}
 use Rattle.script_text.specs.declared.last.RecordEnd.TheVariants as rec
@@ -54,6 +54,7 @@ use Rattle.desk_session.specs.Sides.{is_asked, side_number}
 use Rattle.session_run.specs.Answered.{Answered}
 use Rattle.session_run.specs.Entries.{entries_by, is_by, last_number, numbers_by, pieces_apart}
 use Rattle.session_run.specs.Opening.{OpensTo}
+use Rattle.session_run.specs.VaultSounds.{SoundsFollow}
 use Rattle.session_run.specs.Sides.{MakesSide, PlaysSide, RecordsSide}
 use Rattle.session_run.specs.Streams.{Input, Output, PrintsFrom, PrintsThen}
 
@@ -157,7 +158,13 @@ pub record Promise {D : Type 0} (disk : Ghosts D) (m : Met D) : Type 0 where
   pub carried : IsCut end.stop end.read end.lines m.script.left.now
   pub lines : Answered (last_number start.state.commit (track ++ pin))
       (last_number start.state.commit (track ++ pin)) end.lines answers entries
-  pub sounds : Follows m.sounds.before (entries_by 0 entries) m.sounds.now
+  -- The sounds follow the lines, each by its part of the entries, and those after the parts are by others. A line
+  -- `bounce` stands in the run where its pin does, and leaves the mix of the project that was current there.
+  pub parts : List (List Entry)
+  pub later : List Entry
+  pub parted : entries ≡ flat_map (λ (es : List Entry). es) parts ++ later
+  pub later_is : entries_by 0 later ≡ []
+  pub sounds : SoundsFollow start (track ++ pin) end.lines answers parts m.sounds.before m.sounds.now
   -- And the recorded PIECES, after a track of their own: the first chunks of what was read of the microphone, up to its
   -- end, its fault or its limit, all of them unless one was refused. Each is one commit; an entry has one piece, or
   -- several that follow one another. The tag is the commit number of that track; all pieces bear it, so they are one

@@ -6,8 +6,9 @@ ghost use Rattle.session_run.specs.Streams.{Streams, from_sink};
 
 use super::ending::Done;
 use super::refusing::refuse;
-use disk_model::{RamStore, Store};
+use disk_model::Store;
 use edit_ports::Sink;
+use memory_disk::RamStore;
 use memory_project::run_generated;
 use script_text::{CallFault, write_summary};
 use std::alloc::Global;

@@ -4,8 +4,9 @@ ghost use Rattle.editor_recovery.specs.Honest.{IsHonest};
 ghost use Rattle.studio_seats.specs.Stands.{AllTell};
 
 use super::trying::tried_project;
-use disk_model::{RamStore, Store};
+use disk_model::Store;
 use edit_ports::{MemVault, Vault};
+use memory_disk::RamStore;
 use memory_project::fresh_studio;
 use pcm_base::NoMemory;
 use std::alloc::Global;

@@ -5,7 +5,7 @@ ghost use Rattle.disk_model.specs.Frames.{Kept};
 ghost use Rattle.pcm_base.specs.Mix.{mix_of};
 ghost use Rattle.pcm_base.specs.Wave.{wav_text};
 ghost use Rattle.pcm_base.specs.Outside.{SameElsewhere};
-ghost use Rattle.project_state.specs.Kept.{meant, point_blocks};
+ghost use Rattle.project_state.specs.Meaning.{meant, point_blocks};
 ghost use Rattle.sample_block.specs.Sources.{sources_of, AllNamed, AllWhole};
 ghost use Rattle.wav_pcm.specs.Written.{MayBegin};
 ghost use Rattle.block_cache.specs.Caches.{IsCacheOf, KeepsCache};

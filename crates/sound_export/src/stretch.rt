@@ -7,7 +7,7 @@ ghost use Rattle.pcm_base.specs.Pieces.{Sources};
 ghost use Rattle.pcm_base.specs.Mix.{mix_length};
 ghost use Rattle.pcm_base.specs.Outside.{SameElsewhere};
 ghost use Rattle.edit_ports.specs.Sounds.{sound_bytes, MayHaveGrown};
-ghost use Rattle.project_state.specs.Kept.{meant, point_blocks};
+ghost use Rattle.project_state.specs.Meaning.{meant, point_blocks};
 ghost use Rattle.sample_block.specs.Sources.{AllNamed};
 ghost use Rattle.block_cache.specs.Caches.{IsCacheOf, KeepsCache};
 ghost use Rattle.mix_view.specs.Readers.{IsReader};

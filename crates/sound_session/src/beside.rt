@@ -19,7 +19,7 @@ use std::sync::Wait;
 use std::thread::Threads;
 
 // Answers the lines of a script.
-fn run_script<R: Wait, E: Editor, A: Source, O: Sink, G: Gate>(
+fn run_script<R: Threads + Wait + Sync, E: Editor, A: Source, O: Sink, G: Gate>(
     rt: &R,
     alloc: Global,
     session: &mut Session<E>,
@@ -64,7 +64,7 @@ impl<'a, 'b, 'c, E: Editor, A: Source, O: Sink> Task for Lines<'a, 'b, 'c, E, A,
         × IsReadTo A.Source r.0 (change t.script.now r.2.now)
         × ((first : _) → E.follows first t.session.now.editor → E.follows first r.1.now.editor) };
 
-    fn run<R: Wait, G: Gate>(
+    fn run<R: Threads + Wait + Sync, G: Gate>(
         self,
         rt: &R,
         alloc: Global,

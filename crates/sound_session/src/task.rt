@@ -1,4 +1,5 @@
 // What one thread does beside the sounds.
+ghost use Rattle.std.specs.Thread.{IsSync};
 ghost use Rattle.sound_run.specs.Recorded.{Records};
 ghost use Rattle.sound_run.specs.Played.{Plays};
 ghost use Rattle.sound_session.specs.IfGiven.{IfGiven};
@@ -22,8 +23,9 @@ pub trait Task {
 
     ghost run_gives: { Self → Self.Output → Type 0 };
 
-    fn run<R: Wait, G: Gate>(self, rt: &R, alloc: Global, gate: &G) -> Self::Output
-        requires { can_run self }
+    fn run<R: Threads + Wait + Sync, G: Gate>(self, rt: &R, alloc: Global, gate: &G) -> Self::Output
+        requires ready { can_run self }
+        requires sync { IsSync R.row }
         ensures { run_gives self result };
 }
 
@@ -55,7 +57,7 @@ pub fn run_task<
     thread::join(
         rt,
         move || -> B
-            requires { S.can_run task }
+            requires { S.can_run task × IsSync R.row }
             ensures { S.run_gives task result }
         { task.run(rt, alloc, gate) },
         move || -> (Result<Recorded<M, T>, I>, Result<Played<V, P>, J>)

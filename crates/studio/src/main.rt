@@ -2,45 +2,16 @@
 //! standard input is the script, standard output takes the answers, and the exit status is that of `studio_call`.
 //!
 //! All that it does is done by `studio_call` of `session_run`, whose contract speaks of any store, vault, sources and
-//! sinks. Here are only the adapters over the real streams, which tell nothing of their content; those over the real
-//! folder are in `project_folder`.
+//! sinks. `studio_devices` has those over the real streams and the real folder, which tell nothing of their content.
 #![tactic(auto)]
 
-mod streams;
-
 use edit_ports::{OpenGate, Sink, write_all};
-use project_folder::{FileSink, FileSource, FolderStore, FolderVault, SideBySide};
 use session_run::studio_call;
 use std::alloc::{AllocError, Global};
-use std::fs::File;
 use std::io::ErrorKind;
 use std::process::ExitCode;
-use std::rt::Files;
-use std::thread::Threads;
 use std::{env, fs};
-use streams::{StreamSink, StreamSource};
-
-/// The devices of a folder.
-struct Devices<R: Files> {
-    store: FolderStore<R, SideBySide<R>>,
-    vault: FolderVault<R>,
-    mic: FileSource<R>,
-    speaker: FileSink<R>,
-}
-
-// Nothing of the folder is touched before the first call on a device.
-fn devices_of<R: Files<File = File> + Threads + Clone + Drop>(
-    rt: &R,
-    alloc: Global,
-    folder: &str,
-) -> Result<Devices<R>, AllocError> {
-    Ok(Devices {
-        store: FolderStore::side_by_side(rt.clone()?, rt.clone()?, alloc, folder)?,
-        vault: FolderVault::new(rt.clone()?, alloc, folder)?,
-        mic: FileSource::new(rt.clone()?, alloc, folder, "mic.raw")?,
-        speaker: FileSink::new(rt.clone()?, alloc, folder, "speaker.raw")?,
-    })
-}
+use studio_devices::{Devices, StreamSink, StreamSource, devices_of};
 
 // The first word after the program's name, which is taken out.
 fn take_folder(alloc: Global, words: &mut Vec<String>) -> Result<String, AllocError> {

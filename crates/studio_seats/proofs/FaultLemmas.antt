@@ -1,5 +1,5 @@
 -- Counts of faults along a run.
-use Rattle.std.proofs.Common.{◌≡◌, ◌⊎◌, inl, inr, ap, ◌∙◌, subst, ℕ, ◌≤◌}
+use Rattle.std.proofs.Common.{◌≡◌, ◌⊎◌, inl, inr, sym, ap, ◌∙◌, subst, ℕ, ◌≤◌}
 use Rattle.std.proofs.Common.{IsTrue, None, List, [], ◌∷◌}
 use Rattle.std.proofs.Common.{Result, Ok, Err, arith}
 use Rattle.std.specs.Prelude.{IfErr}
@@ -86,7 +86,9 @@ went t u c sound (Ok r) h =
 went t u c sound (Err why) (inl h) = same t u c (Err why) h.same
     (λ going. served_test t.stopped c why going
     (subst (Tells t.stopped) h.first (tested (outside t sound) t c h.blocks h.len)))
-went t u c sound (Err why) (inr h) = broken t u c sound why h
+went t u c sound (Err why) (inr (inl left)) = same t u c (Err why) left.same
+    (λ going. subst (IsServed c) (sym left.reason) tt)
+went t u c sound (Err why) (inr (inr h)) = broken t u c sound why h
 
 -- ---- a run
 

@@ -57,7 +57,7 @@ frames_made rate s pin (e ∷ es) h =
     (pin_frames rate (after_entry rate s e) es pin) (frames_made rate (after_entry rate s e) pin es) h
 
 -- the last entry made the pin
-made_last : (pin : ℕ) (es : List Entry) (e : Entry) → makes_pin e.call e.reply pin ≡ true
+pub made_last : (pin : ℕ) (es : List Entry) (e : Entry) → makes_pin e.call e.reply pin ≡ true
     → IsTrue (is_made pin (es ++ e ∷ []))
 made_last pin [] e makes = subst (λ (b : Bool). IsTrue (if b then true else false)) (sym makes) refl
 made_last pin (x ∷ xs) e makes =

@@ -17,5 +17,7 @@ pub mod FaultLemmas
 pub mod OnwardLemmas
 pub mod WorkLemmas
 pub mod ReadLemmas
+pub mod CallLemmas
+pub mod LoadLemmas
 pub mod FreeingLemmas
 pub mod RecordingLemmas

@@ -147,6 +147,7 @@ piece_number to by (call.Piece track tag samples) n h =
 piece_number to by call.Pin n h = let e : false ≡ true = h in absurd (cc)
 piece_number to by (call.PinLen pin) n h = let e : false ≡ true = h in absurd (cc)
 piece_number to by (call.ReadPin pin from count) n h = let e : false ≡ true = h in absurd (cc)
+piece_number to by (call.LoadPin pin from count) n h = let e : false ≡ true = h in absurd (cc)
 piece_number to by (call.Unpin pin) n h = let e : false ≡ true = h in absurd (cc)
 
 -- of a deed that made commits they are those of its call, and of another there are none

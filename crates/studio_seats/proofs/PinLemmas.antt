@@ -13,13 +13,15 @@ use Rattle.pcm_base.specs.declared.refusal.Refusal.{Refusal}
 use Rattle.pcm_base.specs.declared.sound.Frame.{Frame}
 use Rattle.pcm_base.specs.Arithmetic.{counted_from}
 use Rattle.pcm_base.specs.Cells.{Project}
-use Rattle.pcm_base.specs.Mix.{frame_at, mix_length, mix_of}
+use Rattle.pcm_base.specs.declared.lists.LoadedTrack.{LoadedTrack}
+use Rattle.pcm_base.specs.Mix.{frame_at, loaded_of, mix_length, mix_of}
 use Rattle.pcm_base.specs.Run.{Answers, Run, Step, result_of}
 use Rattle.pcm_base.specs.State.{State, current}
 use Rattle.pcm_base.specs.Studio as model
 use Rattle.studio_seats.specs.PinLaws.{PinsStay}
 use Rattle.studio_seats.specs.Pins.{IsKept, ShowsPin, after_entry, after_what, makes_pin, pin_frames}
-use Rattle.studio_seats.proofs.PinSteps.{Leads, either_bool, leads_of, made, next_grows, stays, stays_or_goes}
+use Rattle.studio_seats.proofs.PinSteps.{Leads, either_bool, leads_of, made, made_number, next_grows, stays}
+use Rattle.studio_seats.proofs.PinSteps.{stays_or_goes}
 
 -- ---- a run
 
@@ -123,6 +125,42 @@ module _ (p : ℕ) where
       run_holds run.0 u es frames run.2 (frames_later t run.0 e es frames other (leads t run.0 e run.1) is) kept.1)
       (either_bool (makes_pin e.call e.reply p))
 
+  -- a number that was given out before is none that is given out later
+  low_run : (t u : model.Studio) (es : List Entry) → Run t es u → p < t.state.next_pin → p < u.state.next_pin
+  low_run t u [] run low = let same = ap (λ (z : model.Studio). z.state.next_pin) run in omega (arith, low, same)
+  low_run t u (e ∷ es) run low =
+      low_run run.0 u es run.2 (low_on t run.0 e.call (result_of e.reply) e.sound (leads t run.0 e run.1) low)
+
+  -- a pin that an entry made shows what was current there
+  pub frames_at : (t u w : model.Studio) (es more : List Entry) (e : Entry) → Run t es u
+      → Step u e.call e.sound e.reply w → makes_pin e.call e.reply p ≡ true
+      → pin_frames t.rate t.state (es ++ e ∷ more) p ≡ Some (mix_of (current u.state))
+  frames_at t u w [] more e run step makes =
+      ap (λ (z : Bool). if z then Some (mix_of (current t.state)) else pin_frames t.rate
+      (after_entry t.rate t.state e) more p) makes
+      ∙ ap (λ (s : model.Studio). Some (mix_of (current s.state))) (sym run)
+  frames_at t u w (x ∷ xs) more e run step makes = ⊎_elim
+      (λ (first : makes_pin x.call x.reply p ≡ true).
+      let there = made t run.0 x.call x.reply x.sound p first (leads t run.0 x run.1) in
+      let low : p < u.state.next_pin = low_run run.0 u xs run.2 there.1 in
+      let next : p ≡ u.state.next_pin = made_number u w e.call e.reply e.sound p makes (leads u w e step) in
+      absurd (omega (arith, low, next)))
+      (λ (other : makes_pin x.call x.reply p ≡ false).
+      let on = leads t run.0 x run.1 in
+      let same : pin_frames run.0.rate run.0.state (xs ++ e ∷ more) p
+      ≡ pin_frames t.rate (after_entry t.rate t.state x) (xs ++ e ∷ more) p =
+      λ i. pin_frames (on.rate i) (on.state i) (xs ++ e ∷ more) p in
+      ap (λ (z : Bool). if z then Some (mix_of (current t.state)) else pin_frames t.rate
+      (after_entry t.rate t.state x) (xs ++ e ∷ more) p) other
+      ∙ sym same ∙ frames_at run.0 u w xs more e run.2 step makes)
+      (either_bool (makes_pin x.call x.reply p))
+
+-- a run keeps the rate
+pub run_rate : (t u : model.Studio) (es : List Entry) → Run t es u → u.rate ≡ t.rate
+run_rate t u [] run = ap (λ (z : model.Studio). z.rate) run
+run_rate t u (e ∷ es) run =
+    run_rate run.0 u es run.2 ∙ (leads_of t run.0 e.call e.sound (result_of e.reply) run.1).rate
+
 frames_if : (b : Bool) (a x y : Option (List Frame)) (frames : List Frame) → (x ≡ Some frames → y ≡ Some frames)
     → (if b then a else x) ≡ Some frames → (if b then a else y) ≡ Some frames
 frames_if true a x y frames f h = h
@@ -146,9 +184,11 @@ frames_in (reply.Columns columns) = []
 frames_in (reply.Tracks tracks) = []
 frames_in (reply.Freed count) = []
 frames_in (reply.Packed bytes) = []
+frames_in (reply.Purged n) = []
 frames_in (reply.Wrote bytes) = []
 frames_in (reply.Pinned number) = []
 frames_in (reply.Length frames) = []
+frames_in (reply.Loaded tracks) = []
 frames_in (reply.Refused why) = []
 
 abbrev project_or : Option Project → Project
@@ -173,6 +213,19 @@ read_frames t u p from count sound got frames h shows =
     ap frames_in told.2
     ∙ ap (λ (z : List Frame). take count (drop from z)) (sym (pin_project t.state p told.0 frames told.1 shows))
 
+abbrev tracks_in : Reply → List LoadedTrack
+tracks_in (reply.Loaded tracks) = tracks
+tracks_in r = []
+
+-- and tracks that were loaded are those of a project with this mix
+pub load_tracks : (t u : model.Studio) (p from count : ℕ) (sound : SoundMove) (tracks : List LoadedTrack)
+    (frames : List Frame) → Answers t (call.LoadPin p from count) sound (Ok (reply.Loaded tracks)) u
+    → ShowsPin t.state p frames ⊎ (t.state.pins p ≡ None)
+    → (project : Project) × (frames ≡ mix_of project) × (tracks ≡ loaded_of from count project)
+load_tracks t u p from count sound tracks frames h shows =
+    let told = h.answers in
+    (told.0, pin_project t.state p told.0 frames told.1 shows, ap tracks_in told.2)
+
 -- ---- the law
 
 counted_length : (from n : ℕ) → length (counted_from from n) ≡ n
@@ -181,6 +234,19 @@ counted_length from (suc n) = omega (arith, counted_length (from + 1) n)
 
 frames_count : (p : Project) → mix_length p ≡ length (mix_of p)
 frames_count p = sym (length-map (counted_from 0 (mix_length p)) (frame_at p) ∙ counted_length 0 (mix_length p))
+
+abbrev length_in : Reply → ℕ
+length_in (reply.Length n) = n
+length_in r = 0
+
+-- a length that was answered is that of its frames
+pub pin_length : (t u : model.Studio) (p n : ℕ) (sound : SoundMove) (frames : List Frame)
+    → Answers t (call.PinLen p) sound (Ok (reply.Length n)) u
+    → ShowsPin t.state p frames ⊎ (t.state.pins p ≡ None) → n ≡ length frames
+pin_length t u p n sound frames h shows =
+    let told = h.answers in
+    ap length_in told.2 ∙ frames_count told.0
+    ∙ ap length (sym (pin_project t.state p told.0 frames told.1 shows))
 
 pub pins_stay : PinsStay
 pins_stay t u es pin frames run is kept =
@@ -194,4 +260,7 @@ pins_stay t u es pin frames run is kept =
           let told = h.answers in
           let same = pin_project u.state pin told.0 frames told.1 (inl shows) in
           told.2 ∙ ap (λ (z : List Frame). reply.Frames (take count (drop from z))) (sym same);
+      loads = λ from count sound r after h.
+          let told = h.answers in
+          (told.0, pin_project u.state pin told.0 frames told.1 (inl shows), told.2);
     }

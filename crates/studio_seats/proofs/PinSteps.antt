@@ -9,11 +9,11 @@ use Rattle.pcm_base.specs.declared.command.Call.{Call}
 use Rattle.pcm_base.specs.declared.command.Call.TheVariants as call
 use Rattle.pcm_base.specs.declared.entry.SoundMove.{SoundMove}
 use Rattle.pcm_base.specs.declared.refusal.Refusal.{Refusal}
-use Rattle.pcm_base.specs.Run.{Answers, outside, result_of}
+use Rattle.pcm_base.specs.Run.{Answers, followed, outside, result_of}
 use Rattle.pcm_base.specs.State.{State, current}
 use Rattle.pcm_base.specs.Step.{MayAnswer, after}
 use Rattle.pcm_base.specs.Studio as model
-use Rattle.model_laws.proofs.Answered.{carried_is}
+use Rattle.model_laws.proofs.Answered.{answered_told, carried_is}
 use Rattle.studio_seats.specs.Pins.{after_what, drops_pin, makes_pin}
 use Rattle.studio_seats.specs.Pins.{tells_pin}
 use Rattle.studio_seats.proofs.Refused.{refused_same}
@@ -38,6 +38,7 @@ module _ (rate : ℕ) (s : State) (p : ℕ) where
       ap (λ (z : Bool). if z then Some (current s) else s.pins p) (ne_eqb p s.next_pin (λ e. omega arith))
   stays (call.PinLen q) (Ok r) sound low h = refl
   stays (call.ReadPin q from count) (Ok r) sound low h = refl
+  stays (call.LoadPin q from count) (Ok r) sound low h = refl
   stays (call.Unpin q) (Ok r) sound low h =
       ap (λ (z : Bool). if z then None else s.pins p) (ne_eqb p q (λ e. eqb-false q p h (sym e)))
 
@@ -49,6 +50,7 @@ module _ (rate : ℕ) (s : State) (p : ℕ) where
   goes call.Pin what sound h = absurd (true≢false (sym h))
   goes (call.PinLen q) what sound h = absurd (true≢false (sym h))
   goes (call.ReadPin q from count) what sound h = absurd (true≢false (sym h))
+  goes (call.LoadPin q from count) what sound h = absurd (true≢false (sym h))
   goes (call.Unpin q) (Ok r) sound h =
       ap (λ (z : Bool). if z then None else s.pins p) (eq-eqb p q (sym (eqb-true q p h)))
   goes (call.Unpin q) (Err why) sound h = absurd (true≢false (sym h))
@@ -69,6 +71,7 @@ next_grows rate s (call.Piece track tag samples) (Ok r) sound = omega arith
 next_grows rate s call.Pin (Ok r) sound = omega arith
 next_grows rate s (call.PinLen q) (Ok r) sound = omega arith
 next_grows rate s (call.ReadPin q from count) (Ok r) sound = omega arith
+next_grows rate s (call.LoadPin q from count) (Ok r) sound = omega arith
 next_grows rate s (call.Unpin q) (Ok r) sound = omega arith
 
 -- ---- one step
@@ -90,7 +93,8 @@ pub record Leads (t : model.Studio) (c : Call) (what : Result Reply Refusal) (so
 pub leads_of : (t u : model.Studio) (c : Call) (sound : SoundMove) (what : Result Reply Refusal)
     → Answers t c sound what u → Leads t c what sound u
 leads_of t u c sound (Ok r) h = record {
-  state = ap (λ (z : model.Studio). z.state) (carried_is t u c sound r h);
+  state = ap (λ (z : model.Studio). z.state) (carried_is t u c sound r h)
+      ∙ answered_told r (followed (outside t sound) t c h.blocks h.len);
   rate = ap (λ (z : model.Studio). z.rate) (carried_is t u c sound r h);
   tells = λ said same. subst (MayAnswer (outside t sound) t.state c) (ap reply_or same) h.answers;
 }
@@ -107,9 +111,11 @@ number_in (reply.Columns columns) = 0
 number_in (reply.Tracks tracks) = 0
 number_in (reply.Freed count) = 0
 number_in (reply.Packed bytes) = 0
+number_in (reply.Purged n) = 0
 number_in (reply.Wrote bytes) = 0
 number_in (reply.Pinned number) = number
 number_in (reply.Length frames) = 0
+number_in (reply.Loaded tracks) = 0
 number_in (reply.Refused why) = 0
 
 -- a reply that tells of a pin is a pin's number
@@ -122,9 +128,11 @@ told_pin (reply.Columns columns) p h = absurd (true≢false (sym h))
 told_pin (reply.Tracks tracks) p h = absurd (true≢false (sym h))
 told_pin (reply.Freed count) p h = absurd (true≢false (sym h))
 told_pin (reply.Packed bytes) p h = absurd (true≢false (sym h))
+told_pin (reply.Purged n) p h = absurd (true≢false (sym h))
 told_pin (reply.Wrote bytes) p h = absurd (true≢false (sym h))
 told_pin (reply.Pinned q) p h = ap reply.Pinned (eqb-true q p h)
 told_pin (reply.Length frames) p h = absurd (true≢false (sym h))
+told_pin (reply.Loaded tracks) p h = absurd (true≢false (sym h))
 told_pin (reply.Refused why) p h = absurd (true≢false (sym h))
 
 -- a new pin shows the current project
@@ -150,4 +158,18 @@ made t u (call.Piece track tag samples) r sound p h leads = absurd (true≢false
 made t u call.Pin r sound p h leads = made_at t u r sound p (told_pin r p h) leads
 made t u (call.PinLen q) r sound p h leads = absurd (true≢false (sym h))
 made t u (call.ReadPin q from count) r sound p h leads = absurd (true≢false (sym h))
+made t u (call.LoadPin q from count) r sound p h leads = absurd (true≢false (sym h))
 made t u (call.Unpin q) r sound p h leads = absurd (true≢false (sym h))
+
+-- its number is the next one
+pub made_number : (t u : model.Studio) (c : Call) (r : Reply) (sound : SoundMove) (p : ℕ) → makes_pin c r p ≡ true
+    → Leads t c (result_of r) sound u → p ≡ t.state.next_pin
+made_number t u (call.Line c) r sound p h leads = absurd (true≢false (sym h))
+made_number t u (call.Piece track tag samples) r sound p h leads = absurd (true≢false (sym h))
+made_number t u call.Pin r sound p h leads =
+    let ok : result_of r ≡ Ok (reply.Pinned p) = ap result_of (told_pin r p h) in
+    ap number_in (leads.tells (reply.Pinned p) ok)
+made_number t u (call.PinLen q) r sound p h leads = absurd (true≢false (sym h))
+made_number t u (call.ReadPin q from count) r sound p h leads = absurd (true≢false (sym h))
+made_number t u (call.LoadPin q from count) r sound p h leads = absurd (true≢false (sym h))
+made_number t u (call.Unpin q) r sound p h leads = absurd (true≢false (sym h))

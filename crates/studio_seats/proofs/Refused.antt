@@ -43,7 +43,9 @@ broken_same t u c sound Memory h =
 pub refused_same : (t u : model.Studio) (c : Call) (sound : SoundMove) (why : Refusal) → Answers t c sound (Err why) u
     → Same t u
 refused_same t u c sound why (inl h) = same_of t u t h.same (record { state = refl; rate = refl; block_size = refl })
-refused_same t u c sound why (inr h) = broken_same t u c sound (cause_of why) h
+refused_same t u c sound why (inr (inl left)) =
+    same_of t u t left.same (record { state = refl; rate = refl; block_size = refl })
+refused_same t u c sound why (inr (inr h)) = broken_same t u c sound (cause_of why) h
 
 same_shown : (t u : model.Studio) → Same t u → shown u ≡ shown t
 same_shown t u h = λ i. record {

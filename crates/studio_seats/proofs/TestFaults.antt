@@ -22,8 +22,8 @@ use Rattle.pcm_base.specs.Refusals.{length_limit, no_pin, no_track, paste_tests,
 use Rattle.pcm_base.specs.Refusals.{range_tests, refused_if, run_tests, shape_tests, too_narrow, track_limit, view_tests}
 use Rattle.pcm_base.specs.Run.{Answers, outside, refusal_of, result_of, stop_test}
 use Rattle.pcm_base.specs.Shape.{Shape, NewTrack, DropTrack, SetTrack, PutIn, EditRange, CutRun, CopyRun, PasteRun}
-use Rattle.pcm_base.specs.Shape.{MoveTo, Purge, Look, Reclaim, Compact, Import, Export, Back, Forward, View, Cells}
-use Rattle.pcm_base.specs.Shape.{Frames, Columns, Tracks, shape_of}
+use Rattle.pcm_base.specs.Shape.{MoveTo, Purge, PurgeTo, Look, Reclaim, Compact, Import, Export, Bounce, Back, Forward}
+use Rattle.pcm_base.specs.Shape.{View, Cells, Frames, Columns, Tracks, shape_of}
 use Rattle.pcm_base.specs.State.{State, clip_of, current}
 use Rattle.pcm_base.specs.Studio as model
 use Rattle.pcm_base.specs.Wave.{Sound, wav_of}
@@ -136,11 +136,13 @@ module _ (stopped : Option ℕ) where
     line (MoveTo Back) = one _ _ tt
     line (MoveTo Forward) = one _ _ tt
     line (Purge n) = range 0 n s.history.cursor
+    line (PurgeTo bytes) = tt
     line (Look v) = view v
     line (Reclaim limit) = tt
     line Compact = tt
     line (Import name) = imported out.sound
     line (Export name) = one _ _ tt
+    line (Bounce name) = tt
 
     pin : (n : ℕ) → Tells stopped (no_pin s n)
     pin n = one (is_none (s.pins n)) (refusal.NoPin n) tt
@@ -152,6 +154,7 @@ module _ (stopped : Option ℕ) where
     own call.Pin = tt
     own (call.PinLen n) = pin n
     own (call.ReadPin n from count) = pin n
+    own (call.LoadPin n from count) = pin n
     own (call.Unpin n) = pin n
 
   counters : (out : Outside) (t : model.Studio) (c : Call) (blocks len : ℕ) → Tells stopped (counter_tests out t c blocks len)
@@ -169,12 +172,14 @@ going None (call.Piece track tag samples) = tt
 going None call.Pin = tt
 going None (call.PinLen n) = tt
 going None (call.ReadPin n from count) = tt
+going None (call.LoadPin n from count) = tt
 going None (call.Unpin n) = tt
 going (Some n) (call.Line c) = refl
 going (Some n) (call.Piece track tag samples) = refl
 going (Some n) call.Pin = refl
 going (Some n) (call.PinLen pin) = refl
 going (Some n) (call.ReadPin pin from count) = refl
+going (Some n) (call.LoadPin pin from count) = refl
 going (Some n) (call.Unpin pin) = tt
 
 pub tested : (out : Outside) (t : model.Studio) (c : Call) (blocks len : ℕ)
@@ -196,7 +201,8 @@ served_test stopped c why going is = tt
 
 spent_never : (t u : model.Studio) (c : Call) (sound : SoundMove) → Answers t c sound (Err spent) u → ⊥
 spent_never t u c sound (inl h) = subst (Tells t.stopped) h.first (tested (outside t sound) t c h.blocks h.len)
-spent_never t u c sound (inr h) = h
+spent_never t u c sound (inr (inl left)) = cc left.reason
+spent_never t u c sound (inr (inr h)) = h
 
 pub had_turn : (t u : model.Studio) (c : Call) (sound : SoundMove) (what : Result Reply Refusal)
     → Answers t c sound what u → reply_of what ≡ Refused spent → ⊥

@@ -17,6 +17,7 @@ makes_piece (call.Piece track tag samples) = true
 makes_piece call.Pin = false
 makes_piece (call.PinLen pin) = false
 makes_piece (call.ReadPin pin from count) = false
+makes_piece (call.LoadPin pin from count) = false
 makes_piece (call.Unpin pin) = false
 
 -- the entries that are of pieces, in order

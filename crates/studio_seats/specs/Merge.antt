@@ -89,6 +89,7 @@ is_piece to by (call.Piece track tag samples) = (to == track) && (by == tag)
 is_piece to by call.Pin = false
 is_piece to by (call.PinLen pin) = false
 is_piece to by (call.ReadPin pin from count) = false
+is_piece to by (call.LoadPin pin from count) = false
 is_piece to by (call.Unpin pin) = false
 
 -- the seat made no commits but pieces of this recording

@@ -16,6 +16,7 @@ piece_in to by (call.Piece track tag samples) n =
 piece_in to by call.Pin n = []
 piece_in to by (call.PinLen pin) n = []
 piece_in to by (call.ReadPin pin from count) n = []
+piece_in to by (call.LoadPin pin from count) n = []
 piece_in to by (call.Unpin pin) n = []
 
 -- the pieces of an entry that this seat made, if it was carried out, by the number before it

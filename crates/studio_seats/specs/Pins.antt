@@ -11,13 +11,13 @@ use Rattle.pcm_base.specs.declared.refusal.Refusal.{Refusal}
 use Rattle.pcm_base.specs.declared.sound.Frame.{Frame}
 use Rattle.pcm_base.specs.Cells.{Project}
 use Rattle.pcm_base.specs.Mix.{mix_of}
-use Rattle.pcm_base.specs.Run.{result_of}
+use Rattle.pcm_base.specs.Run.{result_of, told_state}
 use Rattle.pcm_base.specs.State.{State, current}
 use Rattle.pcm_base.specs.Step.{after}
 
 -- the state after a call that was answered so; a refusal changes nothing that a script can see
 abbrev pub after_what : ℕ → State → Call → Result Reply Refusal → SoundMove → State
-after_what rate s call (Ok r) sound = after (record { rate = rate; sound = sound.before }) s call
+after_what rate s call (Ok r) sound = told_state r (after (record { rate = rate; sound = sound.before }) s call)
 after_what rate s call (Err why) sound = s
 
 abbrev pub after_entry : ℕ → State → Entry → State
@@ -33,9 +33,11 @@ tells_pin (reply.Columns columns) pin = false
 tells_pin (reply.Tracks tracks) pin = false
 tells_pin (reply.Freed count) pin = false
 tells_pin (reply.Packed bytes) pin = false
+tells_pin (reply.Purged n) pin = false
 tells_pin (reply.Wrote bytes) pin = false
 tells_pin (reply.Pinned number) pin = number == pin
 tells_pin (reply.Length frames) pin = false
+tells_pin (reply.Loaded tracks) pin = false
 tells_pin (reply.Refused why) pin = false
 
 -- whether a call made the pin of this number
@@ -45,6 +47,7 @@ makes_pin (call.Piece track tag samples) r pin = false
 makes_pin call.Pin r pin = tells_pin r pin
 makes_pin (call.PinLen number) r pin = false
 makes_pin (call.ReadPin number from count) r pin = false
+makes_pin (call.LoadPin number from count) r pin = false
 makes_pin (call.Unpin number) r pin = false
 
 abbrev pub goes_with : Result Reply Refusal → ℕ → ℕ → Bool
@@ -58,6 +61,7 @@ drops_pin (call.Piece track tag samples) what pin = false
 drops_pin call.Pin what pin = false
 drops_pin (call.PinLen number) what pin = false
 drops_pin (call.ReadPin number from count) what pin = false
+drops_pin (call.LoadPin number from count) what pin = false
 drops_pin (call.Unpin number) what pin = goes_with what number pin
 
 -- whether the pin was made in the run

@@ -2,7 +2,7 @@
 ghost use Rattle.std.specs.Prelude.{◌≡◌, true, false, IfErr, IsSome, None};
 ghost use Rattle.pcm_base.specs.declared.answer.Reply.TheVariants.{Refused};
 ghost use Rattle.pcm_base.specs.declared.command.Call.TheVariants.{Line};
-ghost use Rattle.pcm_base.specs.Form.{IsInForm};
+ghost use Rattle.pcm_base.specs.Form.{IsInForm, IsTurn};
 ghost use Rattle.pcm_base.specs.Run.{Heard, name_in_line};
 ghost use Rattle.pin_turn.specs.Calls.{known};
 ghost use Rattle.editor_core.specs.Applied.{Applies, IsTold, move_of};
@@ -26,7 +26,7 @@ use std::sync::Wait;
 impl<S: Store, V: Vault> Desk<S, V> {
     /// Carries a line out and fills the answer: the commit number after it, and its reply, or the reason that refuses
     /// it, which is reported besides. A sound that the line names is looked for in the vault, while the turn is kept.
-    /// Where it names none, the vault is as it was; where no turn is left, the answer too.
+    /// Where it names none, the vault is as it was; where no turn is left, the answer too. No `bounce` is one turn.
     ///
     /// # Errors
     ///
@@ -42,6 +42,7 @@ impl<S: Store, V: Vault> Desk<S, V> {
     ) -> Said<()>
         requires seat { IsAt self.now seat.old }
         requires in_form { IsInForm command.now }
+        requires turn { IsTurn command.now }
         ensures same { IsAt self.now seat.new }
         ensures says { Says (origin S.Store V.Vault (start_at self.now))
             (asked (Line command.now) (told_by (λ _. answer.new.reply) result.what)
@@ -66,6 +67,7 @@ impl<S: Store, V: Vault> Desk<S, V> {
                 &mut |held: &mut Held<S, V>| -> Said<()>
                     requires studio { IsStudio S.Store (core_of held.old.studio) }
                     requires in_form { IsInForm command.now }
+                    requires turn { IsTurn command.now }
                     ensures applied { Applies S.Store (record {
                       old = core_of held.old.studio;
                       new = core_of held.new.studio;

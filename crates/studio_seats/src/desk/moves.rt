@@ -1,8 +1,8 @@
-// Undo, redo and purge, each in one turn.
+// Undo, redo and purges, each in one turn.
 ghost use Rattle.std.specs.Prelude.{◌≡◌, IfOk};
-ghost use Rattle.pcm_base.specs.declared.answer.Reply.TheVariants.{Done};
+ghost use Rattle.pcm_base.specs.declared.answer.Reply.TheVariants.{Done, Purged};
 ghost use Rattle.pcm_base.specs.declared.command.Call.TheVariants.{Line};
-ghost use Rattle.pcm_base.specs.declared.command.Command.TheVariants.{Undo, Redo, Purge};
+ghost use Rattle.pcm_base.specs.declared.command.Command.TheVariants.{Undo, Redo, Purge, PurgeTo};
 ghost use Rattle.pin_turn.specs.Calls.{known};
 ghost use Rattle.editor_core.specs.Core.{core_of};
 ghost use Rattle.editor_core.specs.Studios.{IsStudio};
@@ -16,6 +16,7 @@ use crate::held::{DeskSeat, Held};
 use disk_model::Store;
 use edit_ports::Vault;
 use pcm_base::Said;
+use std::alloc::Global;
 use std::marker::Brand;
 use std::sync::Wait;
 
@@ -109,6 +110,43 @@ impl<S: Store, V: Vault> Desk<S, V> {
                     ensures number { IfOk result.what (λ n. n ≡ result.at) }
                 {
                     let what = held.studio.purge(count);
+                    let at = held.studio.commit_number();
+                    Said { at, what }
+                },
+            ),
+        )
+    }
+
+    /// Forgets so many of the oldest points that the block files of the others have at most this many bytes, and answers
+    /// how many.
+    ///
+    /// # Errors
+    ///
+    /// Those of [`Studio::purge_to`](editor_core::Studio::purge_to); `Spent` where no turn is left.
+    pub fn purge_to<R: Wait>(
+        &self,
+        rt: &R,
+        alloc: Global,
+        seat: &mut DeskSeat<S, V>,
+        bytes: u64,
+    ) -> Said<u64>
+        requires { IsAt self.now seat.old }
+        ensures same { IsAt self.now seat.new }
+        ensures says { Says (origin S.Store V.Vault (start_at self.now))
+            (asked (Line (PurgeTo bytes)) (told_by Purged result.what) silent)
+            result (views (known seat.old) (known seat.new)) }
+    {
+        said_by(
+            self.turn.with::<R, Said<u64>, _, Brand>(
+                rt,
+                seat,
+                &mut |held: &mut Held<S, V>| -> Said<u64>
+                    requires { IsStudio S.Store (core_of held.old.studio) }
+                    ensures took { Took S.Store (core_of held.old.studio)
+                        (quietly (Line (PurgeTo bytes)) (told_by Purged result.what)) (core_of held.new.studio) }
+                    ensures at { result.at ≡ (core_of held.new.studio).commit_number }
+                {
+                    let what = held.studio.purge_to(alloc, bytes);
                     let at = held.studio.commit_number();
                     Said { at, what }
                 },

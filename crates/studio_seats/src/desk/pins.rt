@@ -1,10 +1,12 @@
 // Pins, each call in one turn.
-ghost use Rattle.std.specs.Prelude.{◌≡◌, ◌+◌, ◌<◌, ◌≤◌, true, IsTrue, length, take, IfOk};
-ghost use Rattle.pcm_base.specs.declared.limits.TheConstants.{MAX_CELLS};
+ghost use Rattle.std.specs.Prelude.{◌≡◌, ◌+◌, ◌^◌, ◌<◌, ◌≤◌, true, IsTrue, length, take, IfOk};
+ghost use Rattle.pcm_base.specs.declared.limits.TheConstants.{MAX_CELLS, MAX_LOADED};
+ghost use Rattle.mixdown.specs.Loads.{tracks_in};
 ghost use Rattle.pcm_base.specs.declared.answer.Reply.TheVariants as reply;
 ghost use Rattle.pcm_base.specs.declared.command.Call.TheVariants as call;
 ghost use Rattle.pin_turn.specs.Calls.{known};
 ghost use Rattle.editor_core.specs.Core.{core_of};
+ghost use Rattle.editor_core.specs.Loads.{HasLoaded};
 ghost use Rattle.editor_core.specs.Studios.{IsStudio};
 ghost use Rattle.editor_core.specs.Took.{Took, quietly, silent, told_by};
 ghost use Rattle.studio_seats.specs.Deeds.{entries_of};
@@ -17,6 +19,7 @@ use super::said::said_by;
 use crate::held::{DeskSeat, Held};
 use disk_model::Store;
 use edit_ports::Vault;
+use mixdown::Loaded;
 use pcm_base::{Frame, Said};
 use std::marker::Brand;
 use std::sync::Wait;
@@ -152,6 +155,55 @@ impl<S: Store, V: Vault> Desk<S, V> {
                     ensures limit { IfOk result.what (λ n. 0 < n → from + n ≤ MAX_CELLS) }
                 {
                     let what = held.studio.read_pin(pin, from, out);
+                    let at = held.studio.commit_number();
+                    Said { at, what }
+                },
+            ),
+        )
+    }
+
+    /// Loads the tracks of a pinned project that are heard from a place on: as many frames as there are, up to `n`. It
+    /// answers how many. Where no turn is left, what was loaded before is as it was.
+    ///
+    /// # Errors
+    ///
+    /// Those of [`Studio::load_pin`](editor_core::Studio::load_pin); `Spent` where no turn is left.
+    pub fn load_pin<R: Wait>(
+        &self,
+        rt: &R,
+        seat: &mut DeskSeat<S, V>,
+        pin: u64,
+        from: u64,
+        n: usize,
+        loaded: &mut Loaded,
+    ) -> Said<usize>
+        requires seat { IsAt self.now seat.old }
+        requires most { n ≤ MAX_LOADED }
+        requires few { from + n < 2 ^ 64 }
+        ensures same { IsAt self.now seat.new }
+        ensures says { Says (origin S.Store V.Vault (start_at self.now))
+            (asked (call.LoadPin pin from n)
+            (told_by (λ _. reply.Loaded (tracks_in loaded.new)) result.what) silent)
+            result (views (known seat.old) (known seat.new)) }
+        ensures loaded { IfOk result.what (λ count. HasLoaded n count loaded.new) }
+        ensures spent { (known seat.new).used_up ≡ true → loaded.new ≡ loaded.old }
+    {
+        said_by(
+            self.turn.with::<R, Said<usize>, _, Brand>(
+                rt,
+                seat,
+                &mut |held: &mut Held<S, V>| -> Said<usize>
+                    requires studio { IsStudio S.Store (core_of held.old.studio) }
+                    requires most { n ≤ MAX_LOADED }
+                    requires few { from + n < 2 ^ 64 }
+                    ensures took { Took S.Store (core_of held.old.studio)
+                        (quietly (call.LoadPin pin from n)
+                        (told_by (λ _. reply.Loaded (tracks_in loaded.exit.now)) result.what))
+                        (core_of held.new.studio) }
+                    ensures at { result.at ≡ (core_of held.new.studio).commit_number }
+                    ensures loaded { IfOk result.what (λ count. HasLoaded n count loaded.exit.now) }
+                {
+                    let what = held.studio.load_pin(pin, from, n, loaded);
                     let at = held.studio.commit_number();
                     Said { at, what }
                 },

@@ -31,14 +31,22 @@ impl<S: Store, V: Vault> Desk<S, V> {
         ensures ok { IfOk result (λ d. IsAt d.0 d.1 × (start_at d.0 ≡ core_of studio) × IsFirst (known d.1)) }
         ensures err { IfErr result (λ s. s ≡ studio) }
     {
+        let rate = studio.facts().rate;
         let held = Held {
             studio,
             vaults: PhantomData,
         };
         match Turn::new(alloc, held) {
-            Ok((turn, seat)) => Ok((Desk { turn }, seat)),
+            Ok((turn, seat)) => Ok((Desk { turn, rate }, seat)),
             Err(Held { studio, vaults: _ }) => Err(studio),
         }
+    }
+
+    /// How many frames there are in a second. It takes no turn.
+    pub fn rate(&self) -> u32
+        ensures { result ≡ (start_at self.now).rate }
+    {
+        self.rate
     }
 
     /// Splits a new seat off, which has seen as much.
@@ -75,7 +83,7 @@ impl<S: Store, V: Vault> Desk<S, V> {
         ensures mine { (k : ℕ) → times k (known seat).mine ≡ once_below k (length (known seat).seen) }
         ensures spent { (known seat).used_up ≡ true → length (known seat).seen ≡ COUNTER_LIMIT }
     {
-        let Desk { turn } = self;
+        let Desk { turn, rate: _ } = self;
         let Held { studio, vaults: _ } = turn.close(seat);
         studio
     }

@@ -5,6 +5,20 @@ use Rattle.block_store.specs.Reads.{end_of}
 use Rattle.block_store.proofs.FaultLaws.{early_result, end_most, sound_result, read_result}
 use Rattle.block_store.proofs.reads.read_compared_samples.Goals as goal
 
+pub returns-then-out-le-FEW-clause-read : goal.returns-then-out-le-FEW-clause-read
+returns-then-out-le-FEW-clause-read g c = λ xs told block len.
+    read_result c.read_few.result (g.S.Store.reads c.args.store.now) c.args.block.id c.args.block.len c.args.from
+    (length c.args.out.now) xs c.read_few.new.out block len (omega arith) (c.read_few.ensures.samples told)
+
+pub returns-then-out-le-FEW-clause-sound : goal.returns-then-out-le-FEW-clause-sound
+returns-then-out-le-FEW-clause-sound g c = λ xs told block len.
+    let place : ℕ = 16 + 2 * (c.args.from + length c.args.out.now) in
+    let few = c.requires.within in
+    sound_result c.read_few.result (g.S.Store.reads c.args.store.now) c.args.block.id c.args.block.len
+    (end_of (length c.args.out.now) place) xs block len
+    (end_most (length c.args.out.now) place (size_of c.args.block.len) (omega arith) (omega (arith, few)))
+    (early_result c.read_few.result _ _ _ _ (c.requires.compared told) (c.read_few.ensures.damaged told))
+
 pub returns-clause-read : goal.returns-clause-read
 returns-clause-read g c = λ xs told block len.
     read_result c.read_pieces.result (g.S.Store.reads c.args.store.now) c.args.block.id c.args.block.len c.args.from

@@ -4,7 +4,7 @@ use Rattle.std.specs.Prelude.{is_some}
 use Rattle.player_work.specs.Filled.{reads_to}
 use Rattle.pin_turn.specs.Calls.{known}
 use Rattle.studio_seats.specs.Desks.{IsAt, start_at}
-use Rattle.studio_seats.specs.Onward.{IsLine, Onward, worker}
+use Rattle.studio_seats.specs.Onward.{Onward, worker}
 use Rattle.studio_seats.specs.Pieces.{pieces_by}
 use Rattle.studio_seats.specs.Reads.{ReadsOn}
 use Rattle.studio_seats.specs.Recording.{RecordsOn, recorder}
@@ -13,6 +13,7 @@ use Rattle.studio_seats.specs.Stands.{origin}
 use Rattle.studio_seats.proofs.OnwardLemmas.{onward_self}
 use Rattle.studio_seats.proofs.ReadLemmas.{reads_self}
 use Rattle.studio_seats.proofs.RecordingLemmas.{pieces_free, records_free, records_self}
+use Rattle.script_session.specs.Calls.{IsOfScript}
 use Rattle.script_session.specs.declared.stop.Stop.{Stop}
 use Rattle.script_session.specs.Change.{change}
 use Rattle.script_session.specs.Place.{Place, place_of}
@@ -31,12 +32,12 @@ returns-clause-works g c =
     let s = c.run_beside-stop.new.session in
     let first =
     c.run_beside-stop.ensures.follows c.lend_script-lines.result.editor
-    (refl, refl, onward_self IsLine (known c.lend_script-lines.result.editor.seat)) in
+    (refl, refl, onward_self IsOfScript (known c.lend_script-lines.result.editor.seat)) in
     let desk = first.0 ∙ lends.of.0 in
     let kept = c.take_recorder-recorder.result in
     let heard = c.take_player-player.result in
     record {
-      goes = subst (λ (X : Type 0). X) (λ i. Onward IsLine (lends.seat i) (sym takes.seat i)) first.2;
+      goes = subst (λ (X : Type 0). X) (λ i. Onward IsOfScript (lends.seat i) (sym takes.seat i)) first.2;
       ran = (
         s.editor.last,
         subst (λ (z : Stop × Bool × Place × Place). Ran z.0
@@ -120,7 +121,7 @@ returns-clause-at g c =
     let desk = c.args.desk.now in
     let first =
     c.run_beside-stop.ensures.follows c.lend_script-lines.result.editor
-    (refl, refl, onward_self IsLine (known c.lend_script-lines.result.editor.seat)) in
+    (refl, refl, onward_self IsOfScript (known c.lend_script-lines.result.editor.seat)) in
     let recorded = back _ _ _ _ _ o.recording c.lend_recorder-recording.result c.run_beside-stop.result.1
     c.lend_recorder-recording.ensures c.run_beside-stop.ensures.records
     c.take_recorder-recorder.ensures in
@@ -161,7 +162,7 @@ returns-clause-same g c =
     let o = c.args.setting.opened in
     let first =
     c.run_beside-stop.ensures.follows c.lend_script-lines.result.editor
-    (refl, refl, onward_self IsLine (known c.lend_script-lines.result.editor.seat)) in
+    (refl, refl, onward_self IsOfScript (known c.lend_script-lines.result.editor.seat)) in
     let recorded = back _ _ _ _ _ o.recording c.lend_recorder-recording.result c.run_beside-stop.result.1
     c.lend_recorder-recording.ensures c.run_beside-stop.ensures.records
     c.take_recorder-recorder.ensures in

@@ -6,8 +6,7 @@ use Rattle.std.proofs.lemmas.List.{length-map, length-take, map-append}
 use Rattle.std.proofs.lemmas.Option.{same_Some}
 use Rattle.project_state.specs.declared.track.Track.{Track}
 use Rattle.project_state.specs.Tracks.{AllBelow}
-use Rattle.project_state.proofs.Parts.{drop_some, take_some}
-use Rattle.project_state.proofs.Points.{below_taken}
+use Rattle.project_state.proofs.Points.{drop_some, take_some, below_taken}
 use Rattle.layout_uses.specs.Drawing.{HasNumbers}
 use Rattle.layout_uses.proofs.Draws.{numbers_none}
 use Rattle.editor_core.specs.Copies.{run_of}

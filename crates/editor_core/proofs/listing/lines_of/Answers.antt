@@ -3,8 +3,8 @@ use Rattle.std.proofs.Common.{sym, ap, ◌∙◌, List, [], ◌∷◌, ◌++◌,
 use Rattle.pcm_base.specs.declared.sound.TrackLine.{TrackLine}
 use Rattle.pcm_base.specs.Step.{line_of_track}
 use Rattle.project_state.specs.declared.track.Track.{Track}
-use Rattle.project_state.specs.Kept.{meant}
-use Rattle.project_state.proofs.Parts.{take_some}
+use Rattle.project_state.specs.Meaning.{meant}
+use Rattle.project_state.proofs.Points.{take_some}
 use Rattle.editor_core.proofs.Telling.{lines_more}
 use Rattle.editor_core.proofs.listing.lines_of.Goals as goal
 

@@ -2,7 +2,7 @@
 use Rattle.std.proofs.Common.{◌+◌, ◌<◌, length, sym, ap, ◌∙◌, subst, take, drop, Vec, Global, Some, arith}
 use Rattle.std.proofs.lemmas.List.{get_or_default, take_all}
 use Rattle.std.proofs.lemmas.Option.{slice_get-get_or}
-use Rattle.project_state.proofs.Parts.{take_some}
+use Rattle.project_state.proofs.Points.{take_some}
 use Rattle.editor_core.specs.declared.studio.Pin.{Pin}
 use Rattle.editor_core.specs.Pins.{LacksPin}
 use Rattle.editor_core.proofs.PinNumbers.{around, lacks_more}

@@ -2,7 +2,7 @@
 use Rattle.std.proofs.Common.{◌≡◌, ◌∙◌, List, subst, arith}
 use Rattle.std.specs.Prelude.{Contains, IfNone, IfSome}
 use Rattle.pcm_base.specs.declared.block.BlockRef.{BlockRef}
-use Rattle.project_state.specs.Kept.{history_blocks}
+use Rattle.project_state.specs.Meaning.{history_blocks}
 use Rattle.editor_core.specs.Scans.{AreIdsOf}
 use Rattle.editor_core.specs.Studios.{ids_of}
 use Rattle.editor_core.proofs.Scanning.{stands}

@@ -3,7 +3,7 @@ use Rattle.std.proofs.Common.{◌++◌, List, flat_map, sym, ap, ◌∙◌, arit
 use Rattle.std.proofs.lemmas.List.{take_all, length-map}
 use Rattle.pcm_base.specs.declared.block.BlockRef.{BlockRef}
 use Rattle.pcm_base.specs.History.{point_of, points_of}
-use Rattle.project_state.specs.Kept.{point_blocks}
+use Rattle.project_state.specs.Meaning.{point_blocks}
 use Rattle.editor_core.proofs.Scanning.{points_blocks}
 use Rattle.layout_uses.proofs.Turns.{next}
 use Rattle.editor_core.proofs.scans.blocks_of.Goals as goal

@@ -3,7 +3,7 @@ use Rattle.std.proofs.Common.{ℕ, List, map, arith}
 use Rattle.std.specs.Prelude.{slice_index}
 use Rattle.pcm_base.specs.History.{tag_of}
 use Rattle.project_state.specs.declared.track.Track.{Track}
-use Rattle.project_state.proofs.Parts.{drop_some, take_some}
+use Rattle.project_state.proofs.Points.{drop_some, take_some}
 use Rattle.editor_core.proofs.PackedTexts.{short_next, size_left, tagged}
 use Rattle.editor_core.proofs.texts.points_len.Goals as goal
 

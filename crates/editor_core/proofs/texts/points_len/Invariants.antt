@@ -2,7 +2,7 @@
 use Rattle.std.proofs.Common.{◌≡◌, ◌+◌, ◌*◌, ◌^◌, ◌≤◌, take, drop, map}
 use Rattle.project_journal.specs.Journal.{points_size}
 use Rattle.project_journal.specs.Packing.{AreShort}
-use Rattle.project_state.specs.Kept.{point_bytes}
+use Rattle.record_body.specs.Kept.{point_bytes}
 use Rattle.editor_core.specs.Packing.{points_in}
 use Rattle.editor_core.proofs.texts.points_len.Given as goal
 

@@ -7,8 +7,9 @@ use Rattle.pcm_base.specs.History.{tag_of}
 use Rattle.project_journal.specs.Journal.{points_size}
 use Rattle.project_journal.specs.Packing.{sized}
 use Rattle.project_state.specs.declared.track.Track.{Track}
-use Rattle.project_state.specs.Kept.{point_bytes}
-use Rattle.project_state.proofs.Parts.{drop_some, part_written, take_some}
+use Rattle.record_body.specs.Kept.{point_bytes}
+use Rattle.project_state.proofs.Points.{drop_some, take_some}
+use Rattle.record_body.proofs.Parts.{part_written}
 use Rattle.editor_core.proofs.PackedTexts.{row, rows, short_at, size_left, tagged}
 use Rattle.editor_core.proofs.texts.write_points.Goals as goal
 

@@ -4,7 +4,7 @@ use Rattle.std.specs.Prelude.{Contains}
 use Rattle.std.specs.List.{All}
 use Rattle.std.proofs.lemmas.Result.{err_from_is_err_and}
 use Rattle.pcm_base.specs.declared.block.BlockRef.{BlockRef}
-use Rattle.project_state.specs.Kept.{history_blocks}
+use Rattle.project_state.specs.Meaning.{history_blocks}
 use Rattle.editor_core.specs.Core.{core_of}
 use Rattle.editor_core.specs.Scans.{AreListed}
 use Rattle.editor_recovery.specs.Checking.{ChecksStudio}

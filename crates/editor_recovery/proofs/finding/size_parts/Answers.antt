@@ -1,6 +1,6 @@
 -- The sizes, and then the parts.
 use Rattle.std.proofs.Common.{arith}
-use Rattle.project_state.proofs.KeptBounds.{sound_blocks}
+use Rattle.record_body.proofs.KeptBounds.{sound_blocks}
 use Rattle.record_fold.specs.Folds.{kept_of}
 use Rattle.editor_recovery.proofs.Counted.{causes_none, memory_none}
 use Rattle.editor_recovery.proofs.Opens.{parts_result, unsized}
@@ -13,6 +13,18 @@ test_files-requires g c =
     let s = c.requires.sound in
     let kept = kept_of c.args.folded.project in
     sound_blocks c.args.folded.block_size kept.history.depth kept.commit kept (omega (arith, s.format.block_most)) s.kept
+
+pub parts_of-requires-clause-same : goal.parts_of-requires-clause-same
+parts_of-requires-clause-same g c = c.in-Ok.ensures.numbers.same
+
+pub parts_of-requires-clause-numbered : goal.parts_of-requires-clause-numbered
+parts_of-requires-clause-numbered g c = c.in-Ok.ensures.numbers.numbered
+
+pub parts_of-requires-clause-drawn : goal.parts_of-requires-clause-drawn
+parts_of-requires-clause-drawn g c = c.in-Ok.ensures.numbers.drawn
+
+pub parts_of-requires-clause-most : goal.parts_of-requires-clause-most
+parts_of-requires-clause-most g c = c.in-Ok.ensures.numbers.most
 
 pub returns-in-Ok-clause-opens : goal.returns-in-Ok-clause-opens
 returns-in-Ok-clause-opens g c = λ form j tells is fold.

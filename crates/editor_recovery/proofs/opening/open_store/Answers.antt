@@ -6,7 +6,8 @@ use Rattle.project_journal.specs.Gate.{EachNow, IsDurable}
 use Rattle.project_journal.specs.Header.{Form, IsForm}
 use Rattle.project_journal.specs.Journal.{Log, HasLog, IsAt}
 use Rattle.project_journal.proofs.Kept.{each_has}
-use Rattle.project_state.specs.Kept.{Keeps, history_blocks}
+use Rattle.record_body.specs.Kept.{Keeps}
+use Rattle.project_state.specs.Meaning.{history_blocks}
 use Rattle.editor_core.specs.Parts.{assembled}
 use Rattle.editor_core.specs.Scans.{HaveOneLength}
 use Rattle.editor_core.specs.Studios.{shown, studio_of}

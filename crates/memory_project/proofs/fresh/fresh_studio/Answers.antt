@@ -1,7 +1,7 @@
 -- A fresh project, opened.
 use Rattle.std.proofs.Common.{length}
-use Rattle.disk_model.specs.Histories.{image_since, reads_is_image}
-use Rattle.disk_model.specs.History.{reads_of}
+use Rattle.memory_disk.specs.Histories.{image_since, reads_is_image}
+use Rattle.memory_disk.specs.History.{reads_of}
 use Rattle.editor_core.specs.Core.{core_of}
 use Rattle.memory_project.proofs.OpenLemmas.{is_fresh, opening_wants}
 use Rattle.memory_project.proofs.fresh.fresh_studio.Goals as goal

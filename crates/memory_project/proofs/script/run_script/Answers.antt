@@ -3,7 +3,7 @@ use Rattle.std.proofs.Common.{◌+◌, drop, refl, subst}
 use Rattle.std.proofs.lemmas.Option.{slice_get_read}
 use Rattle.std.proofs.lemmas.List.{drop_all}
 use Rattle.pcm_base.specs.declared.command.Command.{Command}
-use Rattle.project_state.proofs.Parts.{drop_some}
+use Rattle.project_state.proofs.Points.{drop_some}
 use Rattle.editor_core.specs.Core.{core_of}
 use Rattle.memory_project.proofs.ScriptLemmas.{IsOnWay, first_comes, on_way_first, on_way_last, on_way_more}
 use Rattle.memory_project.proofs.script.run_script.Goals as goal

@@ -9,7 +9,7 @@ use Rattle.pcm_base.specs.declared.sound.Frame.{Frame}
 use Rattle.pcm_base.specs.Arithmetic.{counted_from}
 use Rattle.pcm_base.specs.Mix.{frame_at}
 use Rattle.project_state.specs.declared.track.Track.{Track}
-use Rattle.project_state.specs.Kept.{meant, point_blocks}
+use Rattle.project_state.specs.Meaning.{meant, point_blocks}
 use Rattle.block_cache.specs.Caches.{KeepsCache}
 use Rattle.block_cache.proofs.CacheLaws.{cached_on, keeps_before, keeps_same, keeps_turn, same_none}
 use Rattle.cell_view.specs.Stored.{stored_of}

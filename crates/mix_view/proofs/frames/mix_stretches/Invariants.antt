@@ -4,7 +4,7 @@ use Rattle.std.specs.Prelude.{IsTrue}
 use Rattle.disk_model.specs.Frames.{Kept}
 use Rattle.pcm_base.specs.Arithmetic.{counted_from}
 use Rattle.pcm_base.specs.Mix.{frame_at}
-use Rattle.project_state.specs.Kept.{meant, point_blocks}
+use Rattle.project_state.specs.Meaning.{meant, point_blocks}
 use Rattle.block_cache.specs.Caches.{KeepsCache}
 use Rattle.cell_view.specs.Stored.{stored_of}
 use Rattle.mix_view.specs.Readers.{IsReader}

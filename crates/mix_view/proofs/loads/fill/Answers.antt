@@ -6,7 +6,7 @@ use Rattle.pcm_base.specs.declared.sound.Cell.{Cell}
 use Rattle.pcm_base.specs.Mix.{unmuted}
 use Rattle.pcm_base.specs.Pieces.{Sources}
 use Rattle.project_state.specs.declared.track.Track.{Track}
-use Rattle.project_state.specs.Kept.{meant}
+use Rattle.project_state.specs.Meaning.{meant}
 use Rattle.cell_view.specs.Stored.{stored_of}
 use Rattle.mixdown.specs.Stretches.{AreStretches}
 use Rattle.mix_view.proofs.HeardLaws.{count_gains, gains_heard, sides_heard}

@@ -1,7 +1,7 @@
 -- One track more is listed.
 use Rattle.std.proofs.Common.{ℕ, List, [], ◌∷◌, ◌++◌, take, ap, sym, ◌∙◌}
 use Rattle.project_state.specs.declared.track.Track.{Track}
-use Rattle.project_state.proofs.Parts.{take_some}
+use Rattle.project_state.proofs.Points.{take_some}
 use Rattle.mix_view.specs.Heard.{heard_gains, heard_sides}
 use Rattle.mix_view.proofs.HeardLaws.{gains_append, sides_append}
 use Rattle.mix_view.proofs.loads.list_heard.Goals as goal

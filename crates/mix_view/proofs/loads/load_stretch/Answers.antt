@@ -1,9 +1,9 @@
 -- What is loaded is what the tracks mean.
-use Rattle.std.proofs.Common.{subst}
+use Rattle.std.proofs.Common.{◌∙◌, subst}
 use Rattle.std.proofs.lemmas.Result.{err_from_is_err_and}
 use Rattle.disk_model.proofs.Frames.{kept_none}
 use Rattle.pcm_base.specs.Cells.{Project}
-use Rattle.project_state.specs.Kept.{point_blocks}
+use Rattle.project_state.specs.Meaning.{point_blocks}
 use Rattle.block_cache.proofs.CacheLaws.{keeps_same, same_none}
 use Rattle.cell_view.proofs.SeenLaws.{sound_in}
 use Rattle.mixdown.specs.Loads.{Shows}
@@ -27,3 +27,6 @@ pub returns-clause-read : goal.returns-clause-read
 returns-clause-read g c = λ told whole.
     let S : Project → Type 0 = λ p. Shows c.args.from p c.fill.new.loaded in
     subst S (stored_meant (g.S.Store.reads c.args.store.now) c.args.point.now whole) (c.in_ok-fill.ensures.stored told)
+
+pub returns-clause-gains : goal.returns-clause-gains
+returns-clause-gains g c = c.fill.ensures.gains ∙ c.in_ok-make_ready.ensures.gains

@@ -9,7 +9,7 @@ use Rattle.disk_model.proofs.Frames.{kept_none}
 use Rattle.pcm_base.specs.declared.sound.Cell.{Cell}
 use Rattle.pcm_base.specs.Cells as cells
 use Rattle.pcm_base.specs.Mix.{unmuted}
-use Rattle.project_state.specs.Kept.{meant_track}
+use Rattle.project_state.specs.Meaning.{meant_track}
 use Rattle.block_cache.proofs.CacheLaws.{keeps_same, same_none}
 use Rattle.cell_view.specs.Stored.{stored_of}
 use Rattle.mixdown.specs.Stretches.{IsStretch, AreStretches}

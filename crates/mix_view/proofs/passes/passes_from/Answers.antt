@@ -3,9 +3,9 @@ use Rattle.std.proofs.Common.{◌≡◌, ℕ, ◌+◌, ◌-◌, List, ◌∷◌,
 use Rattle.std.specs.Prelude.{replicate}
 use Rattle.std.proofs.lemmas.List.{drop-set, drop_all, length-set}
 use Rattle.project_state.specs.declared.track.Track.{Track}
-use Rattle.project_state.proofs.Parts.{drop_some}
+use Rattle.project_state.proofs.Points.{drop_some}
 use Rattle.clip_track.specs.Clips.{layout_blocks}
-use Rattle.project_state.specs.Kept.{point_blocks}
+use Rattle.project_state.specs.Meaning.{point_blocks}
 use Rattle.sample_block.specs.Sources.{AllNamed}
 use Rattle.cell_view.proofs.SeenLaws.{named_front}
 use Rattle.mix_view.specs.declared.passes.TrackPass.{TrackPass}

@@ -1,6 +1,6 @@
 -- The stretches are those of what the tracks that are heard mean.
 use Rattle.std.proofs.Common.{sym, ap, ◌∙◌}
-use Rattle.project_state.specs.Kept.{meant}
+use Rattle.project_state.specs.Meaning.{meant}
 use Rattle.mixdown.specs.Stretches.{gains_of, sides_of}
 use Rattle.mix_view.specs.Tracks.{heard_tracks}
 use Rattle.mix_view.proofs.TrackLaws.{gains_meant, sides_meant, unmuted_meant}

@@ -12,8 +12,8 @@ use Rattle.pcm_base.specs.Cells.{Project}
 use Rattle.pcm_base.specs.Mix.{unmuted}
 use Rattle.clip_track.specs.Clips.{layout_blocks}
 use Rattle.project_state.specs.declared.track.Track.{Track}
-use Rattle.project_state.proofs.Parts.{drop_some}
-use Rattle.project_state.specs.Kept.{meant, meant_track, point_blocks}
+use Rattle.project_state.proofs.Points.{drop_some}
+use Rattle.project_state.specs.Meaning.{meant, meant_track, point_blocks}
 use Rattle.block_store.specs.Reads.{IsFaultIn}
 use Rattle.block_cache.proofs.CacheLaws.{cached_on, keeps_before, keeps_more, keeps_same, keeps_turn, same_none}
 use Rattle.cell_view.specs.Stored.{stored_of}

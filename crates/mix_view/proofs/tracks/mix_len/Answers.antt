@@ -2,9 +2,9 @@
 use Rattle.std.proofs.Common.{◌≡◌, ◌+◌, List, [], ◌∷◌, drop, ap, arith}
 use Rattle.std.proofs.lemmas.List.{drop_all}
 use Rattle.pcm_base.specs.Mix.{mix_length}
-use Rattle.project_state.specs.Kept.{meant}
+use Rattle.project_state.specs.Meaning.{meant}
 use Rattle.project_state.specs.declared.track.Track.{Track}
-use Rattle.project_state.proofs.Parts.{drop_some}
+use Rattle.project_state.proofs.Points.{drop_some}
 use Rattle.mix_view.specs.Tracks.{mix_length_of}
 use Rattle.mix_view.proofs.TrackLaws.{longest_first}
 use Rattle.mix_view.proofs.tracks.mix_len.Goals as goal

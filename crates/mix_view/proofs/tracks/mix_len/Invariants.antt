@@ -2,7 +2,7 @@
 use Rattle.std.proofs.Common.{◌≡◌, ◌≤◌, ◌^◌, drop, max}
 use Rattle.pcm_base.specs.Pieces.{Sources}
 use Rattle.pcm_base.specs.Mix.{mix_length}
-use Rattle.project_state.specs.Kept.{meant}
+use Rattle.project_state.specs.Meaning.{meant}
 use Rattle.mix_view.specs.Tracks.{mix_length_of}
 use Rattle.mix_view.proofs.tracks.mix_len.Given as goal
 

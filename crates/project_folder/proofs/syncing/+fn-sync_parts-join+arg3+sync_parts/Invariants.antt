@@ -1,4 +1,4 @@
-use Rattle.std.proofs.Common.{ℕ, ◌+◌, ◌*◌, length}
+use Rattle.std.proofs.Common.{◌+◌, ◌*◌, length}
 use Rattle.project_folder.proofs.syncing.+fn-sync_parts-join+arg3+sync_parts.Given as goal
 
 abbrev pub decreases-join+arg3 : goal.decreases-join+arg3

@@ -4,7 +4,7 @@ use Rattle.std.specs.Prelude.{MatchResult}
 use Rattle.disk_model.proofs.Frames.{kept_none}
 use Rattle.project_journal.specs.declared.base.Base.{Base}
 use Rattle.project_journal.specs.declared.fault.JournalFault.TheVariants as journal
-use Rattle.project_state.specs.Kept.{new_project}
+use Rattle.record_body.specs.Kept.{new_project}
 use Rattle.record_fold.specs.Folds.{kept_of}
 use Rattle.record_fold.proofs.Based.{brings_none, brings_told}
 use Rattle.record_fold.proofs.Pointed.{heading_base, heading_format}

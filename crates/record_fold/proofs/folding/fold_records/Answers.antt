@@ -5,7 +5,7 @@ use Rattle.disk_model.proofs.Frames.{kept_none, kept_turn}
 use Rattle.project_journal.specs.declared.fault.JournalFault.TheVariants as journal
 use Rattle.project_journal.specs.declared.records.Next.{Next}
 use Rattle.project_journal.specs.Reader.{Goes, Rises, last_record, reader_form}
-use Rattle.project_state.specs.Kept.{Kept, version_of}
+use Rattle.record_body.specs.Kept.{Kept, version_of}
 use Rattle.record_fold.specs.Faults.{says}
 use Rattle.record_fold.specs.Folds.{kept_of}
 use Rattle.record_fold.proofs.Stepping.{after_commit}

@@ -3,7 +3,7 @@ use Rattle.std.proofs.Common.{◌≤◌, ◌+◌, ◌-◌, ◌^◌}
 use Rattle.disk_model.specs.Frames.{Kept as IsKept}
 use Rattle.project_journal.specs.Answer.{NoFault}
 use Rattle.project_journal.specs.Reader.{IsPlaced, IsLater, reader_form}
-use Rattle.project_state.specs.Kept.{version_of}
+use Rattle.record_body.specs.Kept.{version_of}
 use Rattle.record_fold.specs.Folds.{kept_of}
 use Rattle.record_fold.proofs.Journals.{FoldedSoFar}
 use Rattle.record_fold.proofs.folding.fold_records.Given as goal

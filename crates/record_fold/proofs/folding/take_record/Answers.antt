@@ -1,11 +1,11 @@
 -- The tests of the fields, and then what the history asks.
 use Rattle.std.proofs.Common.{◌≡◌, List, Ok, Err, sym, subst, arith}
-use Rattle.project_state.specs.declared.body.Body.{Body}
+use Rattle.record_body.specs.declared.body.Body.{Body}
 use Rattle.project_state.specs.declared.track.Track.{Track}
-use Rattle.project_state.specs.FirstFault.{Finds}
-use Rattle.project_state.specs.Kept.{IsNextIn, after_body, current_tracks}
-use Rattle.project_state.specs.Sound.{IsSoundPoint}
-use Rattle.project_state.proofs.KeptBounds.{current_sound}
+use Rattle.record_body.specs.FirstFault.{Finds}
+use Rattle.record_body.specs.Kept.{IsNextIn, after_body, current_tracks}
+use Rattle.record_body.specs.Sound.{IsSoundPoint}
+use Rattle.record_body.proofs.KeptBounds.{current_sound}
 use Rattle.record_fold.specs.Faults.{before_at, field_tests, says, IsSaid}
 use Rattle.record_fold.specs.Folds.{kept_of}
 use Rattle.record_fold.proofs.Sound.{taken, untaken}

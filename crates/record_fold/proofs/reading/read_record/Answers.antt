@@ -1,6 +1,6 @@
 -- By the version.
 use Rattle.std.proofs.Common.{arith}
-use Rattle.project_state.proofs.ShortEnds.{sound_half}
+use Rattle.record_body.proofs.ShortEnds.{sound_half}
 use Rattle.record_fold.proofs.Versions.{reads_told}
 use Rattle.record_fold.proofs.reading.read_record.Goals as goal
 

@@ -1,7 +1,7 @@
 -- The first test that fails is the one that is told.
 use Rattle.std.proofs.Common.{◌≡◌, ◌∙◌, ap}
 use Rattle.pcm_base.specs.History.{purged}
-use Rattle.project_state.specs.declared.limits.BadBody.TheVariants as bad
+use Rattle.record_body.specs.declared.limits.BadBody.TheVariants as bad
 use Rattle.record_fold.specs.Faults.{out_of_range}
 use Rattle.record_fold.proofs.Sound.{purge_finds}
 use Rattle.record_fold.proofs.steps.drop_oldest.Goals as goal

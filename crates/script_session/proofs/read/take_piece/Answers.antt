@@ -9,8 +9,10 @@ use Rattle.script_session.proofs.read.take_piece.Goals as goal
 pub end_line-requires : goal.end_line-requires
 end_line-requires g c =
     let found = rw take_rest at c.in-Some.ensures in
-    let k : c.loop-len.at + c.in-Some.len - c.loop-len.at ≡ c.in-Some.len = omega arith in
-    rw k (line_front (drop c.loop-len.at c.args.piece.now) c.in-Some.len found.0)
+    let k : c.loop-len.at + c.in-Some.len - c.loop-len.at ≡ c.in-Some.len = omega arith in (
+      c.type_bounds.sync-R,
+      rw k (line_front (drop c.loop-len.at c.args.piece.now) c.in-Some.len found.0),
+    )
 
 pub returns-in_err-end_line-clause-goes : goal.returns-in_err-end_line-clause-goes
 returns-in_err-end_line-clause-goes g c = λ start read going.

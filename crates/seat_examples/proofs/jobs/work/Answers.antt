@@ -1,6 +1,6 @@
 -- Each job is one of the four.
 use Rattle.std.proofs.Common.{sym, subst}
-use Rattle.disk_model.specs.contracts.ram.RamStoreStore.TheImpl as ram
+use Rattle.memory_disk.specs.contracts.ram.RamStoreStore.TheImpl as ram
 use Rattle.edit_ports.specs.contracts.mem_vault.MemVaultVault.TheImpl as mem
 use Rattle.pin_turn.specs.Calls.{known}
 use Rattle.studio_seats.specs.Desks.{start_at, views}

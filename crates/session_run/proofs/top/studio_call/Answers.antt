@@ -1,8 +1,8 @@
 -- The call.
 use Rattle.std.proofs.Common.{refl, ap, ◌∙◌, if◌then◌else◌, Bool, List, map}
 use Rattle.std.specs.Prelude.{string_bytes}
-use Rattle.disk_model.specs.contracts.ram.RamStoreStore.TheImpl as ram
-use Rattle.disk_model.specs.declared.ram.RamStore.{RamStore}
+use Rattle.memory_disk.specs.contracts.ram.RamStoreStore.TheImpl as ram
+use Rattle.memory_disk.specs.declared.ram.RamStore.{RamStore}
 use Rattle.call_words.specs.Texts.{Text}
 use Rattle.call_words.specs.Words.{words_of}
 use Rattle.script_session.specs.Change.{change}

@@ -1,7 +1,7 @@
 -- A script on a fresh project.
 use Rattle.std.proofs.Common.{refl, subst, ap, ◌∙◌, ◌≡◌, ℕ, nat_lt, if◌then◌else◌}
 use Rattle.pcm_base.specs.Studio.{fault_sum}
-use Rattle.disk_model.specs.declared.ram.RamStore.{RamStore}
+use Rattle.memory_disk.specs.declared.ram.RamStore.{RamStore}
 use Rattle.editor_core.specs.Core.{core_of}
 use Rattle.desk_session.specs.Lent.{kinds}
 use Rattle.script_session.specs.Change.{change}

@@ -6,7 +6,7 @@ use Rattle.disk_model.proofs.Frames.{kept_none}
 use Rattle.pcm_base.specs.declared.sound.Frame.{Frame}
 use Rattle.pcm_base.specs.Mix.{mix_of}
 use Rattle.edit_ports.specs.Sounds.{sound_bytes}
-use Rattle.project_state.specs.Kept.{meant, point_blocks}
+use Rattle.project_state.specs.Meaning.{meant, point_blocks}
 use Rattle.cell_view.specs.Stored.{stored_of}
 use Rattle.wav_pcm.specs.Wavs.{wav_head}
 use Rattle.pcm_base.specs.Recordings.{frame_bytes}

@@ -8,7 +8,7 @@ use Rattle.disk_model.proofs.Frames.{kept_none, kept_turn}
 use Rattle.pcm_base.specs.declared.sound.Frame.{Frame}
 use Rattle.pcm_base.specs.Mix.{mix_of}
 use Rattle.edit_ports.specs.Sounds.{sound_bytes, MayHaveGrown}
-use Rattle.project_state.specs.Kept.{meant, point_blocks}
+use Rattle.project_state.specs.Meaning.{meant, point_blocks}
 use Rattle.cell_view.specs.Stored.{stored_of}
 use Rattle.project_state.specs.declared.track.Track.{Track}
 use Rattle.block_cache.specs.Caches.{KeepsCache}

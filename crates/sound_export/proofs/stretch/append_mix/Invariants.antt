@@ -5,7 +5,7 @@ use Rattle.disk_model.specs.Frames.{Kept}
 use Rattle.pcm_base.specs.Outside.{SameElsewhere}
 use Rattle.edit_ports.specs.Sounds.{sound_bytes}
 use Rattle.block_cache.specs.Caches.{KeepsCache}
-use Rattle.project_state.specs.Kept.{point_blocks}
+use Rattle.project_state.specs.Meaning.{point_blocks}
 use Rattle.mix_view.specs.Readers.{IsReader}
 use Rattle.mix_view.specs.Tracks.{stored_mix}
 use Rattle.pcm_base.specs.Recordings.{frame_bytes}

@@ -13,7 +13,7 @@ use Rattle.envelope_view.specs.Answers.{IsUndamaged}
 use Rattle.wav_pcm.specs.declared.heads.WavHead.{WavHead}
 use Rattle.sound_import.specs.Reading.{brought_from}
 use Rattle.edit_ops.specs.declared.types.NewBlock.{NewBlock}
-use Rattle.project_state.specs.Kept.{current_tracks}
+use Rattle.record_body.specs.Kept.{current_tracks}
 use Rattle.editor_core.specs.Applied.{Lasts}
 use Rattle.editor_core.specs.Core.{core_of}
 use Rattle.editor_core.specs.Imports.{IsInsideOr, channels_refusal, left_as, parts_from, total_of}
@@ -53,7 +53,7 @@ returns-in_err-counts-clause-lasts g c = λ sound.
     subst (λ x. Lasts g.S.Store s (with_sound (Line (command.Import name)) sound (told_by (λ (n : ℕ). reply.Done) x)) s)
     (sym (r.1 ∙ ap Err r.2))
     (lasts_idle g.S.Store s c.requires.studio (g.met.S.Store.may_fewer s.store)
-    (Line (command.Import name)) tt sound refusal.NoMemory tt)
+    (Line (command.Import name)) tt sound refusal.NoMemory tt tt)
 
 -- ---- a test refuses them
 
@@ -81,7 +81,7 @@ returns-in-Some-clause-lasts g c = λ sound.
     lasts_idle g.S.Store s c.requires.studio (g.met.S.Store.may_fewer s.store)
     (Line (command.Import c.args.name.now)) tt sound c.in-Some.reason
     (channels_plain (length (current_tracks s.history)) c.as_slice.result.now c.in-Some.reason
-    (sym c.channels_refusal.ensures ∙ c.in-Some.is))
+    (sym c.channels_refusal.ensures ∙ c.in-Some.is)) tt
 
 pub returns-in-Some-clause-sound : goal.returns-in-Some-clause-sound
 returns-in-Some-clause-sound g c = λ held.
@@ -132,7 +132,7 @@ returns-in_err-planned-clause-lasts g c = λ sound.
     subst (λ x. Lasts g.S.Store s (with_sound (Line (command.Import name)) sound (told_by (λ (n : ℕ). reply.Done) x)) s)
     (sym (r.1 ∙ ap Err (r.2 ∙ c.in_err-planned.ensures.err)))
     (lasts_idle g.S.Store s c.requires.studio (g.met.S.Store.may_fewer s.store)
-    (Line (command.Import name)) tt sound refusal.NoMemory tt)
+    (Line (command.Import name)) tt sound refusal.NoMemory tt tt)
 
 pub returns-in_err-planned-clause-sound : goal.returns-in_err-planned-clause-sound
 returns-in_err-planned-clause-sound g c = λ held.

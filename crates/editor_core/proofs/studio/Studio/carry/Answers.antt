@@ -3,7 +3,7 @@ use Rattle.std.proofs.Common.{◌≡◌, ◌∙◌, inl, inr, refl, sym, ap, sub
 use Rattle.std.proofs.Common.{List, length}
 use Rattle.std.proofs.Common.{zero, [], vec_capacity, Err, arith}
 use Rattle.std.proofs.lemmas.Result.{err_from_is_err_and}
-use Rattle.project_state.specs.Kept.{current_tracks}
+use Rattle.record_body.specs.Kept.{current_tracks}
 use Rattle.editor_core.specs.Edits.{BlockCommit, Carried, IsPrepared, NotPrepared}
 use Rattle.editor_core.specs.Adding.{Adds}
 use Rattle.editor_core.specs.Bodies.{all_bytes, all_len, bodies_by, bytes_by, whole_len, writing}
@@ -14,13 +14,14 @@ use Rattle.editor_core.specs.Makes.{AreSynced, Making, RefusedBrought, Stuck}
 use Rattle.pcm_base.specs.declared.limits.TheConstants.{LONGEST_BODY}
 use Rattle.project_journal.specs.Journal.{AreWaiting, rows_length}
 use Rattle.project_journal.proofs.Together.{opened_length}
-use Rattle.project_state.specs.declared.body.Body.{Body}
+use Rattle.record_body.specs.declared.body.Body.{Body}
 use Rattle.project_state.specs.declared.track.Track.{Track}
-use Rattle.project_state.specs.Batches.{with_point}
+use Rattle.record_body.specs.Batches.{with_point}
 use Rattle.piece_store.proofs.BringLaws.{any_brought}
 use Rattle.editor_core.proofs.AsksNoVault.{adds_counted, adds_inside, inside_counted, inside_or, unprepared_asks}
 use Rattle.editor_core.proofs.BodyBytes.{rows_count}
 use Rattle.editor_core.proofs.CarriedEdits.{carried_by}
+use Rattle.editor_core.proofs.Editing.{current_agrees}
 use Rattle.editor_core.proofs.Serving.{brought_inside}
 use Rattle.editor_core.proofs.studio.Studio.carry.Goals as goal
 
@@ -46,6 +47,9 @@ waiting_some version current body (suc more) rows are = omega (
   ap length are.spelled,
   opened_length (bytes_by version current (with_point current body)) (bodies_by version current more body),
 )
+
+pub prepare-requires-clause-again : goal.prepare-requires-clause-again
+prepare-requires-clause-again g c = current_agrees g.S.Store (core_of c.args.self.now) c.requires.studio
 
 pub commit_rows-requires-clause-short : goal.commit_rows-requires-clause-short
 commit_rows-requires-clause-short g c =

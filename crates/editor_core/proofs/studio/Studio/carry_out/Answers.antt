@@ -1,10 +1,10 @@
 -- An edit that makes blocks is a step.
-use Rattle.std.proofs.Common.{◌⊎◌, ◌∙◌, inr, refl, sym, ap, subst, ℕ, IfErr, List, length, Err, Ok, arith, pos}
+use Rattle.std.proofs.Common.{◌⊎◌, ◌∙◌, inr, refl, sym, ap, subst, ℕ, ◌+◌, IfErr, List, length, Err, Ok, arith, pos}
 use Rattle.std.proofs.lemmas.Result.{err_from_is_err_and}
 use Rattle.pcm_base.specs.declared.answer.Reply.TheVariants.{Done}
 use Rattle.envelope_view.specs.Answers.{IsUndamaged}
 use Rattle.project_state.specs.declared.track.Track.{Track}
-use Rattle.project_state.specs.Kept.{point_blocks}
+use Rattle.project_state.specs.Meaning.{point_blocks}
 use Rattle.edit_ops.specs.Plans.{AreNew}
 use Rattle.editor_core.specs.Applied.{Lasts}
 use Rattle.pcm_base.specs.History.{History}
@@ -18,6 +18,7 @@ use Rattle.editor_core.specs.Makes.{RefusedBrought}
 use Rattle.editor_core.specs.Occurrences.{HasIds}
 use Rattle.editor_core.specs.Took.{Took, told_by, with_sound}
 use Rattle.editor_core.proofs.CarriedOut.{carried_at, commit_of, told_point}
+use Rattle.editor_core.proofs.Editing.{came_agrees}
 use Rattle.editor_core.proofs.EditLaws.{pieces_there}
 use Rattle.editor_core.proofs.EditSteps.{edit_err}
 use Rattle.editor_core.proofs.Lasting.{lasts_err}
@@ -28,6 +29,12 @@ use Rattle.editor_core.proofs.TakenEdits.{IsPointed, lasts_so, out_fits, out_nam
 use Rattle.editor_core.proofs.TakenEdits.{recorded_counted, recorded_few, recorded_there, took_so}
 use Rattle.layout_uses.proofs.Times.{Few}
 use Rattle.editor_core.proofs.studio.Studio.carry_out.Goals as goal
+
+pub carry-requires-clause-numbers : goal.carry-requires-clause-numbers
+carry-requires-clause-numbers g c =
+    let s = core_of c.args.self.now in
+    came_agrees g.S.Store s c.requires.studio c.args.edit.point (s.next_layout + c.args.edit.layouts)
+    (c.requires.planned (λ _. pos 0)).layouts
 
 pub carry-requires-clause-new : goal.carry-requires-clause-new
 carry-requires-clause-new g c =

@@ -11,9 +11,11 @@ use Rattle.block_ledger.specs.Counts.{Counts}
 use Rattle.block_ledger.specs.Entries.{count_of}
 use Rattle.undo_history.specs.Stored.{Stored}
 use Rattle.envelope_view.specs.Answers.{IsUndamaged}
-use Rattle.project_state.specs.declared.body.Body.TheVariants.{Edit}
+use Rattle.record_body.specs.declared.body.Body.TheVariants.{Edit}
 use Rattle.project_state.specs.declared.track.Track.{Track}
-use Rattle.project_state.specs.Kept.{current_tracks, point_blocks}
+use Rattle.record_body.specs.Kept.{current_tracks}
+use Rattle.project_state.specs.Meaning.{point_blocks}
+use Rattle.project_state.specs.Numbers.{AgreeById}
 use Rattle.project_state.specs.Tracks.{AllBelow}
 use Rattle.layout_uses.specs.declared.tally.Tally.{Tally}
 use Rattle.layout_uses.specs.Layouts.{history_tracks}
@@ -30,7 +32,7 @@ use Rattle.editor_core.proofs.Grown.{CountsAfter}
 use Rattle.editor_core.proofs.Moving.{tested_out}
 use Rattle.editor_core.proofs.NoDamage.{TellsNone, undamaged_test}
 use Rattle.editor_core.proofs.PlainEdits.{own_is, needs_none, names, sound, edit_counts, edit_done, edit_fails}
-use Rattle.editor_core.proofs.PlainEdits.{edit_may}
+use Rattle.editor_core.proofs.PlainEdits.{edit_agrees, edit_may}
 use Rattle.editor_core.proofs.PlainLines.{call_by}
 use Rattle.editor_core.proofs.Removing.{commit_removes_none}
 use Rattle.editor_core.proofs.Staying.{wants}
@@ -92,6 +94,21 @@ returns-in_err-point-clause-took g c =
     subst (λ r. Took g.S.Store s (quietly (Line line) (told_by (λ (n : ℕ). Done) r)) s1) (sym (p.1 ∙ ap Err p.2))
     (subst (λ (z : Core g.row.S.Denot). Took g.S.Store s (quietly (Line line) (Err refusal.NoMemory)) z)
     (sym c.make_room.ensures.same) idle)
+
+pub commit_point-requires-clause-numbers : goal.commit_point-requires-clause-numbers
+commit_point-requires-clause-numbers g c =
+    let s = core_of c.args.self.now in
+    let same : core_of c.make_room.new.self ≡ s = c.make_room.ensures.same in
+    let is = c.requires.studio in
+    let e = c.args.edit in
+    let may = subst (λ (n : ℕ). (s.stopped ≡ None) × (c.edit_refusal.result ≡ None) × (s.next_track + n ≤ 2 ^ 62)
+    × (s.commit_number < 2 ^ 62)) c.tracks_for-tracks.ensures c.in_ok-may_commit.ensures in
+    let none : refusal_by e (current_tracks s.history) ≡ None = sym c.edit_refusal.ensures ∙ may.1 in
+    let p = c.in_ok-point.point in
+    let ed = subst (λ (z : Core g.row.S.Denot). IsEdited e z.next_track z.next_layout (current_tracks z.history) p) same
+    c.in_ok-point.ensures in
+    subst (λ (z : Core g.row.S.Denot). AgreeById (current_tracks z.history) p) (sym same)
+    (edit_agrees g.S.Store s is e c.requires.good none p ed)
 
 pub returns-in_err-point-2-clause-took : goal.returns-in_err-point-2-clause-took
 returns-in_err-point-2-clause-took g c =

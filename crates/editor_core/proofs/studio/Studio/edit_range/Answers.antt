@@ -6,7 +6,7 @@ use Rattle.pcm_base.specs.declared.command.Call.TheVariants.{Line}
 use Rattle.pcm_base.specs.Shape.{range_line}
 use Rattle.piece_store.specs.declared.given.Given.TheVariants.{Nothing}
 use Rattle.envelope_view.specs.Answers.{IsUndamaged}
-use Rattle.project_state.specs.Kept.{current_tracks}
+use Rattle.record_body.specs.Kept.{current_tracks}
 use Rattle.piece_store.specs.Bringing.{brought, brought_by}
 use Rattle.editor_core.specs.Core.{core_of}
 use Rattle.editor_core.specs.Ranges.{range_edit}

@@ -11,7 +11,8 @@ use Rattle.pcm_base.specs.Wave.{wav_text}
 use Rattle.disk_model.proofs.Frames.{kept_none}
 use Rattle.sample_block.specs.Sources.{sources_of, AllNamed, AllWhole}
 use Rattle.project_state.specs.declared.track.Track.{Track}
-use Rattle.project_state.specs.Kept.{current_tracks, meant, point_blocks}
+use Rattle.record_body.specs.Kept.{current_tracks}
+use Rattle.project_state.specs.Meaning.{meant, point_blocks}
 use Rattle.mix_view.specs.Tracks.{mix_length_of}
 use Rattle.wav_pcm.specs.Written.{MayBegin}
 use Rattle.sound_export.specs.Written.{IsBlockFault, refusal_of}
@@ -134,7 +135,7 @@ returns-clause-took g c = λ told.
 pub returns-in-Some-clause-lasts : goal.returns-in-Some-clause-lasts
 returns-in-Some-clause-lasts g c = λ sound.
     lasts_idle g.S.Store (core_of c.args.self.now) c.requires (g.met.S.Store.may_fewer c.args.self.now.store)
-    (Line (command.Export c.args.name.now)) tt sound (refusal.Stopped c.in-Some.faults) tt
+    (Line (command.Export c.args.name.now)) tt sound (refusal.Stopped c.in-Some.faults) tt tt
 
 pub returns-in_err-bytes-clause-lasts : goal.returns-in_err-bytes-clause-lasts
 returns-in_err-bytes-clause-lasts g c = λ sound.
@@ -155,7 +156,7 @@ returns-in_err-bytes-clause-lasts g c = λ sound.
     (subst (λ (m : ℕ). Lasts g.S.Store s (with_sound call sound (Err reason))
     (record s { store = c.write_sound.new.store; cache = cache; block_size = m })) (sym c.write_sound.ensures.same)
     (lasts_looked g.S.Store s c.requires call tt tt sound c.in_default.is c.write_sound.new.store
-    c.in_err-bytes.ensures.kept cache keeps (Err reason) refl
+    c.in_err-bytes.ensures.kept cache keeps (Err reason) tt refl
     (export_left g.S.Store s c.requires c.args.name.now silent c.in_default.is c.write_sound.new.store
     c.in_err-bytes.ensures.kept cache keeps why
     (g.V.Vault.fault_count c.args.vault.now)
@@ -180,4 +181,4 @@ returns-clause-lasts g c = λ sound.
     subst (λ (m : ℕ). Lasts g.S.Store s (with_sound call sound told)
     (record s { store = c.write_sound.new.store; cache = cache; block_size = m })) (sym c.write_sound.ensures.same)
     (lasts_looked g.S.Store s c.requires call tt tt sound c.in_default.is c.write_sound.new.store
-    c.in_ok-bytes.ensures.kept cache keeps told same tt)
+    c.in_ok-bytes.ensures.kept cache keeps told tt same tt)

@@ -34,7 +34,7 @@ returns-in-Some-clause-took g c = λ told.
 pub returns-in-Some-clause-lasts : goal.returns-in-Some-clause-lasts
 returns-in-Some-clause-lasts g c = λ sound.
     lasts_idle g.S.Store (core_of c.args.self.now) c.requires (g.met.S.Store.may_fewer c.args.self.now.store)
-    (Line (command.Import c.args.name.now)) tt sound (refusal.Stopped c.in-Some.faults) tt
+    (Line (command.Import c.args.name.now)) tt sound (refusal.Stopped c.in-Some.faults) tt tt
 
 pub returns-in-Some-clause-reason : goal.returns-in-Some-clause-reason
 returns-in-Some-clause-reason g c =
@@ -73,7 +73,7 @@ returns-in_err-head-clause-lasts g c = λ sound.
     (subst (λ (m : ℕ). Lasts g.S.Store s (with_sound call sound (Err why)) (record s { block_size = m }))
     (sym c.find.ensures.same)
     (lasts_idle g.S.Store s c.requires (g.met.S.Store.may_fewer s.store) call tt sound why
-    (import_plain c.in_err-head.field-0.0)))
+    (import_plain c.in_err-head.field-0.0) tt))
 
 pub returns-in_err-head-clause-some : goal.returns-in_err-head-clause-some
 returns-in_err-head-clause-some g c =

@@ -1,15 +1,23 @@
--- A pin is loaded as it was pinned.
-use Rattle.std.proofs.Common.{◌∙◌, refl, sym, ap, subst, List, Some, Err, inl, inr}
+-- A pin is loaded as it was pinned, in a step that changes nothing.
+use Rattle.std.proofs.Common.{◌∙◌, refl, sym, ap, subst, List, Some, Err, arith}
 use Rattle.std.proofs.lemmas.Result.{err_from_is_err_and}
+use Rattle.pcm_base.specs.declared.answer.Reply.TheVariants as reply
+use Rattle.pcm_base.specs.declared.command.Call.TheVariants.{LoadPin}
 use Rattle.pcm_base.specs.declared.refusal.Refusal.{Refusal}
 use Rattle.pcm_base.specs.declared.refusal.Refusal.TheVariants as refusal
-use Rattle.project_state.specs.Kept.{point_blocks}
-use Rattle.mix_view.specs.Heard.{refusal_of}
+use Rattle.sample_block.specs.Sources.{sources_of}
+use Rattle.project_state.specs.Meaning.{meant, point_blocks}
+use Rattle.mixdown.specs.declared.loaded.Loaded.{Loaded}
+use Rattle.mixdown.specs.Loads.{Shows, tracks_in}
+use Rattle.mix_view.specs.declared.loads.LoadFault.{LoadFault}
 use Rattle.editor_core.specs.Core.{core_of}
 use Rattle.editor_core.specs.declared.studio.Pin.{Pin}
 use Rattle.editor_core.specs.Loads.{Ask, Loads}
 use Rattle.editor_core.specs.Pins.{LacksPin, MayFind}
-use Rattle.editor_core.proofs.Loading.{idle_loads, read_loads, undamaged, unread_loads}
+use Rattle.editor_core.specs.Studios.{IsHeld}
+use Rattle.mix_view.proofs.HeardLaws.{no_frame}
+use Rattle.editor_core.proofs.Loading.{load_done, load_lacks, load_looks, load_stopped, load_wanting, loaded_many}
+use Rattle.editor_core.proofs.Seeing.{idle_looks, read_looks}
 use Rattle.editor_core.proofs.Unpinning.{pin_may_read, pin_named, pin_whole}
 use Rattle.editor_core.proofs.StudioCache.{reads_among}
 use Rattle.editor_core.proofs.studio.Studio.load_pin.Goals as goal
@@ -17,20 +25,32 @@ use Rattle.editor_core.proofs.studio.Studio.load_pin.Goals as goal
 pub returns-in-Some : goal.returns-in-Some
 returns-in-Some g c =
     let s = core_of c.args.self.now in
-    let ask : Ask = record { pin = c.args.pin; from = c.args.from; most = c.args.n } in
-    idle_loads g.S.Store s c.requires.studio ask c.args.loaded.now (g.met.S.Store.may_fewer s.store)
-    (refusal.Stopped c.in-Some.faults) tt (inl (c.in-Some.faults, c.in-Some.is, refl))
+    let fewer = g.met.S.Store.may_fewer s.store in
+    record {
+      looks = idle_looks g.S.Store s (LoadPin c.args.pin c.args.from c.args.n) fewer
+          (refusal.Stopped c.in-Some.faults) tt
+          (load_stopped g.S.Store s c.requires.studio fewer c.args.pin c.args.from c.args.n c.in-Some.faults
+          c.in-Some.is);
+      loads = tt;
+      has = tt;
+      wants = tt;
+    }
 
 pub returns-in_err-point : goal.returns-in_err-point
 returns-in_err-point g c =
     let p = err_from_is_err_and c.from_residual.result c.from_residual.ensures.1 in
     let s = core_of c.args.self.now in
+    let fewer = g.met.S.Store.may_fewer s.store in
     let ask : Ask = record { pin = c.args.pin; from = c.args.from; most = c.args.n } in
     subst (λ r. Loads g.S.Store s ask r c.args.loaded.now s)
-    (sym (p.1 ∙ ap Err (p.2 ∙ c.in_err-point.ensures.0)))
-    (idle_loads g.S.Store s c.requires.studio ask c.args.loaded.now (g.met.S.Store.may_fewer s.store)
-    (refusal.NoPin c.args.pin) tt
-    (inr (c.in_default.is, inl (subst (LacksPin c.args.pin) c.deref.ensures.value c.in_err-point.ensures.1, refl))))
+    (sym (p.1 ∙ ap Err (p.2 ∙ c.in_err-point.ensures.0))) record {
+      looks = idle_looks g.S.Store s (LoadPin c.args.pin c.args.from c.args.n) fewer (refusal.NoPin c.args.pin) tt
+          (load_lacks g.S.Store s c.requires.studio fewer c.args.pin c.args.from c.args.n c.in_default.is
+          (subst (LacksPin c.args.pin) c.deref.ensures.value c.in_err-point.ensures.1));
+      loads = tt;
+      has = tt;
+      wants = tt;
+    }
 
 pub load_stretch-requires-clause-named : goal.load_stretch-requires-clause-named
 load_stretch-requires-clause-named g c =
@@ -45,41 +65,66 @@ load_stretch-requires-clause-cached g c = (c.requires.studio.cache c.in_default.
 pub returns-in-Ok : goal.returns-in-Ok
 returns-in-Ok g c =
     let s = core_of c.args.self.now in
-    let ask : Ask = record { pin = c.args.pin; from = c.args.from; most = c.args.n } in
+    let fewer = g.met.S.Store.may_fewer s.store in
     let point = c.in_ok-point.point.now in
     let found =
     subst (λ (ps : List Pin). MayFind ps c.args.pin (Some point)) c.deref.ensures.value c.in_ok-point.ensures in
     let cache = c.load_stretch.new.cache in
+    let store = c.load_stretch.new.store in
+    let loaded : Loaded = c.load_stretch.new.loaded in
     let keeps = reads_among g.S.Store s (point_blocks point) cache
     (pin_named g.S.Store s c.requires.studio c.args.pin point found) c.load_stretch.ensures.cache in
-    read_loads g.S.Store s c.requires.studio ask c.load_stretch.new.loaded c.load_stretch.new.store
-    c.load_stretch.ensures.kept cache keeps c.in-Ok.count (record {
-      point = point;
-      found = found;
-      count = c.in-Ok.ensures.count;
-      len = c.in-Ok.ensures.len;
-      sound = c.in-Ok.ensures.loaded;
-      shows = λ held. c.in-Ok.ensures.read held.tells
-          (pin_whole g.S.Store s c.requires.studio c.args.pin point found held);
-    }) c.in-Ok.ensures.faults
+    let src = sources_of (g.S.Store.reads s.store) in
+    let shows : IsHeld g.S.Store s → Shows c.args.from (meant src point) loaded = λ held.
+    c.in-Ok.ensures.read held.tells (pin_whole g.S.Store s c.requires.studio c.args.pin point found held) in
+    record {
+      looks = read_looks g.S.Store s (LoadPin c.args.pin c.args.from c.args.n) store c.load_stretch.ensures.kept cache
+          (reply.Loaded (tracks_in loaded))
+          (load_done g.S.Store s c.requires.studio fewer c.args.pin c.args.from c.args.n c.in_default.is point found
+          store c.load_stretch.ensures.kept cache keeps (tracks_in loaded) c.in-Ok.ensures.faults
+          (λ held. loaded_many src point c.args.from c.args.n loaded c.in-Ok.ensures.loaded
+          (c.in-Ok.ensures.len ∙ c.in-Ok.ensures.count) (c.load_stretch.ensures.length src) (shows held)));
+      loads = record {
+        point = point;
+        found = found;
+        count = c.in-Ok.ensures.count;
+        len = c.in-Ok.ensures.len;
+        sound = c.in-Ok.ensures.loaded;
+        shows = shows;
+      };
+      has = record {
+        len = c.in-Ok.ensures.len;
+        few = omega (arith, c.in-Ok.ensures.count);
+        sound = c.in-Ok.ensures.loaded;
+        silent = no_frame point loaded.gains.items c.args.from c.args.n c.in-Ok.count c.in-Ok.ensures.gains
+            c.in-Ok.ensures.count;
+      };
+      wants = load_wanting g.S.Store s c.requires.studio fewer c.args.pin c.args.from c.args.n c.in_default.is point
+          found store c.load_stretch.ensures.kept cache keeps c.in-Ok.ensures.faults;
+    }
 
 pub returns-in-Err : goal.returns-in-Err
 returns-in-Err g c =
     let s = core_of c.args.self.now in
+    let fewer = g.met.S.Store.may_fewer s.store in
     let ask : Ask = record { pin = c.args.pin; from = c.args.from; most = c.args.n } in
     let point = c.in_ok-point.point.now in
     let found =
     subst (λ (ps : List Pin). MayFind ps c.args.pin (Some point)) c.deref.ensures.value c.in_ok-point.ensures in
     let cache = c.load_stretch.new.cache in
     let store = c.load_stretch.new.store in
-    let loaded = c.load_stretch.new.loaded in
+    let loaded : Loaded = c.load_stretch.new.loaded in
     let keeps = reads_among g.S.Store s (point_blocks point) cache
     (pin_named g.S.Store s c.requires.studio c.args.pin point found) c.load_stretch.ensures.cache in
-    let fault = c.in-Err.fault in
+    let why : LoadFault = c.in-Err.fault in
     subst (λ (z : Refusal). Loads g.S.Store s ask (Err z) loaded (record s { store = store; cache = cache }))
-    (sym c.into.ensures)
-    (unread_loads g.S.Store s c.requires.studio ask loaded store c.load_stretch.ensures.kept cache keeps
-    (refusal_of fault)
-    (λ held. undamaged fault (c.in-Err.ensures.sound held.tells
-    (pin_whole g.S.Store s c.requires.studio c.args.pin point found held)))
-    (inr (c.in_default.is, inr (fault, refl, c.in-Err.ensures.faults))))
+    (sym c.into.ensures) record {
+      looks = load_looks g.S.Store s c.requires.studio fewer c.args.pin c.args.from c.args.n c.in_default.is point
+          found store c.load_stretch.ensures.kept cache keeps why c.in-Err.ensures.faults c.in-Err.ensures.damaged
+          (λ held. c.in-Err.ensures.sound held.tells
+          (pin_whole g.S.Store s c.requires.studio c.args.pin point found held))
+          (λ e. c.load_stretch.ensures.memory (c.in-Err.is ∙ ap Err e));
+      loads = tt;
+      has = tt;
+      wants = tt;
+    }

@@ -3,12 +3,23 @@ use Rattle.std.proofs.Common.{◌≡◌, ◌∙◌, inl, inr, ◌⊎◌, sym, ap
 use Rattle.std.proofs.lemmas.Result.{err_from_is_err_and}
 use Rattle.pcm_base.specs.declared.refusal.Refusal.{Refusal}
 use Rattle.pcm_base.specs.declared.refusal.Refusal.TheVariants as refusal
-use Rattle.project_state.specs.Kept.{current_tracks}
+use Rattle.record_body.specs.declared.body.Body.{Body}
+use Rattle.record_body.specs.Kept.{current_tracks}
+use Rattle.record_body.specs.Numbers.{BodyAgrees}
+use Rattle.record_body.proofs.Agreeing.{again_agrees}
 use Rattle.editor_core.specs.Adding.{Exceeds, ExceedsBy}
 use Rattle.editor_core.specs.Bodies.{Writing, all_len, whole_len, writing}
 use Rattle.editor_core.specs.Core.{core_of}
 use Rattle.editor_core.proofs.Rows.{rows_total, whole_total}
 use Rattle.editor_core.proofs.studio.Studio.may_write.Goals as goal
+
+pub body_size-requires : goal.body_size-requires
+body_size-requires g c =
+    let current = current_tracks (core_of c.args.self.now).history in
+    record {
+      numbers = subst (λ (b : Body). BodyAgrees current b) (sym c.in_ok-again.ensures)
+          (again_agrees current c.args.body.now c.requires.again);
+    }
 
 pub returns-in_err-may_add-clause-err : goal.returns-in_err-may_add-clause-err
 returns-in_err-may_add-clause-err g c =

@@ -10,7 +10,8 @@ use Rattle.pcm_base.specs.Mix.{mix_of}
 use Rattle.block_store.specs.Reads.{IsFaultIn}
 use Rattle.sample_block.specs.Sources.{sources_of, AllNamed, AllWhole}
 use Rattle.project_state.specs.declared.track.Track.{Track}
-use Rattle.project_state.specs.Kept.{current_tracks, meant, point_blocks}
+use Rattle.record_body.specs.Kept.{current_tracks}
+use Rattle.project_state.specs.Meaning.{meant, point_blocks}
 use Rattle.block_cache.specs.Caches.{KeepsCache}
 use Rattle.editor_core.specs.Core.{core_of}
 use Rattle.editor_core.specs.Reads.{Sees}

@@ -8,7 +8,8 @@ use Rattle.block_ledger.specs.Entries.{Kept, count_of}
 use Rattle.undo_history.specs.Stored.{Stored}
 use Rattle.envelope_view.specs.Answers.{IsUndamaged}
 use Rattle.project_state.specs.declared.track.Track.{Track}
-use Rattle.project_state.specs.Kept.{current_tracks, point_blocks}
+use Rattle.record_body.specs.Kept.{current_tracks}
+use Rattle.project_state.specs.Meaning.{point_blocks}
 use Rattle.editor_core.specs.Core.{Core, core_of}
 use Rattle.layout_uses.specs.Tallies.{Comes}
 use Rattle.editor_core.specs.Occurrences.{HasIds}

@@ -1,7 +1,7 @@
 -- A track more for each channel.
 use Rattle.std.proofs.Common.{◌≡◌, ◌∙◌, refl, sym, ap, subst, ℕ, ◌+◌, List, length, take, slice_index_or, arith}
 use Rattle.std.proofs.lemmas.List.{length-take, take_all}
-use Rattle.project_state.specs.Kept.{current_tracks}
+use Rattle.record_body.specs.Kept.{current_tracks}
 use Rattle.editor_core.specs.Core.{core_of}
 use Rattle.edit_ops.specs.declared.types.NewBlock.{NewBlock}
 use Rattle.editor_core.specs.Imports.{AddsChannel, AreGrown, total_of}

@@ -3,7 +3,7 @@ use Rattle.std.proofs.Common.{◌≡◌, ◌∙◌, sym, ap, subst, ℕ, ◌≤�
 use Rattle.clip_track.specs.declared.clips.Clip.{Clip}
 use Rattle.edit_ops.specs.Runs.{AllTracksHalfFull, layouts}
 use Rattle.project_state.specs.Tracks.{track_of}
-use Rattle.project_state.specs.Kept.{current_tracks}
+use Rattle.record_body.specs.Kept.{current_tracks}
 use Rattle.editor_core.specs.Copies.{run_of}
 use Rattle.editor_core.specs.Core.{core_of}
 use Rattle.editor_core.proofs.CutLaws.{cuts_few, run_half_full}

@@ -5,7 +5,7 @@ use Rattle.pcm_base.specs.Sizes.{blocks_of_samples}
 use Rattle.clip_track.specs.Clips.{AllHalfFull, layout_blocks}
 use Rattle.edit_ops.specs.Plans.{IsPlan}
 use Rattle.project_state.specs.Tracks.{track_of}
-use Rattle.project_state.specs.Kept.{current_tracks}
+use Rattle.record_body.specs.Kept.{current_tracks}
 use Rattle.editor_core.specs.Core.{core_of}
 use Rattle.editor_core.specs.Inserts.{place_edit}
 use Rattle.editor_core.specs.Points.{put_in}

@@ -5,7 +5,7 @@ use Rattle.clip_track.specs.declared.items.Item.{Item}
 use Rattle.edit_ops.specs.Placing.{SumsFit}
 use Rattle.edit_ops.specs.Runs.{AllTracksHalfFull, layouts}
 use Rattle.project_state.specs.Tracks.{track_of}
-use Rattle.project_state.specs.Kept.{current_tracks}
+use Rattle.record_body.specs.Kept.{current_tracks}
 use Rattle.editor_core.specs.Copies.{run_of}
 use Rattle.editor_core.specs.Core.{core_of}
 use Rattle.editor_core.proofs.CutLaws.{run_half_full}

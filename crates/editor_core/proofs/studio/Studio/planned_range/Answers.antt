@@ -7,7 +7,7 @@ use Rattle.pcm_base.specs.Edits.{range_of}
 use Rattle.clip_track.specs.Clips.{AllHalfFull, layout_blocks, layout_cells}
 use Rattle.edit_ops.specs.Plans.{IsPlan}
 use Rattle.project_state.specs.Tracks.{track_of}
-use Rattle.project_state.specs.Kept.{current_tracks}
+use Rattle.record_body.specs.Kept.{current_tracks}
 use Rattle.editor_core.specs.Core.{core_of}
 use Rattle.editor_core.specs.Points.{put_in}
 use Rattle.editor_core.specs.Ranges.{range_edit}

@@ -8,11 +8,12 @@ use Rattle.pcm_base.specs.declared.command.Command.TheVariants as command
 use Rattle.pcm_base.specs.declared.refusal.Refusal.{Refusal}
 use Rattle.pcm_base.specs.declared.refusal.Refusal.TheVariants.{BadRange}
 use Rattle.pcm_base.specs.History.{History, purged}
+use Rattle.pcm_base.specs.Refusals.{bad_range}
 use Rattle.block_ledger.specs.Entries.{count_of}
 use Rattle.envelope_view.specs.Answers.{IsUndamaged}
-use Rattle.project_state.specs.declared.body.Body.TheVariants.{Purge}
+use Rattle.record_body.specs.declared.body.Body.TheVariants.{Purge}
 use Rattle.project_state.specs.declared.track.Track.{Track}
-use Rattle.project_state.specs.Spelling.{spelling}
+use Rattle.record_body.specs.Spelling.{spelling}
 use Rattle.editor_core.specs.Adding.{Adds, IsNoWant}
 use Rattle.editor_core.specs.Bodies.{single}
 use Rattle.editor_core.specs.Core.{Core, core_of}
@@ -22,7 +23,7 @@ use Rattle.editor_core.specs.Took.{Took, quietly, silent, told_by}
 use Rattle.editor_core.proofs.Committing.{fails}
 use Rattle.editor_core.proofs.Moved.{in_range, purged_by}
 use Rattle.editor_core.proofs.Moving.{purge_call, purges, moves, may_purge, purged_counts, tested_out, no_want}
-use Rattle.editor_core.proofs.Moving.{other_reason}
+use Rattle.editor_core.proofs.Moving.{added_range, other_reason, own_range}
 use Rattle.editor_core.proofs.NoDamage.{TellsNone, range_tells, undamaged_test}
 use Rattle.editor_core.proofs.Staying.{none_made}
 use Rattle.editor_core.proofs.studio.Studio.purge.Goals as goal
@@ -102,6 +103,31 @@ returns-in_err-commit_small-clause-undamaged g c =
     let p =
     err_from_is_err_and c.from_residual-in_err-commit_small.result c.from_residual-in_err-commit_small.ensures.1 in
     subst (λ r. IfErr r IsUndamaged) (sym (p.1 ∙ ap Err p.2)) c.in_err-commit_small.ensures.undamaged
+
+pub returns-in_err-may_commit-clause-range : goal.returns-in_err-may_commit-clause-range
+returns-in_err-may_commit-clause-range g c =
+    let p = err_from_is_err_and c.from_residual.result c.from_residual.ensures.1 in
+    let s = core_of c.args.self.now in
+    let why = c.in_err-may_commit.field-0.0 in
+    let is : why ≡ BadRange → bad_range 0 c.args.count s.history.cursor ≡ Some BadRange =
+    λ bad. sym c.purge_refusal.ensures.value
+    ∙ own_range s.stopped c.purge_refusal.result s.next_track 0 s.commit_number why c.in_err-may_commit.ensures bad in
+    subst
+    (λ r. IfErr r (λ (w : Refusal). w ≡ BadRange → bad_range 0 c.args.count s.history.cursor ≡ Some BadRange))
+    (sym (p.1 ∙ ap Err p.2)) is
+
+pub returns-in_err-commit_small-clause-range : goal.returns-in_err-commit_small-clause-range
+returns-in_err-commit_small-clause-range g c =
+    let p =
+    err_from_is_err_and c.from_residual-in_err-commit_small.result c.from_residual-in_err-commit_small.ensures.1 in
+    let s = core_of c.args.self.now in
+    let why = c.in_err-commit_small.field-0.0 in
+    let is : why ≡ BadRange → bad_range 0 c.args.count s.history.cursor ≡ Some BadRange =
+    λ bad. absurd (added_range g.S.Store s (core_of c.commit_small.new.self) _ 1 _ why
+    c.in_err-commit_small.ensures.record bad) in
+    subst
+    (λ r. IfErr r (λ (w : Refusal). w ≡ BadRange → bad_range 0 c.args.count s.history.cursor ≡ Some BadRange))
+    (sym (p.1 ∙ ap Err p.2)) is
 
 pub count_purge-requires-clause-within : goal.count_purge-requires-clause-within
 count_purge-requires-clause-within g c =

@@ -82,7 +82,8 @@ returns-in-Export-clause-untouched g c = λ none. absurd (none-some _ (sym none 
 pub returns-in_default : goal.returns-in_default
 returns-in_default g c =
     let s = core_of c.args.self.now in
-    let silent_now = names_none c.args.command.now c.in_default.not-Import c.in_default.not-Export in record {
+    let silent_now = names_none c.args.command.now c.in_default.not-Import c.in_default.not-Export
+    c.in_default.not-Bounce in record {
       took = over_silent g.S.Store s (g.V.Vault.tells c.args.vault.now) (g.V.Vault.holds c.args.vault.now)
           (Line c.args.command.now) c.silent_reply.result c.silent_reply.ensures.0
           (core_of c.silent_reply.new.self) silent_now c.silent_reply.ensures.1;

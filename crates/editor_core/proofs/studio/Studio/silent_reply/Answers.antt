@@ -92,6 +92,16 @@ returns-in-Purge g c =
           (core_of c.purge.new.self)) (sym c.done-in-Purge.ensures) c.purge.ensures.took),
     )
 
+pub returns-in-PurgeTo : goal.returns-in-PurgeTo
+returns-in-PurgeTo g c =
+    let s = core_of c.args.self.now in (
+      [],
+      subst (λ (k : Command). Took g.S.Store s (quietly (Line k) c.purged.result) (core_of c.purge_to.new.self))
+          (sym c.in-PurgeTo.is)
+          (subst (λ (r : Result Reply Refusal). Took g.S.Store s (quietly (Line (command.PurgeTo c.in-PurgeTo.bytes)) r)
+          (core_of c.purge_to.new.self)) (sym c.purged.ensures) c.purge_to.ensures.took),
+    )
+
 pub returns-in-Show : goal.returns-in-Show
 returns-in-Show g c =
     let s = core_of c.args.self.now in (

@@ -8,7 +8,7 @@ use Rattle.pcm_base.specs.declared.command.Command.TheVariants as command
 use Rattle.pcm_base.specs.declared.refusal.Refusal.TheVariants as refusal
 use Rattle.pcm_base.specs.Step.{line_of_track}
 use Rattle.project_state.specs.declared.track.Track.{Track}
-use Rattle.project_state.specs.Kept.{meant}
+use Rattle.project_state.specs.Meaning.{meant}
 use Rattle.editor_core.specs.Core.{core_of}
 use Rattle.editor_core.specs.Took.{Took, quietly, told_by}
 use Rattle.editor_core.proofs.Telling.{tell_stopped, tell_wanting, told_of}

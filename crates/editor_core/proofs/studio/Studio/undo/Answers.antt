@@ -8,8 +8,8 @@ use Rattle.pcm_base.specs.declared.refusal.Refusal.{Refusal}
 use Rattle.pcm_base.specs.declared.refusal.Refusal.TheVariants.{NothingToUndo}
 use Rattle.pcm_base.specs.History.{at_cursor}
 use Rattle.envelope_view.specs.Answers.{IsUndamaged}
-use Rattle.project_state.specs.declared.body.Body.TheVariants.{Undo}
-use Rattle.project_state.specs.Spelling.{spelling}
+use Rattle.record_body.specs.declared.body.Body.TheVariants.{Undo}
+use Rattle.record_body.specs.Spelling.{spelling}
 use Rattle.editor_core.specs.Adding.{Adds, IsNoWant}
 use Rattle.editor_core.specs.Bodies.{single}
 use Rattle.editor_core.specs.Core.{Core, core_of}

@@ -1,13 +1,23 @@
 -- The same record as often as it is asked for.
-use Rattle.std.proofs.Common.{◌≡◌, ◌∙◌, ap, [], List, ℕ}
+use Rattle.std.proofs.Common.{◌≡◌, ◌∙◌, ap, [], List, ℕ, subst, sym}
 use Rattle.std.proofs.lemmas.Result.{on_ok_weaker}
-use Rattle.project_state.specs.Batches.{with_point}
-use Rattle.project_state.specs.declared.body.Body.{Body}
-use Rattle.project_state.specs.Kept.{current_tracks}
+use Rattle.record_body.specs.Batches.{with_point}
+use Rattle.record_body.specs.declared.body.Body.{Body}
+use Rattle.record_body.specs.Kept.{current_tracks}
+use Rattle.record_body.specs.Numbers.{BodyAgrees}
+use Rattle.record_body.proofs.Agreeing.{again_agrees}
 use Rattle.editor_core.specs.Bodies.{body_bytes}
 use Rattle.editor_core.specs.Core.{core_of}
 use Rattle.editor_core.proofs.Rows.{again_waits}
 use Rattle.editor_core.proofs.studio.Studio.write_again.Goals as goal
+
+pub write_record-requires : goal.write_record-requires
+write_record-requires g c =
+    let current = current_tracks (core_of c.args.self.now).history in
+    record {
+      numbers = subst (λ (b : Body). BodyAgrees current b) (sym c.in_ok-again.ensures)
+          (again_agrees current c.args.body.now c.requires.again);
+    }
 
 pub returns-clause-rows : goal.returns-clause-rows
 returns-clause-rows g c =

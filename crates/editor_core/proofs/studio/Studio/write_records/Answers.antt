@@ -1,11 +1,20 @@
 -- The last record comes after those that say the current point.
-use Rattle.std.proofs.Common.{◌≡◌, ◌∙◌, ap, ℕ, List, [], ◌∷◌, ◌++◌, length, arith}
+use Rattle.std.proofs.Common.{◌≡◌, ◌∙◌, ap, ℕ, List, [], ◌∷◌, ◌++◌, length, arith, subst, sym}
 use Rattle.project_journal.specs.Journal.{opened}
-use Rattle.project_state.specs.Kept.{current_tracks}
+use Rattle.undo_history.specs.Stored.{Stored}
+use Rattle.project_state.specs.declared.track.Track.{Track}
+use Rattle.record_body.specs.Kept.{current_tracks}
+use Rattle.record_body.specs.Numbers.{BodyAgrees}
 use Rattle.editor_core.specs.Bodies.{body_bytes}
 use Rattle.editor_core.specs.Core.{Core, core_of}
 use Rattle.editor_core.proofs.Rows.{all_wait, last_short}
 use Rattle.editor_core.proofs.studio.Studio.write_records.Goals as goal
+
+pub write_record-requires : goal.write_record-requires
+write_record-requires g c = record {
+  numbers = subst (λ (h : Stored (List Track)). BodyAgrees (current_tracks h.history) c.args.body.now)
+      (sym c.write_again.ensures.history) c.requires.numbers;
+}
 
 pub add_record-requires : goal.add_record-requires
 add_record-requires g c =

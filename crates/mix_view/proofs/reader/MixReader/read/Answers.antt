@@ -7,7 +7,7 @@ use Rattle.pcm_base.specs.declared.sound.Frame.{Frame}
 use Rattle.pcm_base.specs.Arithmetic.{counted_from}
 use Rattle.pcm_base.specs.Cells.{Project}
 use Rattle.pcm_base.specs.Mix.{frame_at, mix_length, mix_of}
-use Rattle.project_state.specs.Kept.{meant, point_blocks}
+use Rattle.project_state.specs.Meaning.{meant, point_blocks}
 use Rattle.cell_view.specs.Stored.{stored_of}
 use Rattle.cell_view.proofs.SeenLaws.{sound_in}
 use Rattle.mix_view.proofs.CountLaws.{made_from}

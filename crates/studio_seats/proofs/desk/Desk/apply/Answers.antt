@@ -19,7 +19,7 @@ with-requires-clause-fits g c =
     (λ f'. move_of (name_in_line c.args.command.now) (g.V.Vault.holds c.args.vault.now) (g.V.Vault.holds f'.1.now))
     (λ more x others stood y is. (
       is_studio g.S.Store g.V.Vault (start_of c.args.self.now.turn) x y.now _ stood is,
-      c.requires.in_form,
+      (c.requires.in_form, c.requires.turn),
     ))
     (λ s f' x x' called. does_line g.S.Store _ _ _ _ _
     (λ all. all c.args.vault.now) called.called.met.1.0)

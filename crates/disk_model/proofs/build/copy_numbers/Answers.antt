@@ -1,9 +1,0 @@
--- The keys rise.
-use Rattle.std.proofs.Common.{◌≡◌, rules}
-use Rattle.disk_model.proofs.Names.{keys_rise}
-use Rattle.disk_model.proofs.build.copy_numbers.Goals as goal
-
-pub returns-clause-rising : goal.returns-clause-rising
-returns-clause-rising c =
-    let is : c.loop-file.out.items ≡ c.args.there.now.keys = search rules in
-    keys_rise _ _ is c.iter-file-items.ensures.ordered

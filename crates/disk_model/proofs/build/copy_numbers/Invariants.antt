@@ -1,6 +1,0 @@
--- What was copied and what is left are the keys.
-use Rattle.std.proofs.Common.{◌≡◌, ◌++◌}
-use Rattle.disk_model.proofs.build.copy_numbers.Given as goal
-
-abbrev pub invariant-loop-file : goal.invariant-loop-file
-invariant-loop-file l = l.out.items ++ l.file-iterator ≡ l.there.keys

@@ -1,0 +1,188 @@
+-- Blocks that were searched bring nothing new, and so do layouts whose numbers the point before has.
+use Rattle.std.proofs.Common.{◌≡◌, ◌==◌, ℕ, zero, suc, ◌+◌, Bool, true, false, inl, inr, ◌⊎◌, ⊎_elim, List}
+use Rattle.std.proofs.Common.{[], ◌∷◌, ◌++◌, Option, Some, None, refl, sym, ap, subst, ◌∙◌, arith}
+use Rattle.std.specs.Prelude.{nat_lt, nat_le, ◌&&◌, if◌then◌else◌, slice_get}
+use Rattle.std.specs.List.{AllByRecursion}
+use Rattle.std.proofs.lemmas.Bool.{and_from, or_left, or_right, eq-eqb, eqb-true, lt-ltb, le-leb}
+use Rattle.pcm_base.specs.declared.block.BlockRef.{BlockRef}
+use Rattle.sample_block.specs.Spelling.{size_of}
+use Rattle.clip_track.specs.declared.clips.Clip.{Clip}
+use Rattle.clip_track.specs.Clips.{layout_blocks}
+use Rattle.project_state.specs.declared.track.Track.{Track}
+use Rattle.project_state.specs.Meaning.{point_blocks}
+use Rattle.layout_uses.specs.Laws.{AreAmong, IsAmong}
+use Rattle.layout_uses.specs.Layouts.{Agree, AgreesWith, AreNumbered}
+use Rattle.layout_uses.proofs.Numbers.{among_agrees}
+use Rattle.editor_recovery.specs.Sizes.{IsUpTo, is_up_to, earlier, one_more, first_wrong, IsSearched, AreSearched}
+use Rattle.editor_recovery.proofs.Wrong.{IsRight, order_trans, earlier_new, earlier_old}
+
+-- ---- one block
+
+up_to_is : (a b : BlockRef) → IsUpTo a b → is_up_to a b ≡ true
+up_to_is a b (inl lt) = or_left (nat_lt a.id b.id) (a.id == b.id && nat_le a.len b.len) (lt-ltb a.id b.id lt)
+up_to_is a b (inr e) = or_right (nat_lt a.id b.id) (a.id == b.id && nat_le a.len b.len)
+    (and_from (a.id == b.id) (nat_le a.len b.len) (eq-eqb a.id b.id e.0) (le-leb a.len b.len e.1))
+
+-- what was found comes before the block, or is it
+abbrev Covers : Option BlockRef → BlockRef → Type 0
+Covers None b = ⊥
+Covers (Some a) b = IsUpTo a b
+
+covered : (sizes : ℕ → ℕ) (found : Option BlockRef) (b : BlockRef) → IsSearched sizes found b
+    → IsRight sizes b ⊎ Covers found b
+covered sizes found b is = step (sizes b.id == size_of b.len) (eqb-true (sizes b.id) (size_of b.len)) is
+  where
+    step : (t : Bool) → (t ≡ true → IsRight sizes b) → (if t then found else Some (earlier found b)) ≡ found
+        → IsRight sizes b ⊎ Covers found b
+    step true right same = inl (right refl)
+    step false right same = inr (subst (λ (f : Option BlockRef). Covers f b) same (earlier_new found b))
+
+searched_of : (sizes : ℕ → ℕ) (found : Option BlockRef) (b : BlockRef) → IsRight sizes b ⊎ Covers found b
+    → IsSearched sizes found b
+searched_of sizes found b (inl right) =
+    ap (λ (t : Bool). if t then found else Some (earlier found b)) (eq-eqb (sizes b.id) (size_of b.len) right)
+searched_of sizes None b (inr covers) = absurd covers
+searched_of sizes (Some a) b (inr up) = step (sizes b.id == size_of b.len)
+  where
+    step : (t : Bool) → (if t then Some a else Some (earlier (Some a) b)) ≡ Some a
+    step true = refl
+    step false = ap (λ (t : Bool). Some (if t then a else b)) (up_to_is a b up)
+
+covers_more : (sizes : ℕ → ℕ) (found : Option BlockRef) (c b : BlockRef) → Covers found b
+    → Covers (one_more sizes found c) b
+covers_more sizes None c b covers = absurd covers
+covers_more sizes (Some a) c b up = step (sizes c.id == size_of c.len)
+  where
+    step : (t : Bool) → Covers (if t then Some a else Some (earlier (Some a) c)) b
+    step true = up
+    step false = order_trans (earlier (Some a) c) a b (earlier_old a c) up
+
+searched_more : (sizes : ℕ → ℕ) (found : Option BlockRef) (c b : BlockRef) → IsSearched sizes found b
+    → IsSearched sizes (one_more sizes found c) b
+searched_more sizes found c b is = searched_of sizes (one_more sizes found c) b
+    (⊎_elim (λ right. inl right) (λ covers. inr (covers_more sizes found c b covers)) (covered sizes found b is))
+
+searched_one : (sizes : ℕ → ℕ) (found : Option BlockRef) (b : BlockRef) → IsSearched sizes (one_more sizes found b) b
+searched_one sizes found b = searched_of sizes (one_more sizes found b) b
+    (step (sizes b.id == size_of b.len) (eqb-true (sizes b.id) (size_of b.len)))
+  where
+    step : (t : Bool) → (t ≡ true → IsRight sizes b)
+        → IsRight sizes b ⊎ Covers (if t then found else Some (earlier found b)) b
+    step true right = inl (right refl)
+    step false right = inr (earlier_new found b)
+
+-- ---- blocks
+
+still_one : (sizes : ℕ → ℕ) (found : Option BlockRef) (cs : List BlockRef) (b : BlockRef) → IsSearched sizes found b
+    → IsSearched sizes (first_wrong sizes found cs) b
+still_one sizes found [] b is = is
+still_one sizes found (c ∷ cs) b is = still_one sizes (one_more sizes found c) cs b (searched_more sizes found c b is)
+
+-- as the search goes on
+pub still_searched : (sizes : ℕ → ℕ) (found : Option BlockRef) (cs bs : List BlockRef) → AreSearched sizes found bs
+    → AreSearched sizes (first_wrong sizes found cs) bs
+still_searched sizes found cs [] all = tt
+still_searched sizes found cs (b ∷ bs) all =
+    (still_one sizes found cs b all.0, still_searched sizes found cs bs all.1)
+
+-- the blocks that it went through
+pub searched_all : (sizes : ℕ → ℕ) (found : Option BlockRef) (bs : List BlockRef)
+    → AreSearched sizes (first_wrong sizes found bs) bs
+searched_all sizes found [] = tt
+searched_all sizes found (b ∷ bs) = (
+  still_one sizes (one_more sizes found b) bs b (searched_one sizes found b),
+  searched_all sizes (one_more sizes found b) bs,
+)
+
+pub nothing_new : (sizes : ℕ → ℕ) (found : Option BlockRef) (bs : List BlockRef) → AreSearched sizes found bs
+    → first_wrong sizes found bs ≡ found
+nothing_new sizes found [] all = refl
+nothing_new sizes found (b ∷ bs) all =
+    ap (λ (f : Option BlockRef). first_wrong sizes f bs) all.0 ∙ nothing_new sizes found bs all.1
+
+-- ---- blocks of clips and of tracks
+
+all_split : (Q : BlockRef → Type 0) (xs ys : List BlockRef) → AllByRecursion Q (xs ++ ys)
+    → AllByRecursion Q xs × AllByRecursion Q ys
+all_split Q [] ys all = (tt, all)
+all_split Q (x ∷ xs) ys all = let rest = all_split Q xs ys all.1 in ((all.0, rest.0), rest.1)
+
+pub clip_part : (Q : BlockRef → Type 0) (cs : List Clip) (i : ℕ) (c : Clip) → slice_get cs i ≡ Some c
+    → AllByRecursion Q (layout_blocks cs) → AllByRecursion Q c.blocks
+clip_part Q [] i c here all = absurd cc
+clip_part Q (d ∷ ds) zero c here all =
+    let same : d ≡ c = cc in
+    subst (λ (x : Clip). AllByRecursion Q x.blocks) same (all_split Q d.blocks (layout_blocks ds) all).0
+clip_part Q (d ∷ ds) (suc i) c here all = clip_part Q ds i c here (all_split Q d.blocks (layout_blocks ds) all).1
+
+pub track_part : (Q : BlockRef → Type 0) (ts : List Track) (i : ℕ) (t : Track) → slice_get ts i ≡ Some t
+    → AllByRecursion Q (point_blocks ts) → AllByRecursion Q (layout_blocks t.layout)
+track_part Q [] i t here all = absurd cc
+track_part Q (u ∷ us) zero t here all =
+    let same : u ≡ t = cc in
+    subst (λ (x : Track). AllByRecursion Q (layout_blocks x.layout)) same
+    (all_split Q (layout_blocks u.layout) (point_blocks us) all).0
+track_part Q (u ∷ us) (suc i) t here all =
+    track_part Q us i t here (all_split Q (layout_blocks u.layout) (point_blocks us) all).1
+
+pub track_holds : (P : Track → Type 0) (ts : List Track) (i : ℕ) (t : Track) → slice_get ts i ≡ Some t
+    → AllByRecursion P ts → P t
+track_holds P [] i t here all = absurd cc
+track_holds P (u ∷ us) zero t here all = let same : u ≡ t = cc in subst P same all.0
+track_holds P (u ∷ us) (suc i) t here all = track_holds P us i t here all.1
+
+-- ---- layouts of one number
+
+agree_one : (t u : Track) (ts : List Track) → AgreesWith t ts → IsAmong u ts → Agree t u
+agree_one t u [] agree among = absurd among
+agree_one t u (v ∷ vs) agree among = ⊎_elim
+    (λ same. subst (λ (x : Track). Agree t x) same agree.0)
+    (λ there. agree_one t u vs agree.1 there)
+    among
+
+agree_each : (t : Track) (us ts : List Track) → AgreesWith t ts → AreAmong us ts → AgreesWith t us
+agree_each t [] ts agree all = tt
+agree_each t (u ∷ us) ts agree all = (agree_one t u ts agree all.0, agree_each t us ts agree all.1)
+
+-- the tracks of two points of one history agree
+pub agree_points : (xs ys ts : List Track) → AreNumbered ts → AreAmong xs ts → AreAmong ys ts
+    → AllByRecursion (λ (t : Track). AgreesWith t ys) xs
+agree_points [] ys ts numbered these those = tt
+agree_points (x ∷ xs) ys ts numbered these those = (
+  agree_each x ys ts (among_agrees x ts numbered these.0) those,
+  agree_points xs ys ts numbered these.1 those,
+)
+
+pub agree_none : (ts : List Track) → AllByRecursion (λ (t : Track). AgreesWith t []) ts
+agree_none [] = tt
+agree_none (t ∷ ts) = (tt, agree_none ts)
+
+-- a layout that the point before has brings nothing new
+pub layout_searched : (sizes : ℕ → ℕ) (found : Option BlockRef) (before : List Track) (t u : Track)
+    → AgreesWith t before → AreSearched sizes found (point_blocks before) → IsAmong u before → u.number ≡ t.number
+    → first_wrong sizes found (layout_blocks t.layout) ≡ found
+layout_searched sizes found [] t u agree searched among same = absurd among
+layout_searched sizes found (v ∷ vs) t u agree searched among same =
+    let parts = all_split (IsSearched sizes found) (layout_blocks v.layout) (point_blocks vs) searched in
+    ⊎_elim
+    (λ is.
+    let number : t.number ≡ v.number = sym same ∙ ap (λ (x : Track). x.number) (sym is) in
+    nothing_new sizes found (layout_blocks t.layout)
+    (subst (λ (cs : List Clip). AreSearched sizes found (layout_blocks cs)) (sym (agree.0 number)) parts.0))
+    (λ there. layout_searched sizes found vs t u agree.1 parts.1 there same)
+    among
+
+-- ---- the point that was searched last
+
+some_is : {X : Type 0} (x y : X) → Some x ≡ Some y → x ≡ y
+some_is x y e = cc
+
+pub last_searched : (sizes : ℕ → ℕ) (found after : Option BlockRef) (ps : List (List Track)) (i : ℕ) (ts : List Track)
+    → slice_get ps i ≡ Some ts → after ≡ first_wrong sizes found (point_blocks ts)
+    → (k : ℕ) (p : List Track) → k + 1 ≡ i + 1 → slice_get ps k ≡ Some p → AreSearched sizes after (point_blocks p)
+last_searched sizes found after ps i ts here is k p on there =
+    let same : k ≡ i = omega (arith, on) in
+    let one : p ≡ ts = some_is p ts (sym there ∙ ap (λ (n : ℕ). slice_get ps n) same ∙ here) in
+    subst (λ (f : Option BlockRef). AreSearched sizes f (point_blocks p)) (sym is)
+    (subst (λ (q : List Track). AreSearched sizes (first_wrong sizes found (point_blocks ts)) (point_blocks q)) (sym one)
+    (searched_all sizes found (point_blocks ts)))

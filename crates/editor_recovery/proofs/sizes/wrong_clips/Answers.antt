@@ -1,0 +1,40 @@
+-- One clip more is searched.
+use Rattle.std.proofs.Common.{◌+◌, List, Option, refl, drop, sym, ap, subst, ◌∙◌}
+use Rattle.std.specs.List.{All}
+use Rattle.std.proofs.lemmas.Option.{slice_get_read}
+use Rattle.std.proofs.lemmas.List.Elements.{All-from_recursion, recursion_from_All}
+use Rattle.pcm_base.specs.declared.block.BlockRef.{BlockRef}
+use Rattle.clip_track.specs.declared.clips.Clip.{Clip}
+use Rattle.clip_track.specs.Clips.{layout_blocks}
+use Rattle.record_body.proofs.KeptBounds.{IsBlockRef}
+use Rattle.project_state.proofs.Points.{drop_some}
+use Rattle.editor_recovery.specs.Measured.{size_in}
+use Rattle.editor_recovery.specs.Sizes.{first_wrong}
+use Rattle.editor_recovery.proofs.Searched.{clip_part}
+use Rattle.editor_recovery.proofs.Wrong.{wrong_append}
+use Rattle.editor_recovery.proofs.sizes.wrong_clips.Goals as goal
+
+pub wrong_among-found-requires : goal.wrong_among-found-requires
+wrong_among-found-requires c =
+    let cs = c.args.clips.now in
+    let clip = c.clip-item.result in
+    let here = slice_get_read cs _ c.loop-clip.clip-index clip refl c.loop-clip-test.true c.clip-item.is in
+    subst (λ (bs : List BlockRef). All IsBlockRef bs) (sym c.as_slice.ensures.value)
+    (All-from_recursion IsBlockRef clip.blocks
+    (clip_part IsBlockRef cs c.loop-clip.clip-index clip here
+    (recursion_from_All IsBlockRef (layout_blocks cs) c.requires)))
+
+pub loop-clip-preserved : goal.loop-clip-preserved
+loop-clip-preserved c =
+    let cs = c.args.clips.now in
+    let clip = c.clip-item.result in
+    let sizes = size_in c.args.sizes.now in
+    let found = c.loop-clip.found in
+    let rest = layout_blocks (drop (c.loop-clip.clip-index + 1) cs) in
+    let here = slice_get_read cs _ c.loop-clip.clip-index clip refl c.loop-clip-test.true c.clip-item.is in
+    ap (λ (f : Option BlockRef). first_wrong sizes f rest) (c.wrong_among-found.ensures
+    ∙ ap (first_wrong sizes found) c.as_slice.ensures.value)
+    ∙ sym (wrong_append sizes found clip.blocks rest)
+    ∙ ap (λ (ds : List Clip). first_wrong sizes found (layout_blocks ds))
+    (sym (drop_some cs c.loop-clip.clip-index clip here))
+    ∙ c.loop-clip.invariant

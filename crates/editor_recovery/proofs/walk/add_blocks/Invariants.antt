@@ -1,7 +1,0 @@
--- The blocks of the clips so far, and of those that are left.
-use Rattle.std.proofs.Common.{◌≡◌, ◌++◌, drop}
-use Rattle.clip_track.specs.Clips.{layout_blocks}
-use Rattle.editor_recovery.proofs.walk.add_blocks.Given as goal
-
-abbrev pub invariant-loop-i : goal.invariant-loop-i
-invariant-loop-i l = l.out.items ++ layout_blocks (drop l.i l.clips) ≡ l.fn.out.items ++ layout_blocks l.clips

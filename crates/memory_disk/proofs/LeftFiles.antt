@@ -1,0 +1,279 @@
+-- What the draws leave of a file, call by call, and that it is an image.
+use Rattle.std.proofs.Common.{◌≡◌, ◌≢◌, ◌⊎◌, inl, inr, ⊎_elim, ℕ, ◌+◌, ◌-◌, ◌≤◌, ◌<◌, max, Bool, true, false, Option}
+use Rattle.std.proofs.Common.{Some, None, List, [], ◌∷◌, length, replicate, get_or, eqb, refl, sym, ◌∙◌, ap, subst}
+use Rattle.std.proofs.Common.{arith, length-append}
+use Rattle.std.proofs.lemmas.Bool.{cases_eq, cases_lt, cond-true}
+use Rattle.std.proofs.lemmas.Bool.Decides.{nat_tests}
+use Rattle.std.proofs.lemmas.List.{get_or-take, length-replicate, length-take-le}
+use Rattle.std.proofs.lemmas.Grind.{same_number_lists}
+use Rattle.disk_model.specs.Disk.{bytes_of, written, Torn, TornFile}
+use Rattle.memory_disk.specs.History.{Step, Wrote, Synced, Removed, IsImage, IsFileImage, reads_of}
+use Rattle.memory_disk.specs.Histories.{same_eq, length-written, reads_is_image, reads_written, reads_elsewhere}
+use Rattle.memory_disk.specs.Histories.{reads_removed, elsewhere_removed}
+use Rattle.memory_disk.specs.Images.{Left, takes, next_state, grown, laid, left_by_write, left_by_removal, after_write}
+use Rattle.memory_disk.specs.Images.{after_removal, left_of, state_at, image_of, synced_of, IsLeft}
+use Rattle.memory_disk.proofs.Following.{torn_file_none}
+use Rattle.memory_disk.proofs.Images.{image_from_files, image_to_file, torn_by_index}
+use Rattle.memory_disk.proofs.Windows.{get_or-zeros, written_before, written_inside, written_after}
+
+-- one call more, on this file or on another
+pub wrote_here : (choice at : ℕ) (bytes : List ℕ) (h : List Step) (f start : ℕ)
+    → left_of choice f (Wrote f at bytes ∷ h) start ≡ after_write choice at bytes (left_of choice f h start)
+wrote_here choice at bytes h f start =
+    cond-true (eqb f f) (after_write choice at bytes (left_of choice f h start)) (left_of choice f h start) (same_eq f)
+
+pub wrote_other : (choice file at : ℕ) (bytes : List ℕ) (h : List Step) (f start : ℕ) → f ≢ file
+    → left_of choice f (Wrote file at bytes ∷ h) start ≡ left_of choice f h start
+wrote_other choice file at bytes h f start ne = grind (arith, nat_tests, ne)
+
+pub synced_here : (choice : ℕ) (h : List Step) (f start : ℕ)
+    → left_of choice f (Synced f ∷ h) start ≡ record { content = reads_of h f; state = start }
+synced_here choice h f start =
+    cond-true (eqb f f) (record { content = reads_of h f; state = start }) (left_of choice f h start) (same_eq f)
+
+pub synced_other : (choice file : ℕ) (h : List Step) (f start : ℕ) → f ≢ file
+    → left_of choice f (Synced file ∷ h) start ≡ left_of choice f h start
+synced_other choice file h f start ne = grind (arith, nat_tests, ne)
+
+pub removed_here : (choice : ℕ) (h : List Step) (f start : ℕ)
+    → left_of choice f (Removed f ∷ h) start ≡ after_removal choice (left_of choice f h start)
+removed_here choice h f start =
+    cond-true (eqb f f) (after_removal choice (left_of choice f h start)) (left_of choice f h start) (same_eq f)
+
+pub removed_other : (choice file : ℕ) (h : List Step) (f start : ℕ) → f ≢ file
+    → left_of choice f (Removed file ∷ h) start ≡ left_of choice f h start
+removed_other choice file h f start ne = grind (arith, nat_tests, ne)
+
+-- how long a part of a write makes a file
+pub length-grown : (b : Bool) (old : List ℕ) (end : ℕ)
+    → (length old ≤ length (grown b old end)) × (length (grown b old end) ≤ max (length old) end)
+length-grown true old end =
+    let size = length-append old (replicate (end - length old) 0) in
+    let more = length-replicate {A = ℕ} (end - length old) 0 in (omega (arith, size, more), omega (arith, size, more))
+length-grown false old end = (omega arith, omega arith)
+
+pub get_or-grown : (b : Bool) (old : List ℕ) (end i : ℕ) → get_or (grown b old end) i 0 ≡ get_or old i 0
+get_or-grown true old end i = get_or-zeros old (end - length old) i
+get_or-grown false old end i = refl
+
+pub length-laid : (b : Bool) (old : List ℕ) (at : ℕ) (bytes : List ℕ) → length (laid b old at bytes) ≡ length old
+length-laid true old at bytes =
+    length-take-le (length old) (written old at bytes) (omega (arith, length-written old at bytes))
+length-laid false old at bytes = refl
+
+pub laid_before : (b : Bool) (old : List ℕ) (at : ℕ) (bytes : List ℕ) (i : ℕ) → i < length old → i < at
+    → get_or (laid b old at bytes) i 0 ≡ get_or old i 0
+laid_before true old at bytes i here lt =
+    get_or-take (length old) (written old at bytes) i 0 here ∙ written_before old at bytes i lt
+laid_before false old at bytes i here lt = refl
+
+pub laid_after : (b : Bool) (old : List ℕ) (at : ℕ) (bytes : List ℕ) (i : ℕ) → i < length old → at + length bytes ≤ i
+    → get_or (laid b old at bytes) i 0 ≡ get_or old i 0
+laid_after true old at bytes i here le =
+    get_or-take (length old) (written old at bytes) i 0 here ∙ written_after old at bytes i le
+laid_after false old at bytes i here le = refl
+
+-- a part of a write is a torn write
+torn_part : (b l : Bool) (old : List ℕ) (at : ℕ) (bytes : List ℕ)
+    → Torn at (length bytes) old (laid b (grown l old (at + length bytes)) at bytes)
+torn_part b l old at bytes =
+    let end = at + length bytes in
+    let long = grown l old end in
+    let size = length-laid b long at bytes in
+    let bounds = length-grown l old end in
+    torn_by_index at (length bytes) old (laid b long at bytes) (omega (arith, size, bounds.0))
+    (omega (arith, size, bounds.1))
+    (λ i here lt. laid_before b long at bytes i (omega (arith, bounds.0)) lt ∙ get_or-grown l old end i)
+    (λ i here le. laid_after b long at bytes i (omega (arith, bounds.0)) le ∙ get_or-grown l old end i)
+
+torn_made : (old : Option (List ℕ)) (new : List ℕ) (at n : ℕ) → Torn at n (bytes_of old) new
+    → TornFile at n old (Some new)
+torn_made None new at n torn = torn
+torn_made (Some old) new at n torn = torn
+
+left_torn : (b l : Bool) (old : Option (List ℕ)) (at : ℕ) (bytes : List ℕ)
+    → TornFile at (length bytes) old (left_by_write b l old at bytes)
+left_torn true true old at bytes = torn_made old _ at (length bytes) (torn_part true true (bytes_of old) at bytes)
+left_torn true false old at bytes = torn_made old _ at (length bytes) (torn_part true false (bytes_of old) at bytes)
+left_torn false true old at bytes = torn_made old _ at (length bytes) (torn_part false true (bytes_of old) at bytes)
+left_torn false false old at bytes = torn_file_none at (length bytes) old
+
+left_gone : (b : Bool) (old : Option (List ℕ)) → (left_by_removal b old ≡ old) ⊎ (left_by_removal b old ≡ None)
+left_gone true old = inr refl
+left_gone false old = inl refl
+
+-- what is left of a file is an image of it
+pub left_is_image : (choice f start : ℕ) (h : List Step) → IsFileImage f h (left_of choice f h start).content
+left_is_image choice f start [] = refl
+left_is_image choice f start (Wrote file at bytes ∷ h) =
+    let was = left_of choice f h start in
+    let now = left_of choice f (Wrote file at bytes ∷ h) start in (
+      was.content,
+      left_is_image choice f start h,
+      (λ same. subst (λ (x : Option (List ℕ)). TornFile at (length bytes) was.content x)
+          (ap (λ (left : Left). left.content) (sym (wrote_here choice at bytes h f start)
+          ∙ ap (λ (g : ℕ). left_of choice f (Wrote g at bytes ∷ h) start) same))
+          (left_torn (takes choice (next_state was.state))
+          (takes choice (next_state (next_state was.state))) was.content at bytes)),
+      (λ ne. ap (λ (left : Left). left.content) (wrote_other choice file at bytes h f start ne)),
+    )
+left_is_image choice f start (Synced file ∷ h) = ⊎_elim
+    (λ same. subst (λ (g : ℕ). IsFileImage f (Synced g ∷ h) (left_of choice f (Synced g ∷ h) start).content) same
+    (subst (λ (x : Option (List ℕ)). IsFileImage f (Synced f ∷ h) x)
+    (sym (ap (λ (left : Left). left.content) (synced_here choice h f start)))
+    (image_to_file h (reads_of h) f (reads_is_image h), λ _. refl)))
+    (λ ne. (
+      subst (λ (x : Option (List ℕ)). IsFileImage f h x) (sym (ap (λ (left : Left). left.content)
+          (synced_other choice file h f start ne))) (left_is_image choice f start h),
+      (λ same. absurd (ne same)),
+    ))
+    (cases_eq f file)
+left_is_image choice f start (Removed file ∷ h) =
+    let was = left_of choice f h start in (
+      was.content,
+      left_is_image choice f start h,
+      (λ same. subst (λ (x : Option (List ℕ)). (x ≡ was.content) ⊎ (x ≡ None))
+          (ap (λ (left : Left). left.content)
+          (sym (removed_here choice h f start) ∙ ap (λ (g : ℕ). left_of choice f (Removed g ∷ h) start) same))
+          (left_gone (takes choice (next_state was.state)) was.content)),
+      (λ ne. ap (λ (left : Left). left.content) (removed_other choice file h f start ne)),
+    )
+
+pub image_is_image : (choice : ℕ) (h : List Step) → IsImage h (image_of choice h)
+image_is_image choice h = image_from_files h (image_of choice h) (λ f. left_is_image choice f (state_at choice h f) h)
+
+-- Choice 0 takes all.
+pub takes_all : (state : ℕ) → takes 0 state ≡ true
+unfolding takes
+takes_all state = refl
+
+-- a write whose bytes and length are taken is the write
+all_written : (old : List ℕ) (at : ℕ) (bytes : List ℕ)
+    → laid true (grown true old (at + length bytes)) at bytes ≡ written old at bytes
+all_written old at bytes =
+    let end = at + length bytes in
+    let long = grown true old end in
+    let size = length-append old (replicate (end - length old) 0) in
+    let more = length-replicate {A = ℕ} (end - length old) 0 in
+    let laid_size = length-laid true long at bytes in
+    let written_size = length-written old at bytes in
+    same_number_lists (laid true long at bytes) (written old at bytes)
+    (omega (arith, laid_size, written_size, size, more)) (λ i lt.
+    get_or-take (length long) (written long at bytes) i 0 (omega (arith, laid_size))
+    ∙ ⊎_elim
+    (λ less. written_before long at bytes i less ∙ get_or-grown true old end i
+    ∙ sym (written_before old at bytes i less))
+    (λ from. ⊎_elim
+    (λ within. written_inside long at bytes i from within ∙ sym (written_inside old at bytes i from within))
+    (λ past. written_after long at bytes i past ∙ get_or-grown true old end i ∙ sym (written_after old at bytes i past))
+    (cases_lt i end))
+    (cases_lt i at))
+
+write_taken : (b l : Bool) (old : Option (List ℕ)) (at : ℕ) (bytes : List ℕ) → b ≡ true → l ≡ true
+    → left_by_write b l old at bytes ≡ Some (written (bytes_of old) at bytes)
+write_taken true true old at bytes p q = ap (λ (x : List ℕ). Some x) (all_written (bytes_of old) at bytes)
+write_taken true false old at bytes p q = cc q
+write_taken false l old at bytes p q = cc p
+
+removal_taken : (b : Bool) (old : Option (List ℕ)) → b ≡ true → left_by_removal b old ≡ None
+removal_taken true old p = refl
+removal_taken false old p = cc p
+
+all_left : (f start : ℕ) (h : List Step) → (left_of 0 f h start).content ≡ reads_of h f
+all_left f start [] = refl
+all_left f start (Wrote file at bytes ∷ h) =
+    let was = left_of 0 f h start in
+    ⊎_elim
+    (λ same.
+    subst (λ (g : ℕ). (left_of 0 f (Wrote g at bytes ∷ h) start).content ≡ reads_of (Wrote g at bytes ∷ h) f) same
+    (ap (λ (left : Left). left.content) (wrote_here 0 at bytes h f start)
+    ∙ write_taken (takes 0 (next_state was.state)) (takes 0 (next_state (next_state was.state))) was.content at bytes
+    (takes_all _) (takes_all _)
+    ∙ ap (λ (x : Option (List ℕ)). Some (written (bytes_of x) at bytes)) (all_left f start h)
+    ∙ sym (reads_written f at bytes h)))
+    (λ ne. ap (λ (left : Left). left.content) (wrote_other 0 file at bytes h f start ne) ∙ all_left f start h
+    ∙ sym (reads_elsewhere file at bytes h f ne))
+    (cases_eq f file)
+all_left f start (Synced file ∷ h) = ⊎_elim
+    (λ same. subst (λ (g : ℕ). (left_of 0 f (Synced g ∷ h) start).content ≡ reads_of h f) same
+    (ap (λ (left : Left). left.content) (synced_here 0 h f start)))
+    (λ ne. ap (λ (left : Left). left.content) (synced_other 0 file h f start ne) ∙ all_left f start h)
+    (cases_eq f file)
+all_left f start (Removed file ∷ h) =
+    let was = left_of 0 f h start in
+    ⊎_elim
+    (λ same. subst (λ (g : ℕ). (left_of 0 f (Removed g ∷ h) start).content ≡ reads_of (Removed g ∷ h) f) same
+    (ap (λ (left : Left). left.content) (removed_here 0 h f start)
+    ∙ removal_taken (takes 0 (next_state was.state)) was.content (takes_all _) ∙ sym (reads_removed f h)))
+    (λ ne. ap (λ (left : Left). left.content) (removed_other 0 file h f start ne) ∙ all_left f start h
+    ∙ sym (elsewhere_removed file h f ne))
+    (cases_eq f file)
+
+pub image_0 : (h : List Step) → image_of 0 h ≡ reads_of h
+image_0 h = λ i f. all_left f (state_at 0 h f) h i
+
+-- Choice 1 takes nothing.
+pub takes_nothing : (state : ℕ) → takes 1 state ≡ false
+unfolding takes
+takes_nothing state = refl
+
+write_left : (b l : Bool) (old : Option (List ℕ)) (at : ℕ) (bytes : List ℕ) → b ≡ false → l ≡ false
+    → left_by_write b l old at bytes ≡ old
+write_left true l old at bytes p q = cc p
+write_left false true old at bytes p q = cc q
+write_left false false old at bytes p q = refl
+
+removal_left : (b : Bool) (old : Option (List ℕ)) → b ≡ false → left_by_removal b old ≡ old
+removal_left true old p = cc p
+removal_left false old p = refl
+
+none_left : (f start : ℕ) (h : List Step) → (left_of 1 f h start).content ≡ synced_of h f
+none_left f start [] = refl
+none_left f start (Wrote file at bytes ∷ h) =
+    let was = left_of 1 f h start in
+    ⊎_elim
+    (λ same. subst (λ (g : ℕ). (left_of 1 f (Wrote g at bytes ∷ h) start).content ≡ synced_of h f) same
+    (ap (λ (left : Left). left.content) (wrote_here 1 at bytes h f start)
+    ∙ write_left (takes 1 (next_state was.state)) (takes 1 (next_state (next_state was.state))) was.content at bytes
+    (takes_nothing _) (takes_nothing _)
+    ∙ none_left f start h))
+    (λ ne. ap (λ (left : Left). left.content) (wrote_other 1 file at bytes h f start ne) ∙ none_left f start h)
+    (cases_eq f file)
+none_left f start (Synced file ∷ h) = ⊎_elim
+    (λ same. subst (λ (g : ℕ). (left_of 1 f (Synced g ∷ h) start).content ≡ synced_of (Synced g ∷ h) f) same
+    (ap (λ (left : Left). left.content) (synced_here 1 h f start)
+    ∙ sym (cond-true (eqb f f) (reads_of h f) (synced_of h f) (same_eq f))))
+    (λ ne. ap (λ (left : Left). left.content) (synced_other 1 file h f start ne) ∙ none_left f start h
+    ∙ sym (sync_elsewhere file h f ne))
+    (cases_eq f file)
+  where
+    sync_elsewhere : (file : ℕ) (h : List Step) (f : ℕ) → f ≢ file → synced_of (Synced file ∷ h) f ≡ synced_of h f
+    sync_elsewhere file h f ne = grind (arith, nat_tests, ne)
+none_left f start (Removed file ∷ h) =
+    let was = left_of 1 f h start in
+    ⊎_elim
+    (λ same. subst (λ (g : ℕ). (left_of 1 f (Removed g ∷ h) start).content ≡ synced_of h f) same
+    (ap (λ (left : Left). left.content) (removed_here 1 h f start)
+    ∙ removal_left (takes 1 (next_state was.state)) was.content (takes_nothing _) ∙ none_left f start h))
+    (λ ne. ap (λ (left : Left). left.content) (removed_other 1 file h f start ne) ∙ none_left f start h)
+    (cases_eq f file)
+
+pub image_1 : (h : List Step) → image_of 1 h ≡ synced_of h
+image_1 h = λ i f. none_left f (state_at 1 h f) h i
+
+-- a file at its last sync, or with no call at all, has no draw before
+pub settled_none : (choice f start : ℕ) → IsLeft choice f [] start None start
+settled_none choice f start = record { is = refl }
+
+pub settled_synced : (choice f start : ℕ) (h : List Step)
+    → IsLeft choice f (Synced f ∷ h) start (reads_of (Synced f ∷ h) f) start
+settled_synced choice f start h = record { is = synced_here choice h f start }
+
+-- what is left after all calls of the file
+pub left_content : {choice f start state : ℕ} {h : List Step} {content : Option (List ℕ)}
+    → IsLeft choice f h start content state → content ≡ (left_of choice f h start).content
+left_content left = ap (λ (l : Left). l.content) (sym left.is)
+
+pub left_state : {choice f start state : ℕ} {h : List Step} {content : Option (List ℕ)}
+    → IsLeft choice f h start content state → state ≡ (left_of choice f h start).state
+left_state left = ap (λ (l : Left). l.state) (sym left.is)

@@ -1,0 +1,102 @@
+-- Files that no call wrote or removed.
+use Rattle.std.proofs.Common.{◌≡◌, ◌≢◌, ⊎_elim, ℕ, ◌+◌, ◌<◌, Option, None, List, ◌∷◌, length, get_or, refl, sym, ◌∙◌}
+use Rattle.std.proofs.Common.{ap, subst, arith, true, false}
+use Rattle.std.proofs.lemmas.Bool.{cases_eq}
+use Rattle.std.specs.Prelude.{Contains}
+use Rattle.std.specs.List.Sorted.{IsStrictlyIncreasing, IsStrictlySortedBy}
+use Rattle.std.specs.Ordering.{nat_cmp}
+use Rattle.std.specs.BTreeSet.{BTreeSet, contains, Updates}
+use Rattle.std.proofs.lemmas.Bool.Decides.{nat_tests}
+use Rattle.std.proofs.lemmas.Grind.{common_steps}
+use Rattle.std.proofs.lemmas.List.{get_or_default}
+use Rattle.std.proofs.lemmas.Map.Keys.{below_from_sorted}
+use Rattle.std.proofs.lemmas.Map.Views.{btree_set_contains_iff}
+use Rattle.std.proofs.lemmas.Map.Lookups.{exact_unsigned}
+use Rattle.std.proofs.lemmas.Cmp.{nat_cmp_total}
+use Rattle.disk_model.specs.Disk.{Files}
+use Rattle.memory_disk.specs.History.{Step, Synced, reads_of}
+use Rattle.memory_disk.specs.Images.{IsUnnamed, left_of}
+use Rattle.memory_disk.specs.Histories.{reads_elsewhere, elsewhere_removed}
+use Rattle.memory_disk.specs.Calls.{step_by}
+use Rattle.memory_disk.specs.Settled.{IsBuilt}
+use Rattle.memory_disk.specs.declared.call.Kind.{Kind}
+use Rattle.memory_disk.specs.declared.call.Kind.TheVariants.{Write, Sync, Remove}
+use Rattle.memory_disk.proofs.LeftFiles.{wrote_other, synced_here, synced_other, removed_other}
+
+pub still_absent : (k f : ℕ) (s n : BTreeSet ℕ) → Updates nat_cmp s n k true → contains nat_cmp n f ≡ false
+    → (k ≢ f) × (contains nat_cmp s f ≡ false)
+still_absent k f s n u absent = (
+  (λ e. let h : contains nat_cmp n k ≡ true = grind (arith, common_steps, nat_tests, u.0 k) in cc (h, absent, e)),
+  (let h = u.0 f in grind (arith, common_steps, nat_tests, h, absent)),
+)
+
+-- a call on another file leaves this one
+pub other_next : (k : Kind) (file at : ℕ) (bytes : List ℕ) (h : List Step) (f : ℕ) → file ≢ f
+    → IsUnnamed h f × (reads_of h f ≡ None)
+    → IsUnnamed (step_by k file at bytes ∷ h) f × (reads_of (step_by k file at bytes ∷ h) f ≡ None)
+other_next Write file at bytes h f ne was = (
+  (λ choice start. wrote_other choice file at bytes h f start (λ e. ne (sym e)) ∙ was.0 choice start),
+  reads_elsewhere file at bytes h f (λ e. ne (sym e)) ∙ was.1,
+)
+other_next Sync file at bytes h f ne was =
+    ((λ choice start. synced_other choice file h f start (λ e. ne (sym e)) ∙ was.0 choice start), was.1)
+other_next Remove file at bytes h f ne was = (
+  (λ choice start. removed_other choice file h f start (λ e. ne (sym e)) ∙ was.0 choice start),
+  elsewhere_removed file h f (λ e. ne (sym e)) ∙ was.1,
+)
+
+-- a sync names no file
+pub sync_next : (file at : ℕ) (bytes : List ℕ) (h : List Step) (f : ℕ) → IsUnnamed h f × (reads_of h f ≡ None)
+    → IsUnnamed (step_by Sync file at bytes ∷ h) f × (reads_of (step_by Sync file at bytes ∷ h) f ≡ None)
+sync_next file at bytes h f was = ⊎_elim
+    (λ same. (
+      (λ choice start. subst (λ (g : ℕ). left_of choice f (Synced g ∷ h) start ≡ record {
+        content = None;
+        state = start;
+      }) same
+          (synced_here choice h f start ∙ ap (λ (o : Option (List ℕ)). record { content = o; state = start }) was.1)),
+      was.1,
+    ))
+    (λ ne. other_next Sync file at bytes h f (λ e. ne (sym e)) was)
+    (cases_eq f file)
+
+-- the keys of a set are what it contains
+pub not_listed : (s : BTreeSet ℕ) (numbers : List ℕ) (f : ℕ) → numbers ≡ s.keys → (Contains numbers f → ⊥)
+    → contains nat_cmp s f ≡ false
+not_listed s numbers f is out =
+    let both = btree_set_contains_iff nat_cmp_total exact_unsigned s f in
+    elim (contains nat_cmp s f) as (λ b. contains nat_cmp s f ≡ b → contains nat_cmp s f ≡ false) [
+      | true ↦ λ is_there. absurd (out (subst (λ (l : List ℕ). Contains l f) (sym is) (both.0 is_there)))
+      | false ↦ λ absent. absent
+    ] refl
+
+-- what is built is the disk, where that has no other files
+pub built_all : (s : BTreeSet ℕ) (numbers : List ℕ) (disk : Files) (new : List Step) → numbers ≡ s.keys
+    → ((f : ℕ) → contains nat_cmp s f ≡ false → disk f ≡ None)
+    → IsBuilt numbers (length numbers) disk new → reads_of new ≡ disk
+built_all s numbers disk new is none built = λ i f. each f i
+  where
+    found : (f : ℕ) → Contains numbers f → reads_of new f ≡ disk f
+    found f there =
+        let number : get_or numbers there.0 0 ≡ f = get_or_default numbers there.0 0 f there.1 ∙ there.2 in
+        subst (λ (g : ℕ). reads_of new g ≡ disk g) number (built.there there.0 there.1)
+
+    missing : (f : ℕ) → contains nat_cmp s f ≡ false → (k : ℕ) → k < length numbers → get_or numbers k 0 ≢ f
+    missing f absent k lt e =
+        let both = btree_set_contains_iff nat_cmp_total exact_unsigned s f in
+        let here : Contains numbers f = (k, lt, get_or_default numbers k f 0 lt ∙ e) in
+        let is_there : contains nat_cmp s f ≡ true = both.1 (subst (λ (l : List ℕ). Contains l f) is here) in
+        cc (is_there, absent)
+
+    each : (f : ℕ) → reads_of new f ≡ disk f
+    each f =
+        let both = btree_set_contains_iff nat_cmp_total exact_unsigned s f in
+        elim (contains nat_cmp s f) as (λ b. contains nat_cmp s f ≡ b → reads_of new f ≡ disk f) [
+          | true ↦ λ is_there. found f (subst (λ (l : List ℕ). Contains l f) (sym is) (both.0 is_there))
+          | false ↦ λ absent. built.absent f (missing f absent) ∙ sym (none f absent)
+        ] refl
+
+-- the keys of a set rise
+pub keys_rise : (out keys : List ℕ) → out ≡ keys → IsStrictlySortedBy nat_cmp keys → IsStrictlyIncreasing out
+keys_rise out keys is ordered =
+    subst IsStrictlyIncreasing (sym is) (λ k lt. below_from_sorted keys k (k + 1) 0 ordered (omega arith) lt)

@@ -1,0 +1,36 @@
+-- One call more, until all are there.
+use Rattle.std.proofs.Common.{◌≡◌, ℕ, length, List, sym, subst, arith}
+use Rattle.std.specs.Prelude.{vec_len}
+use Rattle.memory_disk.specs.Index.{IsIndexed, reads_at, file_at}
+use Rattle.memory_disk.specs.declared.heads.Head.{Head}
+use Rattle.memory_disk.proofs.Noted.{indexed_none}
+use Rattle.memory_disk.proofs.index.index_of.Goals as goal
+
+pub loop-index-init : goal.loop-index-init
+loop-index-init c =
+    let none = c.in_ok-index.ensures.none in
+    let empty = c.in_ok-index.ensures.empty in
+    record {
+      bound = omega (arith, empty.1);
+      indexed = indexed_none c.args.row.now c.args.calls.now _ _ _ empty.1 none.0 none.1;
+    }
+
+pub loop-index-preserved : goal.loop-index-preserved
+loop-index-preserved c =
+    let more = c.in_ok-note.ensures in
+    record {
+      bound = omega (arith, more.len);
+      indexed = subst (λ (k : ℕ). IsIndexed (reads_at c.args.row.now c.args.calls.now) (file_at c.args.calls.now) k
+          c.note.new.self.heads.items c.note.new.self.links.items) (sym more.len) more.indexed;
+    }
+
+pub returns-clause-indexed : goal.returns-clause-indexed
+returns-clause-indexed c =
+    let done = c.loop-index.invariant in
+    let all : vec_len c.loop-index.index.links ≡ length c.args.calls.now = omega (arith, done.bound) in
+    subst (λ (l : List Head). IsIndexed (reads_at c.args.row.now c.args.calls.now) (file_at c.args.calls.now)
+    (length c.args.calls.now) l c.reserve_exact-2.new.self.items) (sym c.in_ok-reserve_exact.ensures.items)
+    (subst (λ (l : List ℕ). IsIndexed (reads_at c.args.row.now c.args.calls.now) (file_at c.args.calls.now)
+    (length c.args.calls.now) c.loop-index.index.heads.items l) (sym c.in_ok-reserve_exact-2.ensures.items)
+    (subst (λ (k : ℕ). IsIndexed (reads_at c.args.row.now c.args.calls.now)
+    (file_at c.args.calls.now) k c.loop-index.index.heads.items c.loop-index.index.links.items) all done.indexed))

@@ -1,0 +1,10 @@
+-- The files so far that are there.
+use Rattle.std.proofs.Common.{◌≡◌, map, take}
+use Rattle.std.specs.Prelude.{is_some}
+use Rattle.std.specs.List.{filter}
+use Rattle.memory_disk.specs.declared.heads.Head.{Head}
+use Rattle.memory_disk.proofs.listing.list_files.Given as goal
+
+abbrev pub invariant-loop-head : goal.invariant-loop-head
+invariant-loop-head l =
+    l.out.items ≡ map (λ (h : Head). h.file) (filter (λ (h : Head). is_some h.size) (take l.head-index l.heads))

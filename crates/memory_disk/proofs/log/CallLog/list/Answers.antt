@@ -1,0 +1,20 @@
+-- The files that have a size are there.
+use Rattle.std.proofs.Common.{◌≡◌, List, sym, ap, ◌∙◌}
+use Rattle.std.specs.Prelude.{is_some}
+use Rattle.std.proofs.lemmas.Result.{on_ok_weaker}
+use Rattle.memory_disk.specs.History.{reads_of}
+use Rattle.memory_disk.specs.Index.{head_of, size_from}
+use Rattle.memory_disk.specs.Ram.{Log}
+use Rattle.memory_disk.specs.declared.heads.Head.{Head}
+use Rattle.memory_disk.proofs.ReadChain.{there_read}
+use Rattle.memory_disk.proofs.log.CallLog.list.Goals as goal
+
+pub returns-clause-listed : goal.returns-clause-listed
+returns-clause-listed c = on_ok_weaker c.list_files.result (λ listed n.
+    let there : is_some (size_from (head_of c.deref.result.now n)) ≡ is_some (reads_of c.args.self.now.history n) =
+    ap (λ (l : List Head). is_some (size_from (head_of l n))) c.deref.ensures.value
+    ∙ there_read _ _ _ _ c.self.invariant.indexed n
+    ∙ ap (λ (log : Log). is_some (reads_of log.history n)) c.self.view_is in (
+      (λ found. sym there ∙ (listed n).0 found),
+      (λ some. (listed n).1 (there ∙ some)),
+    )) c.list_files.ensures.listed

@@ -1,0 +1,92 @@
+-- The mix of the tracks that the model loads is the project's from their place on.
+use Rattle.std.proofs.Common.{◌≡◌, ◌<◌, ◌≤◌, ◌+◌, ◌-◌, ℕ, ℤ, pos, List, [], ◌∷◌, Bool, true, false, map, min}
+use Rattle.std.proofs.Common.{get_or, refl, sym, ap, ap₂, ◌∙◌, arith}
+use Rattle.std.specs.Prelude.{◌+ℤ◌, if◌then◌else◌}
+use Rattle.std.proofs.lemmas.List.FromFn.{get_or-map-range_with_len, length-map-range_with_len}
+use Rattle.pcm_base.specs.declared.sound.Cell.{Cell}
+use Rattle.pcm_base.specs.declared.sound.Cell.TheVariants.{Gap}
+use Rattle.pcm_base.specs.declared.sound.Side.{Side}
+use Rattle.pcm_base.specs.Arithmetic.{counted_from}
+use Rattle.pcm_base.specs.Cells.{Project, Track, longest}
+use Rattle.pcm_base.specs.Mix.{frame_at, is_on_left, is_on_right, loaded_of, loaded_track, mix_length, mix_of}
+use Rattle.pcm_base.specs.Mix.{stretch_of, unmuted, weight}
+use Rattle.mixdown.specs.Laid.{left_sum, right_sum}
+use Rattle.mixdown.specs.Loads.{heard_track}
+use Rattle.mixdown.specs.Sums.{limited}
+use Rattle.mixdown.proofs.LaidLaws.{left_first, right_first}
+use Rattle.mixdown.proofs.StretchLaws.{left_of, right_of, same_counted}
+
+-- this many cells of each track that is heard, as tracks of the model
+abbrev loaded_by : (from k : ℕ) → Project → Project
+loaded_by from k p = map heard_track (map (loaded_track from k) (unmuted p))
+
+stretch_cell : (from k i : ℕ) (t : Track) → i < k → get_or (stretch_of from k t) i Gap ≡ get_or t.cells (from + i) Gap
+stretch_cell from k i t lt =
+    get_or-map-range_with_len (λ j. get_or t.cells j Gap) from k i (from + i) Gap lt refl
+
+left_one : (from k i id gain : ℕ) (side : Side) (mute : Bool) (cells : List Cell) (ts : Project) → i < k
+    → left_sum (loaded_by from k ts) i ≡ left_sum ts (from + i)
+    → left_sum
+    (loaded_by from k (record { id = id; gain = gain; side = side; mute = mute; cells = cells } ∷ ts)) i
+    ≡ left_sum (record { id = id; gain = gain; side = side; mute = mute; cells = cells } ∷ ts) (from + i)
+left_one from k i id gain side true cells ts lt rest = rest
+left_one from k i id gain side false cells ts lt rest =
+    let t : Track = record { id = id; gain = gain; side = side; mute = false; cells = cells } in
+    left_first gain side (stretch_of from k t) (loaded_by from k ts) i
+    ∙ ap₂ (λ (c : Cell) (z : ℤ). (if is_on_left side then weight gain c else pos 0) +ℤ z)
+    (stretch_cell from k i t lt) rest
+    ∙ sym (left_of id gain side false cells ts (from + i))
+
+left_loaded : (from k i : ℕ) (ts : Project) → i < k → left_sum (loaded_by from k ts) i ≡ left_sum ts (from + i)
+left_loaded from k i [] lt = refl
+left_loaded from k i (t ∷ ts) lt =
+    left_one from k i t.id t.gain t.side t.mute t.cells ts lt (left_loaded from k i ts lt)
+
+right_one : (from k i id gain : ℕ) (side : Side) (mute : Bool) (cells : List Cell) (ts : Project) → i < k
+    → right_sum (loaded_by from k ts) i ≡ right_sum ts (from + i)
+    → right_sum
+    (loaded_by from k (record { id = id; gain = gain; side = side; mute = mute; cells = cells } ∷ ts)) i
+    ≡ right_sum (record { id = id; gain = gain; side = side; mute = mute; cells = cells } ∷ ts) (from + i)
+right_one from k i id gain side true cells ts lt rest = rest
+right_one from k i id gain side false cells ts lt rest =
+    let t : Track = record { id = id; gain = gain; side = side; mute = false; cells = cells } in
+    right_first gain side (stretch_of from k t) (loaded_by from k ts) i
+    ∙ ap₂ (λ (c : Cell) (z : ℤ). (if is_on_right side then weight gain c else pos 0) +ℤ z)
+    (stretch_cell from k i t lt) rest
+    ∙ sym (right_of id gain side false cells ts (from + i))
+
+right_loaded : (from k i : ℕ) (ts : Project) → i < k → right_sum (loaded_by from k ts) i ≡ right_sum ts (from + i)
+right_loaded from k i [] lt = refl
+right_loaded from k i (t ∷ ts) lt =
+    right_one from k i t.id t.gain t.side t.mute t.cells ts lt (right_loaded from k i ts lt)
+
+loaded_frame : (from k i : ℕ) (p : Project) → i < k → frame_at (loaded_by from k p) i ≡ frame_at p (from + i)
+loaded_frame from k i p lt = ap₂ limited (left_loaded from k i p lt) (right_loaded from k i p lt)
+
+-- how long they are
+few_loaded : (from k : ℕ) (ts : Project) → longest (unmuted (map heard_track (map (loaded_track from k) ts))) ≤ k
+few_loaded from k [] = omega arith
+few_loaded from k (t ∷ ts) =
+    omega (arith, length-map-range_with_len (λ j. get_or t.cells j Gap) from k, few_loaded from k ts)
+
+long_loaded : (from k : ℕ) (t : Track) (ts : Project)
+    → longest (unmuted (map heard_track (map (loaded_track from k) (t ∷ ts)))) ≡ k
+long_loaded from k t ts =
+    omega (arith, length-map-range_with_len (λ j. get_or t.cells j Gap) from k, few_loaded from k ts)
+
+loaded_length : (from most : ℕ) (ts : Project)
+    → longest (unmuted (map heard_track (map (loaded_track from (min most (longest ts - from))) ts)))
+    ≡ min most (longest ts - from)
+loaded_length from most [] = omega arith
+loaded_length from most (t ∷ ts) = long_loaded from (min most (longest (t ∷ ts) - from)) t ts
+
+-- the frames from there on, as many as there are
+pub loaded_mix : (from most : ℕ) (p : Project)
+    → mix_of (map heard_track (loaded_of from most p))
+    ≡ map (frame_at p) (counted_from from (min most (mix_length p - from)))
+loaded_mix from most p =
+    let k : ℕ = min most (mix_length p - from) in
+    ap (λ n. map (frame_at (loaded_by from k p)) (counted_from 0 n)) (loaded_length from most (unmuted p))
+    ∙ same_counted (frame_at (loaded_by from k p)) (frame_at p) 0 from k (λ j lt.
+    let start : 0 + j ≡ j = omega arith in
+    ap (frame_at (loaded_by from k p)) start ∙ loaded_frame from k j p lt)

@@ -1,7 +1,0 @@
--- The blocks so far are common, and so are those that are found after them.
-use Rattle.std.proofs.Common.{◌≡◌, ◌+◌, drop}
-use Rattle.project_state.specs.Changes.{common}
-use Rattle.project_state.proofs.changes.common_len.Given as goal
-
-abbrev pub invariant-loop-i : goal.invariant-loop-i
-invariant-loop-i l = l.i + common (drop l.i l.old) (drop l.i l.new) ≡ common l.old l.new

@@ -1,0 +1,104 @@
+-- The records of pieces that come together lead to the point of the last.
+use Rattle.std.proofs.Common.{◌≡◌, refl, sym, ap, subst, ◌∙◌, ℕ, zero, suc, ◌+◌, ◌^◌, ◌≤◌, ◌<◌, List, [], ◌∷◌, ◌++◌}
+use Rattle.std.proofs.Common.{length, drop, arith}
+use Rattle.pcm_base.specs.History.{History, recorded}
+use Rattle.model_laws.proofs.Again.{recorded_again, recorded_depth, recorded_last}
+use Rattle.record_body.specs.declared.body.Body.{Body}
+use Rattle.record_body.specs.declared.body.Body.TheVariants.{Edit}
+use Rattle.project_state.specs.declared.track.Track.{Track}
+use Rattle.record_body.specs.Batches.{after_bodies, bodies_in}
+use Rattle.record_body.specs.Changes.{spelling_in}
+use Rattle.record_body.specs.Kept.{IsNextIn, Kept, LeadIn, MayFollow, after_body, before_of, current_tracks}
+use Rattle.record_body.specs.Kept.{first_tracks}
+use Rattle.record_body.specs.Laws.{BatchesLead, HasShortEnds}
+use Rattle.record_body.specs.Sound.{IsSound}
+use Rattle.record_body.proofs.DeltaBack.{delta_read_back}
+use Rattle.record_body.proofs.ToldBack.{are_short}
+
+-- a sound body, as a journal of this version has it, may come next
+pub next_in : (version m : ℕ) (k : Kept) (body : Body) → 1 ≤ version → version ≤ 3 → 4 ≤ m → m < 2 ^ 32
+    → k.commit < 2 ^ 62 → HasShortEnds (current_tracks k.history) → IsSound m (before_of k) body
+    → MayFollow k.history body
+    → IsNextIn version m k (spelling_in version (current_tracks k.history) body) body
+next_in zero m k body least most large small room short sound follows = absurd (omega (arith, least))
+next_in (suc zero) m k body least most large small room short sound follows =
+    record { spelled = refl; sound = sound; follows = follows }
+next_in (suc (suc zero)) m k body least most large small room short sound follows =
+    let current = current_tracks k.history in
+    let back = delta_read_back m (before_of k) current body large small room (are_short current short) sound in
+    record { tests = back.tests; says = back.says; sound = sound; follows = follows }
+next_in (suc (suc (suc zero))) m k body least most large small room short sound follows =
+    let current = current_tracks k.history in
+    let back = delta_read_back m (before_of k) current body large small room (are_short current short) sound in
+    record { tests = back.tests; says = back.says; sound = sound; follows = follows }
+next_in (suc (suc (suc (suc n)))) m k body least most large small room short sound follows =
+    absurd (omega (arith, most))
+
+last_tracks : (front : List (List Track × ℕ)) (x : List Track × ℕ)
+    → first_tracks (drop (length front) (front ++ x ∷ [])) ≡ x.0
+last_tracks [] x = refl
+last_tracks (y ∷ ys) x = last_tracks ys x
+
+-- a point that was recorded is the current one
+pub recorded_tracks : (h : History (List Track)) (point : List Track) (tag : ℕ) → 1 ≤ h.depth
+    → current_tracks (recorded h point tag) ≡ point
+recorded_tracks h point tag some =
+    let at = recorded_last h point tag some in ap current_tracks at.1 ∙ last_tracks at.0 (point, tag)
+
+module _ (version m tag next_block next_track : ℕ) (current point : List Track) (least : 1 ≤ version) (most : version ≤ 3)
+    (large : 4 ≤ m) (small : m < 2 ^ 32) (numbered : 1 ≤ tag) (short : HasShortEnds current) where
+  abbrev still : Body
+  still = Edit tag next_block next_track current
+
+  abbrev last : Body
+  last = Edit tag next_block next_track point
+
+  next_by : (k : Kept) (body : Body) → current_tracks k.history ≡ current → k.commit < 2 ^ 62
+      → IsSound m (before_of k) body → MayFollow k.history body → IsNextIn version m k (spelling_in version current body) body
+  next_by k body is room sound follows =
+      subst (λ (ts : List Track). IsNextIn version m k (spelling_in version ts body) body) is
+      (next_in version m k body least most large small room (subst HasShortEnds (sym is) short) sound follows)
+
+  -- what is sound stays so after one of these records
+  later : (k : Kept) (ts : List Track) → IsSound m (before_of k) (Edit tag next_block next_track ts)
+      → IsSound m (before_of (after_body k still)) (Edit tag next_block next_track ts)
+  later k ts is = record {
+    tag_number = is.tag_number;
+    tag_given = omega (arith, is.tag_given);
+    block_least = is.block_least;
+    block_most = is.block_most;
+    block_later = omega arith;
+    track_least = is.track_least;
+    track_most = is.track_most;
+    track_later = omega arith;
+    few = is.few;
+    rising = is.rising;
+    sound = is.sound;
+    unnumbered = is.unnumbered;
+  }
+
+  pub leads : (more : ℕ) (k : Kept) → current_tracks k.history ≡ current → 1 ≤ k.history.depth
+      → k.commit + more < 2 ^ 62 → IsSound m (before_of k) still → IsSound m (before_of k) last
+      → LeadIn version m k (bodies_in version current more last) (after_bodies k more last)
+  leads zero k is some room one end = (last, next_by k last is (omega (arith, room)) end tt, refl)
+  leads (suc more) k is some room one end =
+      let mid = after_body k still in
+      let depth = subst (λ (d : ℕ). 1 ≤ d) (sym (recorded_depth k.history current tag)) some in
+      let again = recorded_again k.history current point tag some numbered in
+      let count : k.commit + 1 + suc more ≡ k.commit + suc (suc more) = omega arith in
+      let told = leads more mid (recorded_tracks k.history current tag some) depth (omega (arith, room))
+      (later k current one) (later k point end) in (
+        still,
+        next_by k still is (omega (arith, room)) one tt,
+        subst (λ (z : History (List Track) × ℕ). LeadIn version m mid (bodies_in version current more last) (record {
+          history = z.0;
+          next_block = next_block;
+          next_track = next_track;
+          commit = z.1;
+        })) (λ i. (again i, count i)) told,
+      )
+
+pub batches_lead : BatchesLead
+batches_lead version m more k tag next_block next_track point least most large small some numbered room short one end =
+    leads version m tag next_block next_track (current_tracks k.history) point least most large small numbered short more
+    k refl some room one end

@@ -1,0 +1,187 @@
+-- Blocks and clips that meet their bounds pass their tests and are read back.
+use Rattle.std.proofs.Common.{◌≡◌, ℕ, ◌+◌, ◌^◌, ◌≤◌, ◌<◌, Bool, List, [], ◌∷◌, ◌++◌, length}
+use Rattle.std.proofs.Common.{drop, nat_lt, refl, sym, ap, ap₂, subst, ◌∙◌}
+use Rattle.std.proofs.Common.{arith, append_assoc, length-append}
+use Rattle.std.specs.List.{flat_map}
+use Rattle.byteorder.specs.Endian.{little_bytes}
+use Rattle.pcm_base.specs.declared.block.BlockRef.{BlockRef}
+use Rattle.pcm_base.specs.Blocks.{blocks_len}
+use Rattle.clip_track.specs.declared.clips.Clip.{Clip}
+use Rattle.clip_track.specs.Clips.{clip_end}
+use Rattle.project_journal.specs.Fields.{field}
+use Rattle.record_body.proofs.Parts.{length_clip}
+use Rattle.record_body.specs.declared.limits.Limits.{Limits}
+use Rattle.record_body.specs.Places.{blocks_at, lens_at, block_count, clip_at, clip_end_at, clip_size, clips_at}
+use Rattle.record_body.specs.Places.{clips_size}
+use Rattle.record_body.specs.Spelling.{block_bytes, clip_bytes}
+use Rattle.record_body.specs.FirstFault.{least_len, block_tests, blocks_tests, clip_head_tests, clip_tests, clips_tests}
+use Rattle.record_body.proofs.FieldsBack.{NoneFails, both_pass, least_passes, most_passes, no_test, number_there, past}
+
+-- a block that meets its bounds, after this many cells
+pub record IsGoodBlock (l : Limits) (several : Bool) (before : ℕ) (b : BlockRef) : Type 0 where
+  pub sound : 16 ≤ b.id
+  pub given : b.id < l.next_block
+  pub short : before + b.len ≤ 2 ^ 32
+  pub some : 1 ≤ b.len
+  pub fits : b.len ≤ l.block_size
+  pub enough : least_len l.block_size several ≤ b.len
+
+abbrev pub AreGoodBlocks : Limits → Bool → ℕ → List BlockRef → Type 0
+AreGoodBlocks l several before [] = Unit {0}
+AreGoodBlocks l several before (b ∷ bs) = IsGoodBlock l several before b × AreGoodBlocks l several (before + b.len) bs
+
+record HasBlock (b : BlockRef) (at : ℕ) (bytes rest : List ℕ) : Type 0 where
+  id : field at 8 bytes ≡ b.id
+  len : field (at + 8) 4 bytes ≡ b.len
+  left : drop (at + 12) bytes ≡ rest
+
+has_block : (b : BlockRef) (at : ℕ) (bytes rest : List ℕ) → b.id < 2 ^ 64 → b.len < 2 ^ 32
+    → drop at bytes ≡ block_bytes b ++ rest → HasBlock b at bytes rest
+has_block b at bytes rest i n e =
+    let behind = past at (at + 8) bytes (little_bytes 8 b.id) (little_bytes 4 b.len ++ rest) e refl in
+    record {
+      id = number_there 8 b.id at bytes (little_bytes 4 b.len ++ rest) e i;
+      len = number_there 4 b.len (at + 8) bytes rest behind n;
+      left = past (at + 8) (at + 12) bytes (little_bytes 4 b.len) rest behind (omega arith);
+    }
+
+block_passes : (l : Limits) (several : Bool) (before : ℕ) (b : BlockRef) (at : ℕ) (bytes rest : List ℕ)
+    → IsGoodBlock l several before b → HasBlock b at bytes rest → NoneFails (block_tests l several before at bytes)
+block_passes l several before b at bytes rest good has =
+    least_passes _ _ _ _ _ has.id good.sound
+    (most_passes _ _ _ _ _ has.id (omega (arith, good.given))
+    (most_passes _ _ _ _ _ has.len (omega (arith, good.short))
+    (least_passes _ _ _ _ _ has.len good.some
+    (most_passes _ _ _ _ _ has.len good.fits
+    (least_passes _ _ _ _ _ has.len good.enough no_test)))))
+
+pub record HasBlocks (bs : List BlockRef) (at : ℕ) (bytes : List ℕ) : Type 0 where
+  pub blocks : blocks_at (length bs) at bytes ≡ bs
+  pub lens : lens_at (length bs) at bytes ≡ blocks_len bs
+
+-- the bounds by which ids and lengths fit their fields
+pub record AreNarrow (l : Limits) : Type 0 where
+  pub ids : l.next_block ≤ 2 ^ 62
+  pub tracks : l.next_track ≤ 2 ^ 62
+  pub lens : l.block_size < 2 ^ 32
+
+good_has : (l : Limits) (several : Bool) (before : ℕ) (b : BlockRef) (at : ℕ) (bytes rest : List ℕ) → AreNarrow l
+    → IsGoodBlock l several before b → drop at bytes ≡ block_bytes b ++ rest → HasBlock b at bytes rest
+good_has l several before b at bytes rest narrow good e =
+    has_block b at bytes rest (omega (arith, narrow.ids, good.given)) (omega (arith, narrow.lens, good.fits)) e
+
+pub has_blocks : (l : Limits) (several : Bool) (before : ℕ) (bs : List BlockRef) (at : ℕ) (bytes rest : List ℕ)
+    → AreNarrow l → AreGoodBlocks l several before bs → drop at bytes ≡ flat_map block_bytes bs ++ rest
+    → HasBlocks bs at bytes
+has_blocks l several before [] at bytes rest narrow good e = record { blocks = refl; lens = refl }
+has_blocks l several before (b ∷ bs) at bytes rest narrow good e =
+    let one = good_has l several before b at bytes (flat_map block_bytes bs ++ rest) narrow good.0
+    (e ∙ append_assoc (block_bytes b) (flat_map block_bytes bs) rest) in
+    let more = has_blocks l several (before + b.len) bs (at + 12) bytes rest narrow good.1 one.left in
+    record {
+      blocks = ap₂ (λ (id len : ℕ). record { id = id; len = len } ∷ blocks_at (length bs) (at + 12) bytes) one.id
+          one.len ∙ ap (λ (r : List BlockRef). b ∷ r) more.blocks;
+      lens = ap₂ (λ (n k : ℕ). n + k) one.len more.lens;
+    }
+
+pub blocks_pass : (l : Limits) (several : Bool) (before : ℕ) (bs : List BlockRef) (at : ℕ) (bytes rest : List ℕ)
+    → AreNarrow l → AreGoodBlocks l several before bs → drop at bytes ≡ flat_map block_bytes bs ++ rest
+    → NoneFails (blocks_tests l several (length bs) before at bytes)
+blocks_pass l several before [] at bytes rest narrow good e = no_test
+blocks_pass l several before (b ∷ bs) at bytes rest narrow good e =
+    let one = good_has l several before b at bytes (flat_map block_bytes bs ++ rest) narrow good.0
+    (e ∙ append_assoc (block_bytes b) (flat_map block_bytes bs) rest) in
+    let more = blocks_pass l several (before + b.len) bs (at + 12) bytes rest narrow good.1 one.left in
+    both_pass (block_tests l several before at bytes) _ (block_passes l several before b at bytes _ good.0 one)
+    (subst (λ (n : ℕ). NoneFails (blocks_tests l several (length bs) (before + n) (at + 12) bytes)) (sym one.len) more)
+
+-- a clip that meets its bounds, from a cell on
+pub record IsGoodClip (l : Limits) (from : ℕ) (c : Clip) : Type 0 where
+  pub behind : from ≤ c.start
+  pub reached : c.start ≤ 2 ^ 32
+  pub some : 1 ≤ length c.blocks
+  pub few : length c.blocks < 2 ^ 32
+  pub blocks : AreGoodBlocks l (nat_lt 1 (length c.blocks)) c.start c.blocks
+
+abbrev pub AreGoodClips : Limits → ℕ → List Clip → Type 0
+AreGoodClips l from [] = Unit {0}
+AreGoodClips l from (c ∷ cs) = IsGoodClip l from c × AreGoodClips l (clip_end c + 1) cs
+
+record HasClip (c : Clip) (at : ℕ) (bytes rest : List ℕ) : Type 0 where
+  start : field at 8 bytes ≡ c.start
+  count : block_count at bytes ≡ length c.blocks
+  clip : clip_at at bytes ≡ c
+  end : clip_end_at at bytes ≡ clip_end c
+  size : clip_size at bytes ≡ length (clip_bytes c)
+  left : drop (at + clip_size at bytes) bytes ≡ rest
+  blocks : drop (at + 12) bytes ≡ flat_map block_bytes c.blocks ++ rest
+
+has_clip : (l : Limits) (from : ℕ) (c : Clip) (at : ℕ) (bytes rest : List ℕ) → AreNarrow l → IsGoodClip l from c
+    → drop at bytes ≡ clip_bytes c ++ rest → HasClip c at bytes rest
+has_clip l from c at bytes rest narrow good e =
+    let all = flat_map block_bytes c.blocks ++ rest in
+    let counted = past at (at + 8) bytes (little_bytes 8 c.start) (little_bytes 4 (length c.blocks) ++ all) e refl in
+    let blocks = past (at + 8) (at + 12) bytes (little_bytes 4 (length c.blocks)) all counted (omega arith) in
+    let start =
+    number_there 8 c.start at bytes (little_bytes 4 (length c.blocks) ++ all) e (omega (arith, good.reached)) in
+    let count = number_there 4 (length c.blocks) (at + 8) bytes all counted good.few in
+    let size : clip_size at bytes ≡ length (clip_bytes c) = omega (arith, count, length_clip c) in
+    let has =
+    has_blocks l (nat_lt 1 (length c.blocks)) c.start c.blocks (at + 12) bytes rest narrow good.blocks blocks in
+    record {
+      start = start;
+      count = count;
+      clip = ap₂ (λ (s : ℕ) (bs : List BlockRef). record { start = s; blocks = bs }) start
+          (ap (λ (n : ℕ). blocks_at n (at + 12) bytes) count ∙ has.blocks);
+      end = ap₂ (λ (n k : ℕ). n + k) start (ap (λ (n : ℕ). lens_at n (at + 12) bytes) count ∙ has.lens);
+      size = size;
+      left = past at (at + clip_size at bytes) bytes (clip_bytes c) rest e (omega (arith, size));
+      blocks = blocks;
+    }
+
+clip_passes : (l : Limits) (from : ℕ) (c : Clip) (at : ℕ) (bytes rest : List ℕ) → AreNarrow l → IsGoodClip l from c
+    → HasClip c at bytes rest → NoneFails (clip_tests l from at bytes)
+clip_passes l from c at bytes rest narrow good has =
+    let head : NoneFails (clip_head_tests l from at bytes) =
+    least_passes _ _ _ _ _ has.start good.behind
+    (most_passes _ _ _ _ _ has.start good.reached
+    (least_passes _ _ _ _ _ has.count good.some no_test)) in
+    let all = blocks_pass l (nat_lt 1 (length c.blocks)) c.start c.blocks
+    (at + 12) bytes rest narrow good.blocks has.blocks in
+    let counted =
+    subst (λ (n : ℕ). NoneFails (blocks_tests l (nat_lt 1 n) n c.start (at + 12) bytes)) (sym has.count) all in
+    both_pass (clip_head_tests l from at bytes) _ head
+    (subst (λ (n : ℕ). NoneFails (blocks_tests l (nat_lt 1 (block_count at bytes)) (block_count at bytes) n
+    (at + 12) bytes)) (sym has.start) counted)
+
+pub record HasClips (cs : List Clip) (at : ℕ) (bytes : List ℕ) : Type 0 where
+  pub clips : clips_at (length cs) at bytes ≡ cs
+  pub size : clips_size (length cs) at bytes ≡ length (flat_map clip_bytes cs)
+
+first_clip : (l : Limits) (from : ℕ) (c : Clip) (cs : List Clip) (at : ℕ) (bytes rest : List ℕ)
+    → AreNarrow l → IsGoodClip l from c → drop at bytes ≡ flat_map clip_bytes (c ∷ cs) ++ rest
+    → HasClip c at bytes (flat_map clip_bytes cs ++ rest)
+first_clip l from c cs at bytes rest narrow good e = has_clip l from c at bytes
+    (flat_map clip_bytes cs ++ rest) narrow good (e ∙ append_assoc (clip_bytes c) (flat_map clip_bytes cs) rest)
+
+pub has_clips : (l : Limits) (from : ℕ) (cs : List Clip) (at : ℕ) (bytes rest : List ℕ) → AreNarrow l
+    → AreGoodClips l from cs → drop at bytes ≡ flat_map clip_bytes cs ++ rest → HasClips cs at bytes
+has_clips l from [] at bytes rest narrow good e = record { clips = refl; size = refl }
+has_clips l from (c ∷ cs) at bytes rest narrow good e =
+    let one = first_clip l from c cs at bytes rest narrow good.0 e in
+    let more = has_clips l (clip_end c + 1) cs (at + clip_size at bytes) bytes rest narrow good.1 one.left in
+    record {
+      clips = ap₂ (λ (d : Clip) (ds : List Clip). d ∷ ds) one.clip more.clips;
+      size = omega (arith, one.size, more.size, length-append (clip_bytes c) (flat_map clip_bytes cs));
+    }
+
+pub clips_pass : (l : Limits) (from : ℕ) (cs : List Clip) (at : ℕ) (bytes rest : List ℕ)
+    → AreNarrow l → AreGoodClips l from cs → drop at bytes ≡ flat_map clip_bytes cs ++ rest
+    → NoneFails (clips_tests l (length cs) from at bytes)
+clips_pass l from [] at bytes rest narrow good e = no_test
+clips_pass l from (c ∷ cs) at bytes rest narrow good e =
+    let one = first_clip l from c cs at bytes rest narrow good.0 e in
+    let more = clips_pass l (clip_end c + 1) cs (at + clip_size at bytes) bytes rest narrow good.1 one.left in
+    both_pass (clip_tests l from at bytes) _ (clip_passes l from c at bytes _ narrow good.0 one)
+    (subst (λ (n : ℕ). NoneFails (clips_tests l (length cs) (n + 1) (at + clip_size at bytes) bytes))
+    (sym one.end) more)

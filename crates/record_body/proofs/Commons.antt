@@ -1,0 +1,90 @@
+-- What two lists of blocks, or of clips, have in common.
+use Rattle.std.proofs.Common.{◌≡◌, ℕ, suc, ◌+◌, ◌-◌, ◌<◌, ◌≤◌, get_or, min, Bool, true, false, inl, inr, ◌⊎◌, List, [], ◌∷◌, length, drop}
+use Rattle.std.proofs.Common.{refl, sym, ◌∙◌, ap, ap₂, arith, ◌&&◌}
+use Rattle.std.proofs.lemmas.Bool.{cases_Bool, cases_lt}
+use Rattle.std.proofs.lemmas.List.{drop_all}
+use Rattle.pcm_base.specs.declared.block.BlockRef.{BlockRef}
+use Rattle.clip_track.specs.declared.clips.Clip.{Clip}
+use Rattle.record_body.specs.Changes.{is_block, common, same_clip, same_clips, last_blocks, last_start}
+
+pub common_more : (xs ys : List BlockRef) (i : ℕ) (a b : BlockRef) → drop i xs ≡ a ∷ drop (i + 1) xs
+    → drop i ys ≡ b ∷ drop (i + 1) ys → is_block a b ≡ true
+    → common (drop i xs) (drop i ys) ≡ suc (common (drop (i + 1) xs) (drop (i + 1) ys))
+common_more xs ys i a b x y same = ap₂ common x y ∙ rw same refl
+
+pub common_stops : (xs ys : List BlockRef) (i : ℕ) (a b : BlockRef) → drop i xs ≡ a ∷ drop (i + 1) xs
+    → drop i ys ≡ b ∷ drop (i + 1) ys → is_block a b ≡ false → common (drop i xs) (drop i ys) ≡ 0
+common_stops xs ys i a b x y differ = ap₂ common x y ∙ rw differ refl
+
+common_nil : (xs : List BlockRef) → common xs [] ≡ 0
+common_nil [] = refl
+common_nil (x ∷ xs) = refl
+
+pub common_ends : (xs ys : List BlockRef) (i : ℕ) → min (length xs) (length ys) ≤ i
+    → common (drop i xs) (drop i ys) ≡ 0
+common_ends xs ys i past = by_case (drop i xs) (drop i ys) (ends xs ys i past)
+  where
+    ends : (xs ys : List BlockRef) (i : ℕ) → min (length xs) (length ys) ≤ i
+        → ((drop i xs ≡ []) ⊎ (drop i ys ≡ []))
+    ends xs ys i past = elim (cases_lt (length ys) (length xs)) [
+      | inl less ↦ inr (drop_all i ys (omega (arith, past, less)))
+      | inr most ↦ inl (drop_all i xs (omega (arith, past, most)))
+    ]
+
+    by_case : (a b : List BlockRef) → ((a ≡ []) ⊎ (b ≡ [])) → common a b ≡ 0
+    by_case a b (inl none) = ap (λ l. common l b) none
+    by_case a b (inr none) = ap (common a) none ∙ common_nil a
+
+pub common_least : (xs ys : List BlockRef) → common xs ys ≤ length xs
+common_least [] ys = omega arith
+common_least (x ∷ xs) [] = omega arith
+common_least (x ∷ xs) (y ∷ ys) = elim (cases_Bool (is_block x y)) [
+  | inl same ↦ rw same (omega (arith, common_least xs ys))
+  | inr differ ↦ rw differ (omega arith)
+]
+
+pub clips_more : (xs ys : List Clip) (i : ℕ) (a b : Clip) → drop i xs ≡ a ∷ drop (i + 1) xs
+    → drop i ys ≡ b ∷ drop (i + 1) ys → same_clip a b ≡ true
+    → same_clips (drop i xs) (drop i ys) ≡ same_clips (drop (i + 1) xs) (drop (i + 1) ys)
+clips_more xs ys i a b x y same = ap₂ same_clips x y ∙ rw same refl
+
+pub clips_differ : (xs ys : List Clip) (i : ℕ) (a b : Clip) → drop i xs ≡ a ∷ drop (i + 1) xs
+    → drop i ys ≡ b ∷ drop (i + 1) ys → same_clip a b ≡ false → same_clips (drop i xs) (drop i ys) ≡ false
+clips_differ xs ys i a b x y differ = ap₂ same_clips x y ∙ rw differ refl
+
+pub clips_end : (xs ys : List Clip) (i : ℕ) → length xs ≤ i → length ys ≤ i
+    → same_clips (drop i xs) (drop i ys) ≡ true
+clips_end xs ys i p q = ap₂ same_clips (drop_all i xs p) (drop_all i ys q)
+
+pub clips_unlike : (xs ys : List Clip) → (length xs ≡ length ys → ⊥) → same_clips xs ys ≡ false
+clips_unlike [] [] differ = absurd (differ refl)
+clips_unlike [] (y ∷ ys) differ = refl
+clips_unlike (x ∷ xs) [] differ = refl
+clips_unlike (x ∷ xs) (y ∷ ys) differ = both_false (same_clip x y) (same_clips xs ys)
+    (clips_unlike xs ys (λ same. differ (ap suc same)))
+  where
+    both_false : (a b : Bool) → b ≡ false → a && b ≡ false
+    both_false true b e = e
+    both_false false b e = refl
+
+-- the last clip
+pub record IsLast (c : Clip) (cs : List Clip) : Type 0 where
+  pub blocks : last_blocks cs ≡ c.blocks
+  pub start : last_start cs ≡ c.start
+
+pub last_at : (cs : List Clip) (c : Clip) → 0 < length cs → c ≡ get_or cs (length cs - 1) c → IsLast c cs
+last_at [] c some is = absurd (omega (arith, some))
+last_at (x ∷ []) c some is =
+    record { blocks = ap (λ (k : Clip). k.blocks) (sym is); start = ap (λ (k : Clip). k.start) (sym is) }
+last_at (x ∷ y ∷ cs) c some is =
+    let less : length (x ∷ y ∷ cs) - 1 ≡ suc (length (y ∷ cs) - 1) = omega arith in
+    let more = last_at (y ∷ cs) c (omega arith) (is ∙ ap (λ n. get_or (x ∷ y ∷ cs) n c) less) in
+    record { blocks = more.blocks; start = more.start }
+
+pub common_most : (xs ys : List BlockRef) → common xs ys ≤ length ys
+common_most [] ys = omega arith
+common_most (x ∷ xs) [] = omega arith
+common_most (x ∷ xs) (y ∷ ys) = elim (cases_Bool (is_block x y)) [
+  | inl same ↦ rw same (omega (arith, common_most xs ys))
+  | inr differ ↦ rw differ (omega arith)
+]

@@ -1,0 +1,72 @@
+-- A body that is written by the current point is hardly longer than one that is written out: by a byte a track.
+use Rattle.std.proofs.Common.{◌≡◌, ℕ, ◌+◌, ◌*◌, ◌≤◌, ◌<◌, ◌&&◌, inl, inr, List, [], ◌∷◌, length, drop, Option}
+use Rattle.std.proofs.Common.{Some, None, arith, length-append, length-drop}
+use Rattle.std.proofs.lemmas.Bool.{cases_Bool}
+use Rattle.std.specs.List.{flat_map}
+use Rattle.pcm_base.specs.Sizes.{project_body_most}
+use Rattle.pcm_base.specs.Pieces.{Sources}
+use Rattle.clip_track.specs.declared.clips.Clip.{Clip}
+use Rattle.clip_track.specs.Clips.{layout_blocks}
+use Rattle.record_body.specs.declared.body.Body.{Body}
+use Rattle.record_body.specs.declared.body.Body.TheVariants.{Edit, Undo, Redo, Purge}
+use Rattle.project_state.specs.declared.track.Track.{Track}
+use Rattle.record_body.specs.Changes.{change_of, change_bytes, heard_bytes, told_bytes, delta_spelling, last_blocks}
+use Rattle.record_body.specs.Changes.{same_settings, same_clips, same_but_last, common}
+use Rattle.project_state.specs.Meaning.{meant}
+use Rattle.record_body.specs.Lengths.{AreLayouts, AreHalfFull, told_tracks}
+use Rattle.record_body.specs.Spelling.{track_bytes, spelling}
+use Rattle.project_state.specs.Tracks.{track_of}
+use Rattle.record_body.proofs.Lengths.{clips_bytes, tracks_short_more}
+use Rattle.record_body.proofs.Parts.{length_blocks}
+
+last_few : (cs : List Clip) → length (last_blocks cs) ≤ length (layout_blocks cs)
+last_few [] = omega arith
+last_few (c ∷ []) = omega (arith, length-append c.blocks [])
+last_few (c ∷ d ∷ cs) = omega (arith, length-append c.blocks (layout_blocks (d ∷ cs)), last_few (d ∷ cs))
+
+heard_size : (t : Track) → length (heard_bytes t) ≡ 10 + 12 * length t.layout + 12 * length (layout_blocks t.layout)
+heard_size t = omega (arith, clips_bytes t.layout)
+
+change_most : (old : Option Track) (t : Track) → length (change_bytes (change_of old t)) ≤ 1 + length (heard_bytes t)
+change_most None t = omega arith
+change_most (Some o) t = elim (cases_Bool (same_settings o t && same_clips o.layout t.layout)) [
+  | inl same ↦ rw same (omega arith)
+  | inr differ ↦ elim (cases_Bool (same_settings o t && same_but_last o.layout t.layout)) [
+    | inl ends ↦
+        let k = common (last_blocks o.layout) (last_blocks t.layout) in
+        rw (differ, ends) (omega (
+          arith,
+          length_blocks (drop k (last_blocks t.layout)),
+          length-drop k (last_blocks t.layout),
+          last_few t.layout,
+          heard_size t,
+        ))
+    | inr other ↦ rw (differ, other) (omega arith)
+  ]
+]
+
+told_most : (current : List Track) (t : Track) → length (told_bytes current t) ≤ length (track_bytes t) + 1
+told_most current t = omega (arith, change_most (track_of t.id current) t)
+
+pub all_told_most : (current ts : List Track)
+    → length (flat_map (told_bytes current) ts) ≤ length (flat_map track_bytes ts) + length ts
+all_told_most current [] = omega arith
+all_told_most current (t ∷ ts) = omega (
+  arith,
+  length-append (told_bytes current t) (flat_map (told_bytes current) ts),
+  length-append (track_bytes t) (flat_map track_bytes ts),
+  told_most current t,
+  all_told_most current ts,
+)
+
+pub delta_most : (current : List Track) (body : Body)
+    → length (delta_spelling current body) ≤ length (spelling body) + length (told_tracks body)
+delta_most current (Edit tag next_block next_track ts) = omega (arith, all_told_most current ts)
+delta_most current Undo = omega arith
+delta_most current Redo = omega arith
+delta_most current (Purge n) = omega arith
+
+pub told_short : (src : Sources) (m : ℕ) (current ts : List Track) → 0 < m → length ts ≤ 64 → AreLayouts ts
+    → AreHalfFull m ts → 29 + length (flat_map (told_bytes current) ts) ≤ project_body_most m (meant src ts)
+told_short src m current ts some few all half =
+    omega (arith, all_told_most current ts, tracks_short_more src m ts some few all half)

@@ -1,0 +1,62 @@
+-- Numbers and bytes where they stand pass their tests.
+use Rattle.std.proofs.Common.{◌≡◌, ℕ, ◌+◌, ◌^◌, ◌≤◌, ◌<◌, eqb, List, [], ◌∷◌, ◌++◌, length}
+use Rattle.std.proofs.Common.{drop, slice_index, if◌then◌else◌, None, Some, refl, sym, ap, ◌∙◌}
+use Rattle.std.proofs.Common.{arith, drop-drop, get_or-drop, eq-eqb, inl, inr}
+use Rattle.std.proofs.Math.Seq.{drop-append_seam}
+use Rattle.std.proofs.lemmas.Bool.{cases_Bool}
+use Rattle.byteorder.specs.Endian.{little_number, little_bytes}
+use Rattle.byteorder.specs.Numbers.{little_number-reads_back}
+use Rattle.project_journal.specs.Fields.{field}
+use Rattle.project_journal.specs.Header.{first_failed}
+use Rattle.project_journal.specs.declared.fault.Damaged.{Damaged}
+use Rattle.record_body.specs.FirstFault.{least, most}
+
+-- a number where its bytes stand
+pub number_there : (n x at : ℕ) (bytes rest : List ℕ) → drop at bytes ≡ little_bytes n x ++ rest → x < 256 ^ n
+    → field at n bytes ≡ x
+number_there n x at bytes rest e small = ap (little_number n) e ∙ little_number-reads_back n x rest small
+
+-- a byte where it stands
+pub byte_there : (x at : ℕ) (bytes rest : List ℕ) → drop at bytes ≡ x ∷ rest → slice_index bytes at ≡ x
+byte_there x at bytes rest e =
+    ap (slice_index bytes) (omega arith) ∙ sym (get_or-drop at bytes 0 0) ∙ ap (λ (l : List ℕ). slice_index l 0) e
+
+-- what stands after a part
+pub past : (at to : ℕ) (bytes front rest : List ℕ) → drop at bytes ≡ front ++ rest → to ≡ at + length front
+    → drop to bytes ≡ rest
+past at to bytes front rest e is =
+    ap (λ (k : ℕ). drop k bytes) is ∙ sym (drop-drop (length front) at bytes) ∙ ap (drop (length front)) e
+    ∙ drop-append_seam front rest
+
+-- no test fails
+pub record NoneFails (tests : List Damaged) : Type 0 where
+  pub none : first_failed tests ≡ None
+
+pub no_test : NoneFails []
+no_test = record { none = refl }
+
+pub passes : (test : Damaged) (tests : List Damaged) → test.want ≡ test.have → NoneFails tests
+    → NoneFails (test ∷ tests)
+passes test tests same h = record { none = rw (eq-eqb test.want test.have same) h.none }
+
+-- a number that is at least, or at most, its bound
+pub least_passes : (at bound have x : ℕ) (tests : List Damaged) → have ≡ x → bound ≤ x → NoneFails tests
+    → NoneFails (least at bound have ∷ tests)
+least_passes at bound have x tests is enough = passes (least at bound have) tests (omega arith)
+
+pub most_passes : (at bound have x : ℕ) (tests : List Damaged) → have ≡ x → x ≤ bound → NoneFails tests
+    → NoneFails (most at bound have ∷ tests)
+most_passes at bound have x tests is enough = passes (most at bound have) tests (omega arith)
+
+-- tests after tests
+pub both_pass : (xs ys : List Damaged) → NoneFails xs → NoneFails ys → NoneFails (xs ++ ys)
+both_pass [] ys a b = b
+both_pass (x ∷ xs) ys a b = elim (cases_Bool (eqb x.want x.have)) [
+  | inl t ↦
+      let left : first_failed xs ≡ None = sym (ap (λ c. if c then first_failed xs else Some x) t) ∙ a.none in
+      let rest = both_pass xs ys (record { none = left }) b in
+      record { none = rw t rest.none }
+  | inr f ↦
+      let no : Some x ≡ None = sym (ap (λ c. if c then first_failed xs else Some x) f) ∙ a.none in
+      absurd cc
+]

@@ -1,0 +1,129 @@
+-- The end of a last clip, as the writer tells it, meets the bounds of a reader.
+use Rattle.std.proofs.Common.{◌≡◌, ℕ, zero, suc, ◌+◌, ◌-◌, ◌^◌, ◌≤◌, ◌<◌, ◌==◌, ◌&&◌, Bool, true, false, inl, inr, List, []}
+use Rattle.std.proofs.Common.{◌∷◌, length, take, drop, nat_lt, sym, ap, ap₂, subst, ◌∙◌}
+use Rattle.std.proofs.Common.{arith, length-drop, if◌then◌else◌}
+use Rattle.std.proofs.lemmas.Bool.{cases_Bool, eqb-true, lt-ltb, le-ltb}
+use Rattle.pcm_base.specs.Blocks.{blocks_len}
+use Rattle.pcm_base.specs.declared.block.BlockRef.{BlockRef}
+use Rattle.clip_track.specs.declared.clips.Clip.{Clip}
+use Rattle.clip_track.specs.Clips.{clip_end}
+use Rattle.record_body.specs.declared.limits.Limits.{Limits}
+use Rattle.project_state.specs.declared.track.Track.{Track}
+use Rattle.record_body.specs.Changes.{is_block, common, last_blocks, last_start, same_but_last}
+use Rattle.record_body.specs.ChangeTests.{is_lone, kept_blocks}
+use Rattle.record_body.specs.FirstFault.{least_len}
+use Rattle.record_body.proofs.ClipsBack.{AreGoodBlocks, AreGoodClips}
+use Rattle.record_body.proofs.TracksBack.{IsGoodTrack}
+use Rattle.record_body.proofs.ChangeLaws.{last_starts, common_take, block_same}
+use Rattle.record_body.proofs.Commons.{common_least, common_most}
+
+-- blocks that go from the end of the last clip, and that come
+pub record IsGoodTail (l : Limits) (o : Track) (gone : ℕ) (bs : List BlockRef) : Type 0 where
+  pub some : 0 < length o.layout
+  pub within : gone ≤ length (last_blocks o.layout)
+  pub short : gone < 2 ^ 32
+  pub few : length bs < 2 ^ 32
+  pub goes : (if is_lone l.block_size (last_blocks o.layout) && nat_lt 0 (length bs) then 1 else 0) ≤ gone
+  pub comes : (if gone == length (last_blocks o.layout) then 1 else 0) ≤ length bs
+  pub blocks : AreGoodBlocks l (nat_lt 1 (length (last_blocks o.layout) - gone + length bs))
+      (last_start o.layout + blocks_len (kept_blocks (last_blocks o.layout) gone)) bs
+
+-- the last clip of a track that meets its bounds
+record IsGoodLast (l : Limits) (cs : List Clip) : Type 0 where
+  some : 1 ≤ length (last_blocks cs)
+  few : length (last_blocks cs) < 2 ^ 32
+  blocks : AreGoodBlocks l (nat_lt 1 (length (last_blocks cs))) (last_start cs) (last_blocks cs)
+
+good_last : (l : Limits) (from : ℕ) (cs : List Clip) → 0 < length cs → AreGoodClips l from cs → IsGoodLast l cs
+good_last l from [] some good = absurd (omega (arith, some))
+good_last l from (c ∷ []) some good =
+    record { some = good.0.some; few = good.0.few; blocks = good.0.blocks }
+good_last l from (c ∷ d ∷ cs) some good =
+    let more = good_last l (clip_end c + 1) (d ∷ cs) (omega arith) good.1 in
+    record { some = more.some; few = more.few; blocks = more.blocks }
+
+good_drop : (l : Limits) (several : Bool) (before k : ℕ) (bs : List BlockRef) → AreGoodBlocks l several before bs
+    → AreGoodBlocks l several (before + blocks_len (take k bs)) (drop k bs)
+good_drop l several before zero bs good =
+    subst (λ (n : ℕ). AreGoodBlocks l several n bs) (let e : before ≡ before + 0 = omega arith in e) good
+good_drop l several before (suc k) [] good = tt
+good_drop l several before (suc k) (b ∷ bs) good =
+    subst (λ (n : ℕ). AreGoodBlocks l several n (drop k bs))
+    (let e : before + b.len + blocks_len (take k bs) ≡ before + (b.len + blocks_len (take k bs)) = omega arith in e)
+    (good_drop l several (before + b.len) k bs good.1)
+
+-- one block that is less than half full goes where others come
+lone_goes : (l : Limits) (before : ℕ) (olds news : List BlockRef)
+    → AreGoodBlocks l (nat_lt 1 (length news)) before news
+    → (if is_lone l.block_size olds && nat_lt 0 (length (drop (common olds news) news)) then 1 else 0)
+    ≤ length olds - common olds news
+lone_goes l before [] news good = omega arith
+lone_goes l before (b ∷ c ∷ bs) news good = omega arith
+lone_goes l before (b ∷ []) [] good = by_test (nat_lt b.len (least_len l.block_size true))
+  where
+    by_test : (t : Bool) → (if t && false then 1 else 0) ≤ 1
+    by_test true = omega arith
+    by_test false = omega arith
+lone_goes l before (b ∷ []) (n ∷ []) good = omega_cases (is_block b n) (nat_lt b.len (least_len l.block_size true))
+  where
+    omega_cases : (s t : Bool) → (if t && nat_lt 0 (length (drop (if s then 1 else 0) (n ∷ []))) then 1 else 0)
+        ≤ 1 - (if s then 1 else 0)
+    omega_cases true true = omega arith
+    omega_cases true false = omega arith
+    omega_cases false true = omega arith
+    omega_cases false false = omega arith
+lone_goes l before (b ∷ []) (n ∷ m ∷ ns) good = elim (cases_Bool (is_block b n)) [
+  | inl same ↦
+      let is : b ≡ n = block_same b n same in
+      let several : nat_lt 1 (length (n ∷ m ∷ ns)) ≡ true = lt-ltb 1 (length (n ∷ m ∷ ns)) (omega arith) in
+      let full : least_len l.block_size true ≤ b.len = subst (λ (s : Bool). least_len l.block_size s ≤ b.len) several
+      (subst (λ (x : BlockRef). least_len l.block_size (nat_lt 1 (length (n ∷ m ∷ ns))) ≤ x.len) (sym is)
+      good.0.enough) in
+      let not_short : nat_lt b.len (least_len l.block_size true) ≡ false = le-ltb _ _ full in
+      rw (same, not_short) (omega arith)
+  | inr differ ↦
+      rw differ (at_most_one (nat_lt b.len (least_len l.block_size true)) (nat_lt 0 (length (n ∷ m ∷ ns))))
+]
+  where
+    at_most_one : (s t : Bool) → (if s && t then 1 else 0) ≤ 1
+    at_most_one true true = omega arith
+    at_most_one true false = omega arith
+    at_most_one false t = omega arith
+
+pub good_tail : (l : Limits) (from : ℕ) (o t : Track) → length (last_blocks o.layout) < 2 ^ 32 → IsGoodTrack l from t
+    → same_but_last o.layout t.layout ≡ true
+    → IsGoodTail l o (length (last_blocks o.layout) - common (last_blocks o.layout) (last_blocks t.layout))
+    (drop (common (last_blocks o.layout) (last_blocks t.layout)) (last_blocks t.layout))
+good_tail l from o t small good alike =
+    let olds = last_blocks o.layout in
+    let news = last_blocks t.layout in
+    let k = common olds news in
+    let starts = last_starts o.layout t.layout alike in
+    let last = good_last l 0 t.layout starts.other good.clips in
+    let le = common_least olds news in
+    let most = common_most olds news in
+    let kept : length olds - (length olds - k) ≡ k = omega (arith, le) in
+    let many : length (drop k news) ≡ length news - k = length-drop k news in
+    let several : length news ≡ length olds - (length olds - k) + length (drop k news) =
+    omega (arith, le, most, many) in
+    let before : last_start t.layout + blocks_len (take k news)
+    ≡ last_start o.layout + blocks_len (kept_blocks olds (length olds - k)) =
+    ap₂ (λ (s n : ℕ). s + n) (sym starts.start)
+    (ap blocks_len (sym (common_take olds news)) ∙ ap (λ (n : ℕ). blocks_len (take n olds)) (sym kept)) in
+    record {
+      some = starts.some;
+      within = omega arith;
+      short = omega (arith, small);
+      few = omega (arith, many, last.few);
+      goes = lone_goes l (last_start t.layout) olds news last.blocks;
+      comes = elim (cases_Bool (length olds - k == length olds)) [
+        | inl same ↦
+            let none : length olds - k ≡ length olds = eqb-true (length olds - k) (length olds) same in
+            rw same (omega (arith, none, le, most, many, last.some))
+        | inr differ ↦ rw differ (omega arith)
+      ];
+      blocks = subst (λ (n : ℕ). AreGoodBlocks l (nat_lt 1 n) (last_start o.layout
+          + blocks_len (kept_blocks olds (length olds - k))) (drop k news)) several
+          (subst (λ (n : ℕ). AreGoodBlocks l (nat_lt 1 (length news)) n (drop k news)) before
+          (good_drop l (nat_lt 1 (length news)) (last_start t.layout) k news last.blocks));
+    }

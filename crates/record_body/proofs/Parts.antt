@@ -1,0 +1,65 @@
+-- Parts that are written one after another.
+use Rattle.std.proofs.Common.{◌≡◌, ℕ, ◌+◌, ◌*◌, ◌≤◌, ◌<◌, List, [], ◌∷◌, ◌++◌, length, take, drop}
+use Rattle.std.proofs.Common.{get_or, refl, sym, ap, ◌∙◌, arith, length-append}
+use Rattle.std.specs.List.{flat_map}
+use Rattle.std.proofs.lemmas.Grind.{flat_map-append}
+use Rattle.std.proofs.lemmas.List.{append-nil, take_more, drop_more}
+use Rattle.std.proofs.lemmas.Slice.{take-put_mid}
+use Rattle.pcm_base.specs.declared.block.BlockRef.{BlockRef}
+use Rattle.pcm_base.specs.Blocks.{NoneEmpty, blocks_len}
+use Rattle.clip_track.specs.declared.clips.Clip.{Clip}
+use Rattle.clip_track.specs.Clips.{AreClips, clip_end, end_of}
+use Rattle.record_body.specs.Spelling.{block_bytes, clip_bytes}
+use borrow.Rule.Slice.PartMut.{put_mid}
+
+module _ {X : Type 0} (f : X → List ℕ) (xs : List X) where
+  pub parts_more : (i : ℕ) (x : X) → take (i + 1) xs ≡ take i xs ++ x ∷ []
+      → flat_map f (take (i + 1) xs) ≡ flat_map f (take i xs) ++ f x
+  parts_more i x e = ap (flat_map f) e ∙ flat_map-append f (take i xs) (x ∷ [])
+      ∙ ap (λ (ys : List ℕ). flat_map f (take i xs) ++ ys) (append-nil (f x))
+
+  -- one part more is written
+  pub part_written : (i k at : ℕ) (out part : List ℕ) (x : X) → take (i + 1) xs ≡ take i xs ++ x ∷ []
+      → at ≤ length out → take at out ≡ flat_map f (take i xs) → part ≡ f x
+      → (end : ℕ) → end ≡ at + length part
+      → take end (put_mid at k out part) ≡ flat_map f (take (i + 1) xs)
+  part_written i k at out part x e le before here end same =
+      take-put_mid at k out part end same le
+      ∙ ap (λ (ys : List ℕ). ys ++ part) before
+      ∙ ap (λ (ys : List ℕ). flat_map f (take i xs) ++ ys) here
+      ∙ sym (parts_more i x e)
+
+  -- the parts that are left
+  pub parts_left : (i : ℕ) (x : X) → drop i xs ≡ x ∷ drop (i + 1) xs
+      → length (flat_map f (drop i xs)) ≡ length (f x) + length (flat_map f (drop (i + 1) xs))
+  parts_left i x e = ap (λ (ys : List X). length (flat_map f ys)) e ∙ length-append (f x) (flat_map f (drop (i + 1) xs))
+
+pub length_blocks : (bs : List BlockRef) → length (flat_map block_bytes bs) ≡ 12 * length bs
+length_blocks [] = refl
+length_blocks (b ∷ bs) = omega (arith, length_blocks bs)
+
+pub length_clip : (c : Clip) → length (clip_bytes c) ≡ 12 + 12 * length c.blocks
+length_clip c = omega (arith, length_blocks c.blocks)
+
+-- no block is empty, so there are no more blocks than samples
+pub blocks_few : (bs : List BlockRef) → NoneEmpty bs → length bs ≤ blocks_len bs
+blocks_few [] h = omega arith
+blocks_few (b ∷ bs) h = omega (arith, h.0, blocks_few bs h.1)
+
+-- a clip has at most 24 bytes a sample
+pub clips_few : (at from : ℕ) (cs : List Clip) → at ≤ from → AreClips from cs
+    → length (flat_map clip_bytes cs) + 24 * at ≤ 24 * end_of at cs
+clips_few at from [] h a = omega arith
+clips_few at from (c ∷ cs) h a =
+    let n = blocks_few c.blocks a.2 in
+    let rest = clips_few (clip_end c) (clip_end c + 1) cs (omega arith) a.3 in
+    omega (arith, length-append (clip_bytes c) (flat_map clip_bytes cs), length_clip c, n, rest, a.0, a.1, h)
+
+-- the item at a place
+pub take_here : {X : Type 0} (xs : List X) (i : ℕ) (x : X) → i < length xs → x ≡ get_or xs i x
+    → take (i + 1) xs ≡ take i xs ++ x ∷ []
+take_here {X} xs i x lt e = take_more xs i x lt ∙ ap (λ (y : X). take i xs ++ y ∷ []) (sym e)
+
+pub drop_here : {X : Type 0} (xs : List X) (i : ℕ) (x : X) → i < length xs → x ≡ get_or xs i x
+    → drop i xs ≡ x ∷ drop (i + 1) xs
+drop_here {X} xs i x lt e = drop_more xs i x lt ∙ ap (λ (y : X). y ∷ drop (i + 1) xs) (sym e)

@@ -1,0 +1,119 @@
+-- The bytes of a sound body pass their tests, and say that body.
+use Rattle.std.proofs.Common.{◌≡◌, ℕ, ◌+◌, ◌^◌, ◌≤◌, ◌<◌, List, [], ◌++◌, length}
+use Rattle.std.proofs.Common.{drop, None, refl, sym, ap, ap₂, subst, ◌∙◌}
+use Rattle.std.proofs.Common.{arith}
+use Rattle.std.proofs.lemmas.List.{append-nil}
+use Rattle.std.specs.List.{flat_map}
+use Rattle.byteorder.specs.Endian.{little_bytes}
+use Rattle.byteorder.specs.Numbers.{little_number-reads_back}
+use Rattle.project_journal.specs.Fields.{field}
+use Rattle.project_journal.specs.Header.{first_failed}
+use Rattle.project_state.specs.declared.track.Track.{Track}
+use Rattle.record_body.specs.declared.body.Body.{Body}
+use Rattle.record_body.specs.declared.body.Body.TheVariants.{Edit, Undo, Redo, Purge}
+use Rattle.record_body.specs.declared.limits.Limits.{Limits}
+use Rattle.record_body.specs.declared.limits.Before.{Before}
+use Rattle.record_body.specs.Places.{tracks_at, tracks_size, track_count, edit_at, body_at}
+use Rattle.record_body.specs.Spelling.{track_bytes, spelling}
+use Rattle.record_body.specs.Widths.{edit_widths, total_width, reach}
+use Rattle.record_body.proofs.Reaching.{reach_whole, sum_edit}
+use Rattle.record_body.specs.FirstFault.{tracks_tests, head_tests, limits_at, edit_tests, length_test, kind_test}
+use Rattle.record_body.specs.FirstFault.{body_tests}
+use Rattle.record_body.specs.Sound.{EditBody, IsSoundEdit, IsSound}
+use Rattle.record_body.proofs.FieldsBack.{NoneFails, both_pass, least_passes, most_passes, no_test, number_there}
+use Rattle.record_body.proofs.FieldsBack.{passes, past}
+use Rattle.record_body.proofs.ClipsBack.{AreNarrow}
+use Rattle.record_body.proofs.TracksBack.{has_tracks, tracks_pass}
+use Rattle.record_body.proofs.SoundBounds.{tracks_good}
+
+-- the body that says it
+abbrev body_of : EditBody → Body
+body_of edit = Edit edit.tag edit.next_block edit.next_track edit.tracks
+
+-- an edit
+record HasEdit (edit : EditBody) (bytes : List ℕ) : Type 0 where
+  tagged : field 1 8 bytes ≡ edit.tag
+  block : field 9 8 bytes ≡ edit.next_block
+  track : field 17 8 bytes ≡ edit.next_track
+  count : track_count bytes ≡ length edit.tracks
+  tracks : drop 29 bytes ≡ flat_map track_bytes edit.tracks ++ []
+
+has_edit : (m : ℕ) (b : Before) (edit : EditBody) (bytes : List ℕ) → IsSoundEdit m b edit
+    → bytes ≡ spelling (body_of edit) → HasEdit edit bytes
+has_edit m b edit bytes sound e =
+    let ts = edit.tracks in
+    let all = flat_map track_bytes ts in
+    let counted = little_bytes 4 (length ts) ++ all in
+    let of_track = little_bytes 8 edit.next_track ++ counted in
+    let of_block = little_bytes 8 edit.next_block ++ of_track in
+    let at_tag : drop 1 bytes ≡ little_bytes 8 edit.tag ++ of_block = ap (drop 1) e in
+    let at_block = past 1 9 bytes (little_bytes 8 edit.tag) of_block at_tag (omega arith) in
+    let at_track = past 9 17 bytes (little_bytes 8 edit.next_block) of_track at_block (omega arith) in
+    let at_count = past 17 25 bytes (little_bytes 8 edit.next_track) counted at_track (omega arith) in
+    let at_all = past 25 29 bytes (little_bytes 4 (length ts)) all at_count (omega arith) in
+    record {
+      tagged = number_there 8 edit.tag 1 bytes of_block at_tag (omega (arith, sound.tag_number));
+      block = number_there 8 edit.next_block 9 bytes of_track at_block (omega (arith, sound.block_most));
+      track = number_there 8 edit.next_track 17 bytes counted at_track (omega (arith, sound.track_most));
+      count = number_there 4 (length ts) 25 bytes all at_count (omega (arith, sound.few));
+      tracks = at_all ∙ sym (append-nil all);
+    }
+
+head_passes : (m : ℕ) (b : Before) (edit : EditBody) (bytes : List ℕ) → IsSoundEdit m b edit → HasEdit edit bytes
+    → NoneFails (head_tests b bytes)
+head_passes m b edit bytes sound has =
+    most_passes _ _ _ _ _ has.tagged sound.tag_given
+    (least_passes _ _ _ _ _ has.block sound.block_least
+    (most_passes _ _ _ _ _ has.block sound.block_most
+    (least_passes _ _ _ _ _ has.block sound.block_later
+    (least_passes _ _ _ _ _ has.track sound.track_least
+    (most_passes _ _ _ _ _ has.track sound.track_most
+    (least_passes _ _ _ _ _ has.track sound.track_later
+    (most_passes _ _ _ _ _ has.count sound.few no_test)))))))
+
+abbrev pub limits_of : ℕ → Before → ℕ → ℕ → Limits
+limits_of m b next_block next_track =
+    record { base = b.at; block_size = m; next_block = next_block; next_track = next_track }
+
+record ReadsBack (m : ℕ) (b : Before) (body : Body) (bytes : List ℕ) : Type 0 where
+  tests : NoneFails (edit_tests m b bytes)
+  says : edit_at bytes ≡ body
+  long : reach (length bytes) 0 (edit_widths bytes) ≡ length bytes
+
+edit_back : (m : ℕ) (b : Before) (edit : EditBody) (bytes : List ℕ) → 4 ≤ m → m < 2 ^ 32 → IsSoundEdit m b edit
+    → bytes ≡ spelling (body_of edit) → ReadsBack m b (body_of edit) bytes
+edit_back m b edit bytes large small sound e =
+    let ts = edit.tracks in
+    let l = limits_of m b edit.next_block edit.next_track in
+    let narrow : AreNarrow l = record { ids = sound.block_most; tracks = sound.track_most; lens = small } in
+    let good = tracks_good l 0 1 ts large (omega arith) (omega arith) sound.rising sound.sound sound.unnumbered in
+    let has = has_edit m b edit bytes sound e in
+    let tracks = has_tracks l 0 ts 29 bytes [] narrow good has.tracks in
+    let all_pass = tracks_pass l 0 ts 29 bytes [] narrow good has.tracks in
+    let counted = subst (λ (n : ℕ). NoneFails (tracks_tests l n 0 29 bytes)) (sym has.count) all_pass in
+    let same : limits_at m b bytes ≡ l = ap₂ (limits_of m b) has.block has.track in
+    let size = ap (λ (n : ℕ). tracks_size n 29 bytes) has.count ∙ tracks.size in
+    let long : length bytes ≡ 29 + length (flat_map track_bytes ts) = ap length e ∙ omega arith in
+    let ends : 0 + total_width (edit_widths bytes) ≡ length bytes = omega (arith, sum_edit bytes, size, long) in
+    record {
+      tests = both_pass (head_tests b bytes) _ (head_passes m b edit bytes sound has)
+          (subst (λ (k : Limits). NoneFails (tracks_tests k (track_count bytes) 0 29 bytes)) (sym same) counted);
+      says = same_edit has.tagged has.block has.track (ap (λ (n : ℕ). tracks_at n 29 bytes) has.count ∙ tracks.tracks);
+      long = reach_whole (length bytes) 0 (edit_widths bytes) (omega (arith, ends)) ∙ ends;
+    }
+  where
+    same_edit : {t i k : ℕ} {us : List Track} → t ≡ edit.tag → i ≡ edit.next_block → k ≡ edit.next_track
+        → us ≡ edit.tracks → Edit t i k us ≡ body_of edit
+    same_edit p q r u = cc
+
+-- The tests of a sound body's bytes all pass, and its bytes say that body.
+pub read_back : (m : ℕ) (b : Before) (body : Body) → 4 ≤ m → m < 2 ^ 32 → IsSound m b body
+    → (first_failed (body_tests m b (spelling body)) ≡ None) × (body_at (spelling body) ≡ body)
+read_back m b (Edit tag next_block next_track ts) large small sound =
+    let edit : EditBody = record { tag = tag; next_block = next_block; next_track = next_track; tracks = ts } in
+    let bytes = spelling (body_of edit) in
+    let back = edit_back m b edit bytes large small sound refl in
+    ((passes (length_test b bytes) _ back.long (passes (kind_test b bytes) _ refl back.tests)).none, back.says)
+read_back m b Undo large small sound = (refl, refl)
+read_back m b Redo large small sound = (refl, refl)
+read_back m b (Purge n) large small sound = (refl, ap Purge (little_number-reads_back 8 n [] sound))

@@ -1,0 +1,192 @@
+-- The numbers of layouts bear on nothing that records say, and on nothing that points mean.
+use Rattle.std.proofs.Common.{◌≡◌, refl, sym, ap, ap₂, ◌∙◌, ℕ, ◌+◌, ◌==◌, ◌&&◌, inl, inr, List, [], ◌∷◌, ◌++◌, map}
+use Rattle.std.proofs.Common.{drop}
+use Rattle.std.proofs.Common.{zero, suc, Option, Some, None, subst, ◌≤◌}
+use Rattle.std.specs.List.{flat_map}
+use Rattle.std.specs.Option.{option_map}
+use Rattle.std.proofs.lemmas.Bool.{cases_Bool}
+use Rattle.std.proofs.lemmas.List.{length-map}
+use Rattle.byteorder.specs.Endian.{little_bytes}
+use Rattle.pcm_base.specs.declared.block.BlockRef.{BlockRef}
+use Rattle.pcm_base.specs.Cells.{Project}
+use Rattle.pcm_base.specs.History.{History, edited, amended, purged, recorded}
+use Rattle.pcm_base.specs.Pieces.{Sources}
+use Rattle.clip_track.specs.Clips.{layout_blocks}
+use Rattle.record_body.specs.declared.body.Body.{Body}
+use Rattle.record_body.specs.declared.body.Body.TheVariants.{Edit, Undo, Redo, Purge}
+use Rattle.project_state.specs.declared.track.Track.{Track}
+use Rattle.record_body.specs.Changes.{change_bytes, change_of, delta_bytes, delta_spelling, same_but_last, same_clips}
+use Rattle.record_body.specs.Changes.{same_settings, told_bytes}
+use Rattle.record_body.specs.Kept.{current_tracks, first_tracks, point_bytes}
+use Rattle.project_state.specs.Meaning.{history_blocks, meant, meant_history, meant_track, point_blocks}
+use Rattle.project_state.specs.Numbers.{AreUnnumbered, unnumbered, unnumbered_history}
+use Rattle.record_body.specs.Numbers.{unnumbered_body}
+use Rattle.record_body.specs.Sound.{AllSoundTracks, IsSoundPoint}
+use Rattle.record_body.specs.Spelling.{project_bytes, spelling, track_bytes}
+use Rattle.project_state.specs.Tracks.{AreAbove, track_of}
+use Rattle.project_state.proofs.MeantHistories.{mapped_amended, mapped_edited, mapped_purged, mapped_recorded}
+
+-- ---- what is said
+
+pub are_unnumbered : (ts : List Track) → AreUnnumbered (map unnumbered ts)
+are_unnumbered [] = tt
+are_unnumbered (t ∷ ts) = (refl, are_unnumbered ts)
+
+tracks_spelled : (ts : List Track) → flat_map track_bytes (map unnumbered ts) ≡ flat_map track_bytes ts
+tracks_spelled [] = refl
+tracks_spelled (t ∷ ts) = ap (λ (bytes : List ℕ). track_bytes t ++ bytes) (tracks_spelled ts)
+
+project_spelled : (ts : List Track) → project_bytes (map unnumbered ts) ≡ project_bytes ts
+project_spelled ts =
+    ap₂ (λ (n : ℕ) (bytes : List ℕ). little_bytes 4 n ++ bytes) (length-map ts unnumbered) (tracks_spelled ts)
+
+pub spelled_alike : (body : Body) → spelling (unnumbered_body body) ≡ spelling body
+spelled_alike (Edit tag next_block next_track ts) = ap (λ (bytes : List ℕ). 1 ∷ (little_bytes 8 tag
+    ++ (little_bytes 8 next_block ++ (little_bytes 8 next_track ++ bytes)))) (project_spelled ts)
+spelled_alike Undo = refl
+spelled_alike Redo = refl
+spelled_alike (Purge n) = refl
+
+pub point_alike : (ts : List Track) (tag : ℕ) → point_bytes (map unnumbered ts, tag) ≡ point_bytes (ts, tag)
+point_alike ts tag = ap (λ (bytes : List ℕ). little_bytes 8 tag ++ bytes) (project_spelled ts)
+
+-- ---- what is said by the current point
+
+pub found_alike : (id : ℕ) (ts : List Track)
+    → track_of id (map unnumbered ts) ≡ option_map unnumbered (track_of id ts)
+found_alike id [] = refl
+found_alike id (t ∷ ts) = elim (cases_Bool (id == t.id)) [
+  | inl same ↦ rw same refl
+  | inr differ ↦ rw differ (found_alike id ts)
+]
+
+change_alike : (old : Option Track) (t : Track)
+    → change_bytes (change_of (option_map unnumbered old) (unnumbered t)) ≡ change_bytes (change_of old t)
+change_alike None t = refl
+change_alike (Some o) t = elim (cases_Bool (same_settings o t && same_clips o.layout t.layout)) [
+  | inl whole ↦ rw whole refl
+  | inr differ ↦ elim (cases_Bool (same_settings o t && same_but_last o.layout t.layout)) [
+    | inl ends ↦ rw (differ, ends) refl
+    | inr other ↦ rw (differ, other) refl
+  ]
+]
+
+told_alike : (current : List Track) (t : Track) → told_bytes (map unnumbered current) (unnumbered t)
+    ≡ told_bytes current t
+told_alike current t = ap (λ (bytes : List ℕ). little_bytes 8 t.id ++ bytes)
+    (ap (λ (old : Option Track). change_bytes (change_of old (unnumbered t))) (found_alike t.id current)
+    ∙ change_alike (track_of t.id current) t)
+
+all_told_alike : (current ts : List Track)
+    → flat_map (told_bytes (map unnumbered current)) (map unnumbered ts) ≡ flat_map (told_bytes current) ts
+all_told_alike current [] = refl
+all_told_alike current (t ∷ ts) =
+    ap₂ (λ (xs ys : List ℕ). xs ++ ys) (told_alike current t) (all_told_alike current ts)
+
+delta_alike : (current ts : List Track)
+    → delta_bytes (map unnumbered current) (map unnumbered ts) ≡ delta_bytes current ts
+delta_alike current ts =
+    ap₂ (λ (n : ℕ) (bytes : List ℕ). little_bytes 4 n ++ bytes) (length-map ts unnumbered) (all_told_alike current ts)
+
+pub delta_spelled_alike : (current : List Track) (body : Body)
+    → delta_spelling (map unnumbered current) (unnumbered_body body) ≡ delta_spelling current body
+delta_spelled_alike current (Edit tag next_block next_track ts) = ap (λ (bytes : List ℕ). 5 ∷ (little_bytes 8 tag
+    ++ (little_bytes 8 next_block ++ (little_bytes 8 next_track ++ bytes)))) (delta_alike current ts)
+delta_spelled_alike current Undo = refl
+delta_spelled_alike current Redo = refl
+delta_spelled_alike current (Purge n) = refl
+
+-- ---- what is meant, and which blocks are named
+
+pub meant_alike : (src : Sources) (ts : List Track) → meant src (map unnumbered ts) ≡ meant src ts
+meant_alike src [] = refl
+meant_alike src (t ∷ ts) = ap (λ (rest : Project). meant_track src t ∷ rest) (meant_alike src ts)
+
+points_meant : (src : Sources) (ps : List (List Track × ℕ))
+    → map {A = List Track × ℕ} {B = Project × ℕ} (λ p. (meant src p.0, p.1)) (map (λ (p : List Track × ℕ).
+    (map unnumbered p.0, p.1)) ps)
+    ≡ map {A = List Track × ℕ} {B = Project × ℕ} (λ p. (meant src p.0, p.1)) ps
+points_meant src [] = refl
+points_meant src (p ∷ ps) =
+    ap₂ (λ (m : Project) (rest : List (Project × ℕ)). (m, p.1) ∷ rest) (meant_alike src p.0) (points_meant src ps)
+
+pub history_meant_alike : (src : Sources) (h : History (List Track))
+    → meant_history src (unnumbered_history h) ≡ meant_history src h
+history_meant_alike src h = ap (λ (ps : List (Project × ℕ)). record { points = ps; cursor = h.cursor; depth = h.depth })
+    (points_meant src h.points)
+
+pub point_blocks_alike : (ts : List Track) → point_blocks (map unnumbered ts) ≡ point_blocks ts
+point_blocks_alike [] = refl
+point_blocks_alike (t ∷ ts) = ap (λ (bs : List BlockRef). layout_blocks t.layout ++ bs) (point_blocks_alike ts)
+
+points_blocks_alike : (ps : List (List Track × ℕ))
+    → flat_map (λ (p : List Track × ℕ). point_blocks p.0) (map (λ (p : List Track × ℕ). (map unnumbered p.0, p.1)) ps)
+    ≡ flat_map (λ (p : List Track × ℕ). point_blocks p.0) ps
+points_blocks_alike [] = refl
+points_blocks_alike (p ∷ ps) =
+    ap₂ (λ (xs ys : List BlockRef). xs ++ ys) (point_blocks_alike p.0) (points_blocks_alike ps)
+
+pub history_blocks_alike : (h : History (List Track)) → history_blocks (unnumbered_history h) ≡ history_blocks h
+history_blocks_alike h = points_blocks_alike h.points
+
+-- ---- what is made of a history
+
+first_alike : (ps : List (List Track × ℕ))
+    → first_tracks (map (λ (p : List Track × ℕ). (map unnumbered p.0, p.1)) ps) ≡ map unnumbered (first_tracks ps)
+first_alike [] = refl
+first_alike (p ∷ ps) = refl
+
+drop_alike : (n : ℕ) (ps : List (List Track × ℕ))
+    → first_tracks (drop n (map (λ (p : List Track × ℕ). (map unnumbered p.0, p.1)) ps)) ≡ map unnumbered
+    (first_tracks (drop n ps))
+drop_alike zero ps = first_alike ps
+drop_alike (suc n) [] = refl
+drop_alike (suc n) (p ∷ ps) = drop_alike n ps
+
+pub current_alike : (h : History (List Track)) → current_tracks (unnumbered_history h) ≡ map unnumbered
+    (current_tracks h)
+current_alike h = drop_alike h.cursor h.points
+
+pub recorded_alike : (h : History (List Track)) (ts : List Track) (tag : ℕ)
+    → unnumbered_history (recorded h ts tag) ≡ recorded (unnumbered_history h) (map unnumbered ts) tag
+recorded_alike = mapped_recorded (map unnumbered)
+
+pub edited_alike : (h : History (List Track)) (ts : List Track) (tag : ℕ)
+    → unnumbered_history (edited h ts tag) ≡ edited (unnumbered_history h) (map unnumbered ts) tag
+edited_alike = mapped_edited (map unnumbered)
+
+pub amended_alike : (h : History (List Track)) (ts : List Track)
+    → unnumbered_history (amended h ts) ≡ amended (unnumbered_history h) (map unnumbered ts)
+amended_alike = mapped_amended (map unnumbered)
+
+pub purged_alike : (h : History (List Track)) (n : ℕ)
+    → unnumbered_history (purged h n) ≡ purged (unnumbered_history h) n
+purged_alike = mapped_purged (map unnumbered)
+
+-- ---- what is sound
+
+above_alike : (least : ℕ) (ts : List Track) → AreAbove least ts → AreAbove least (map unnumbered ts)
+above_alike least [] above = tt
+above_alike least (t ∷ ts) above = (above.0, above_alike (t.id + 1) ts above.1)
+
+tracks_sound_alike : (m block track : ℕ) (ts : List Track) → AllSoundTracks m block track ts
+    → AllSoundTracks m block track (map unnumbered ts)
+tracks_sound_alike m block track [] sound = tt
+tracks_sound_alike m block track (t ∷ ts) sound = (
+  record {
+    given = sound.0.given;
+    gain = sound.0.gain;
+    layout = sound.0.layout;
+    half_full = sound.0.half_full;
+    blocks = sound.0.blocks;
+  },
+  tracks_sound_alike m block track ts sound.1,
+)
+
+pub sound_alike : (m block track : ℕ) (ts : List Track) → IsSoundPoint m block track ts
+    → IsSoundPoint m block track (map unnumbered ts)
+sound_alike m block track ts sound = record {
+  few = subst (λ (n : ℕ). n ≤ 64) (sym (length-map ts unnumbered)) sound.few;
+  rising = above_alike 1 ts sound.rising;
+  sound = tracks_sound_alike m block track ts sound.sound;
+}

@@ -1,0 +1,114 @@
+-- The track at hand stands in front of those that are left.
+use Rattle.std.proofs.Common.{◌≡◌, List, ◌+◌, ◌-◌, ◌<◌, ◌++◌, ◌∷◌, [], Option, Some, length, map, refl, sym, ap, ap₂, subst}
+use Rattle.std.proofs.Common.{◌∙◌, arith, length-append}
+use Rattle.std.proofs.lemmas.List.{map-append}
+use Rattle.std.proofs.lemmas.Result.{err_from_is_err_and}
+use Rattle.project_journal.specs.Fields.{field}
+use Rattle.project_state.specs.declared.track.Track.{Track}
+use Rattle.record_body.specs.ChangePlaces.{told_at, told_size, all_told_at}
+use Rattle.record_body.specs.ChangeTests.{told_tests, all_told_tests}
+use Rattle.project_state.specs.Tracks.{AllBelow}
+use Rattle.record_body.proofs.Passing.{all_pass}
+use Rattle.project_state.proofs.Points.{AllBelow-higher, AllBelow-push}
+use Rattle.record_body.proofs.Steps.{step_passes, step_finds, finds_alike, step_adds}
+use Rattle.record_body.proofs.ToldTracks.{have_first, have_rest, known_mark, id_bounds, told_id, told_whole}
+use Rattle.record_body.proofs.changes_reading.read_all_told.Goals as goal
+
+pub read_told-requires-clause-within : goal.read_told-requires-clause-within
+read_told-requires-clause-within c = have_first (c.args.count - c.loop.counter) c.loop.next c.args.bytes.now
+    (omega (arith, c.loop-test.true)) c.loop.invariant.within
+
+pub returns-in_err-track : goal.returns-in_err-track
+returns-in_err-track c =
+    let p = err_from_is_err_and c.from_residual.result c.from_residual.ensures.1 in
+    let bytes = c.args.bytes.now in
+    let l = c.args.limits in
+    let now = c.args.current.now in
+    let at = c.loop.next in
+    let from = c.loop.from in
+    let n = c.args.count - c.loop.counter in
+    let found : Track → Type 0 = λ t. told_at now at bytes ≡ Some t in
+    let all : List Track → Type 0 = λ p. map Some p ≡ all_told_at now c.args.count c.args.at bytes in
+    let here = step_finds (λ j. all_told_tests l now j from at bytes) (λ j. all_told_tests l now j
+    (field at 8 bytes + 1) (at + told_size at bytes) bytes) (told_tests l now from at bytes) (λ j. refl)
+    found all n c.in_err-track.field-0.0 (omega (arith, c.loop-test.true)) c.in_err-track.ensures in
+    rw (p.1, p.2) (finds_alike all all (all_told_tests l now n from at bytes)
+    (all_told_tests l now c.args.count 0 c.args.at bytes) c.in_err-track.field-0.0 c.loop.invariant.tests here)
+
+pub told_len_at-next-requires-clause-within : goal.told_len_at-next-requires-clause-within
+told_len_at-next-requires-clause-within c = have_first (c.args.count - c.loop.counter) c.loop.next c.args.bytes.now
+    (omega (arith, c.loop-test.true)) c.loop.invariant.within
+
+pub told_len_at-next-requires-clause-known : goal.told_len_at-next-requires-clause-known
+told_len_at-next-requires-clause-known c =
+    known_mark c.args.limits c.args.current.now c.loop.from c.loop.next c.args.bytes.now
+    (all_pass (told_tests c.args.limits c.args.current.now c.loop.from c.loop.next c.args.bytes.now)
+    c.in_ok-track.ensures.0)
+
+pub told_len_at-next-requires-clause-whole : goal.told_len_at-next-requires-clause-whole
+told_len_at-next-requires-clause-whole c = λ one.
+    told_whole c.args.current.now c.loop.next c.args.bytes.now c.in_ok-track.track c.in_ok-track.ensures.1 one
+
+pub overflow_add-next : goal.overflow_add-next
+overflow_add-next c =
+    let bytes = c.args.bytes.now in
+    let pass = all_pass (told_tests c.args.limits c.args.current.now c.loop.from c.loop.next bytes)
+    c.in_ok-track.ensures.0 in
+    let known = known_mark c.args.limits c.args.current.now c.loop.from c.loop.next bytes pass in
+    let has = have_first (c.args.count - c.loop.counter) c.loop.next bytes (omega (arith, c.loop-test.true))
+    c.loop.invariant.within in
+    omega (arith, c.told_len_at-next.ensures, has.1 known)
+
+pub overflow_add-from : goal.overflow_add-from
+overflow_add-from c =
+    let bytes = c.args.bytes.now in
+    let bounds = id_bounds c.args.limits c.args.current.now c.loop.from c.loop.next bytes
+    (all_pass (told_tests c.args.limits c.args.current.now c.loop.from c.loop.next bytes) c.in_ok-track.ensures.0) in
+    omega (arith, bounds.2, told_id c.args.current.now c.loop.next bytes c.in_ok-track.track c.in_ok-track.ensures.1)
+
+pub push-requires-clause-above : goal.push-requires-clause-above
+push-requires-clause-above c =
+    let bytes = c.args.bytes.now in
+    let bounds = id_bounds c.args.limits c.args.current.now c.loop.from c.loop.next bytes
+    (all_pass (told_tests c.args.limits c.args.current.now c.loop.from c.loop.next bytes) c.in_ok-track.ensures.0) in
+    let id = told_id c.args.current.now c.loop.next bytes c.in_ok-track.track c.in_ok-track.ensures.1 in
+    AllBelow-higher c.loop.from c.in_ok-track.track.id c.loop.point (omega (arith, bounds.1, id))
+    c.loop.invariant.below
+
+pub loop-preserved : goal.loop-preserved
+loop-preserved c =
+    let bytes = c.args.bytes.now in
+    let l = c.args.limits in
+    let now = c.args.current.now in
+    let at = c.loop.next in
+    let track = c.in_ok-track.track in
+    let n = c.args.count - c.loop.counter in
+    let k = c.args.count - (c.loop.counter + 1) in
+    let next = at + c.told_len_at-next.result in
+    let some : 0 < n = omega (arith, c.loop-test.true) in
+    let less : k ≡ n - 1 = omega arith in
+    let behind : at + told_size at bytes ≡ next = ap (λ i. at + i) (sym c.told_len_at-next.ensures) in
+    let told = c.in_ok-track.ensures.1 in
+    let id : field at 8 bytes ≡ track.id = sym (told_id now at bytes track told) in
+    let pass = all_pass (told_tests l now c.loop.from at bytes) c.in_ok-track.ensures.0 in
+    let bounds = id_bounds l now c.loop.from at bytes pass in
+    let adds = step_adds (λ j. all_told_at now j at bytes) (λ j. all_told_at now j next bytes) (Some track)
+    (λ j. ap₂ (λ (x : Option Track) a. x ∷ all_told_at now j a bytes) told behind) (map Some c.loop.point) n k some
+    less in
+    let passes = step_passes (λ j. all_told_tests l now j c.loop.from at bytes)
+    (λ j. all_told_tests l now j (track.id + 1) next bytes) (told_tests l now c.loop.from at bytes)
+    (λ j. ap₂ (λ b a. told_tests l now c.loop.from at bytes ++ all_told_tests l now j (b + 1) a bytes) id behind) n k
+    some less c.in_ok-track.ensures.0 in
+    let point = c.in_ok-push.ensures.added in
+    let more : map Some c.push.new.self ≡ map Some c.loop.point ++ Some track ∷ [] =
+    ap (λ (ts : List Track). map Some ts) point ∙ map-append Some c.loop.point (track ∷ []) in
+    record {
+      told = ap (λ xs. xs ++ all_told_at now k next bytes) more ∙ adds ∙ c.loop.invariant.told;
+      tests = passes ∙ c.loop.invariant.tests;
+      within = have_rest n k at next bytes some less (sym behind) (known_mark l now c.loop.from at bytes pass)
+          c.loop.invariant.within;
+      below = subst (AllBelow (track.id + 1)) (sym point) (AllBelow-push (track.id + 1) c.loop.point track
+          (AllBelow-higher c.loop.from (track.id + 1) c.loop.point (omega (arith, bounds.1, id))
+          c.loop.invariant.below) (omega arith));
+      many = omega (arith, ap length point, length-append c.loop.point (track ∷ []), c.loop.invariant.many);
+    }

@@ -1,0 +1,9 @@
+-- The tracks of an edit are those of its point.
+use Rattle.std.proofs.Common.{subst}
+use Rattle.record_body.specs.declared.body.Body.{Body}
+use Rattle.record_body.specs.Numbers.{BodyAgrees}
+use Rattle.record_body.proofs.changes_writing.write_delta_body.Goals as goal
+
+pub write_edit_by-requires-clause-numbers : goal.write_edit_by-requires-clause-numbers
+write_edit_by-requires-clause-numbers c =
+    subst (λ (b : Body). BodyAgrees c.args.current.now b) c.in-Edit.is c.requires.numbers

@@ -1,0 +1,52 @@
+-- Bytes whose tests pass say one body, which is valid; those of a valid body pass.
+use Rattle.std.proofs.Common.{◌≡◌, ◌≤◌, Result, Ok, Err, None, Some, MatchResult, IfOk, List, ℕ, ◌<◌, ◌^◌, sym, ◌∙◌, refl}
+use Rattle.std.proofs.Common.{subst, arith}
+use Rattle.project_journal.specs.Header.{first_failed}
+use Rattle.record_body.specs.declared.body.Body.{Body}
+use Rattle.record_body.specs.declared.limits.BadBody.{BadBody}
+use Rattle.record_body.specs.declared.limits.BadBody.TheVariants as bad
+use Rattle.record_body.specs.declared.limits.Before.{Before}
+use Rattle.project_state.specs.declared.track.Track.{Track}
+use Rattle.record_body.specs.Changes.{delta_spelling}
+use Rattle.record_body.specs.ChangeTests.{delta_tests}
+use Rattle.record_body.specs.DeltaBodies.{SaysBody}
+use Rattle.record_body.specs.FirstFault.{Finds}
+use Rattle.record_body.specs.Laws.{HasShortEnds}
+use Rattle.record_body.specs.Sound.{IsSound, IsSoundPoint}
+use Rattle.record_body.proofs.DeltaBack.{delta_read_back}
+use Rattle.record_body.proofs.Numbers.{AreBytes}
+use Rattle.record_body.proofs.SaysOnce.{says_once}
+use Rattle.record_body.proofs.ToldBack.{are_short}
+use Rattle.record_body.proofs.ToldSound.{delta_sound}
+use Rattle.record_body.proofs.delta_reading.read_delta_body.Goals as goal
+
+valid : (m : ℕ) (b : Before) (current : List Track) (bytes : List ℕ) → AreBytes bytes → (r : Result Body BadBody)
+    → Finds (delta_tests m b current bytes) (SaysBody current bytes) r → (next : ℕ)
+    → IsSoundPoint m b.next_block next current → IfOk r (λ x. IsSound m b x)
+valid m b current bytes fit (Ok body) found next is = delta_sound m b next current bytes body fit is found.0 found.1
+valid m b current bytes fit (Err e) found next is = tt
+
+back : (m : ℕ) (b : Before) (current : List Track) (bytes : List ℕ) (body : Body) → delta_spelling current body ≡ bytes
+    → IsSound m b body → 4 ≤ m → m < 2 ^ 32 → b.commits < 2 ^ 62 → HasShortEnds current → (r : Result Body BadBody)
+    → Finds (delta_tests m b current bytes) (SaysBody current bytes) r
+    → MatchResult r (λ x. x ≡ body) (λ e. e ≡ bad.NoMemory)
+back m b current bytes body e sound least most room short (Ok x) found =
+    let read = delta_read_back m b current body least most room (are_short current short) sound in
+    says_once current bytes x body found.1 (subst (λ (bs : List ℕ). SaysBody current bs body) e read.says)
+back m b current bytes body e sound least most room short (Err bad.NoMemory) found = refl
+back m b current bytes body e sound least most room short (Err (bad.Damaged fault)) found =
+    let read = delta_read_back m b current body least most room (are_short current short) sound in
+    let none : first_failed (delta_tests m b current bytes) ≡ None =
+    subst (λ (bs : List ℕ). first_failed (delta_tests m b current bs) ≡ None) e read.tests in
+    absurd (none_some (sym none ∙ found))
+  where
+    none_some : None ≡ Some fault → ⊥
+    none_some q = cc
+
+pub returns-clause-valid : goal.returns-clause-valid
+returns-clause-valid c = λ next is. valid c.args.m c.args.before c.args.current.now c.args.bytes.now
+    (record { below = λ i. omega (arith, c.type_inv.bytes i) }) c.read_by.result c.read_by.ensures next is
+
+pub returns-clause-back : goal.returns-clause-back
+returns-clause-back c = λ body e sound least room short. back c.args.m c.args.before c.args.current.now c.args.bytes.now body e
+    sound least (omega (arith, c.ranges.m)) room short c.read_by.result c.read_by.ensures

@@ -1,0 +1,17 @@
+pub mod Numbers
+pub mod Spelling
+pub mod Places
+pub mod Widths
+pub mod FirstFault
+pub mod PointTests
+pub mod Sound
+pub mod Lengths
+pub mod Changes
+pub mod Choices
+pub mod ChangePlaces
+pub mod ChangeTests
+pub mod DeltaBodies
+pub mod Kept
+pub mod KeptSound
+pub mod Batches
+pub mod Laws

@@ -1,0 +1,120 @@
+// The clips of a track out of their bytes.
+ghost use Rattle.std.specs.Prelude.{◌≡◌, ◌+◌, ◌*◌, ◌≤◌, nat_lt, length};
+ghost use Rattle.record_body.specs.Places as there;
+ghost use Rattle.record_body.specs.FirstFault as test;
+ghost use Rattle.record_body.specs.FirstFault.{Tells, Finds};
+
+use super::bounds::{least, most, place};
+use super::limits::{BadBody, Limits};
+use super::writing::clip_len;
+use block_sequence::Sequence;
+use clip_track::{Clip, Layout};
+use pcm_base::{BlockRef, FIRST_BLOCK, MAX_CELLS};
+use project_journal::{Damaged, first_failure, u32_at, u64_at};
+use std::alloc::Global;
+
+/// The block at a place; this many cells come before it.
+fn read_block(
+    bytes: &[u8],
+    at: usize,
+    limits: Limits,
+    several: bool,
+    before: u64,
+) -> Result<BlockRef, Damaged>
+    requires within { at + 12 ≤ length bytes.now }
+    ensures { Tells (test.block_tests limits several before at bytes.now)
+        (λ b. b ≡ there.block_at at bytes.now) result }
+{
+    let id = u64_at(bytes, at);
+    let len = u32_at(bytes, at + 8);
+    let id_place = place(limits.base, at);
+    let len_place = place(limits.base, at + 8);
+    let least_len = if several {
+        limits.block_size.div_ceil(2)
+    } else {
+        0
+    };
+    first_failure(&[
+        least(id_place, FIRST_BLOCK, id),
+        most(id_place, limits.next_block.saturating_sub(1), id),
+        most(len_place, MAX_CELLS.saturating_sub(before), len as u64),
+        least(len_place, 1, len as u64),
+        most(len_place, limits.block_size as u64, len as u64),
+        least(len_place, least_len as u64, len as u64),
+    ])?;
+    Ok(BlockRef { id, len })
+}
+
+/// The blocks from a place on, of a clip that may have several. The first begins at the cell `start`.
+pub(crate) fn read_blocks(
+    alloc: Global,
+    bytes: &[u8],
+    at: usize,
+    count: u32,
+    limits: Limits,
+    several: bool,
+    start: u64,
+) -> Result<Vec<BlockRef>, BadBody>
+    requires within { at + 12 * count ≤ length bytes.now }
+    requires near { start ≤ MAX_CELLS }
+    ensures { Finds (test.blocks_tests limits several count start at bytes.now)
+        (λ v. v.items ≡ there.blocks_at count at bytes.now) result }
+{
+    let mut blocks = Vec::with_capacity(alloc, count as usize)?;
+    let mut before = start;
+    for i in 0..count {
+        let block = read_block(bytes, at + 12 * i as usize, limits, several, before)?;
+        before += block.len as u64;
+        blocks.push(block)?;
+    }
+    Ok(blocks)
+}
+
+/// The clip at a place, which may begin at a cell or later.
+fn read_clip(
+    alloc: Global,
+    bytes: &[u8],
+    at: usize,
+    limits: Limits,
+    from: u64,
+) -> Result<Clip, BadBody>
+    requires within { at + there.clip_size at bytes.now ≤ length bytes.now }
+    ensures { Finds (test.clip_tests limits from at bytes.now) (λ c. c ≡ there.clip_at at bytes.now) result }
+{
+    let start = u64_at(bytes, at);
+    let count = u32_at(bytes, at + 8);
+    let start_place = place(limits.base, at);
+    first_failure(&[
+        least(start_place, from, start),
+        most(start_place, MAX_CELLS, start),
+        least(place(limits.base, at + 8), 1, count as u64),
+    ])?;
+    let blocks = read_blocks(alloc, bytes, at + 12, count, limits, count > 1, start)?;
+    Ok(Clip {
+        start,
+        blocks: Sequence::new(blocks),
+    })
+}
+
+/// This many clips from a place on.
+pub(crate) fn read_clips(
+    alloc: Global,
+    bytes: &[u8],
+    at: usize,
+    count: u32,
+    limits: Limits,
+) -> Result<Layout, BadBody>
+    requires within { at + there.clips_size count at bytes.now ≤ length bytes.now }
+    ensures { Finds (test.clips_tests limits count 0 at bytes.now) (λ l. l ≡ there.clips_at count at bytes.now) result }
+{
+    let mut clips = Vec::with_capacity(alloc, count as usize)?;
+    let mut next = at;
+    let mut from = 0;
+    for _ in 0..count {
+        let clip = read_clip(alloc, bytes, next, limits, from)?;
+        next += clip_len(&clip);
+        from = clip.start + clip.blocks.len() + 1;
+        clips.push(clip)?;
+    }
+    Ok(Layout::from_clips(clips)?)
+}

@@ -1,0 +1,7 @@
+-- The lemmas, lowest first.
+pub mod Sayings
+pub mod VaultLemmas
+pub mod StretchLemmas
+pub mod FileLemmas
+pub mod BounceLemmas
+pub mod TellLemmas

@@ -1,0 +1,109 @@
+-- What becomes of a sound, call by call.
+use Rattle.std.proofs.Common.{◌≡◌, inl, inr, ℕ, ◌+◌, ◌≤◌, Bool, List, [], ◌++◌, length, take, Option, Some, refl, sym}
+use Rattle.std.proofs.Common.{◌∙◌, ap, subst, arith, append_assoc, length-append, Result, Ok, Err, MatchResult}
+use Rattle.std.specs.Prelude.{IsTrue, OnOk, OnErr}
+use Rattle.std.proofs.lemmas.List.{append-nil, take_all}
+use Rattle.std.proofs.Math.Seq.{take-add, take-append_seam, drop-append_seam}
+use Rattle.pcm_base.specs.Causes.{HasCause}
+use Rattle.pcm_base.specs.Outside.{SameElsewhere}
+use Rattle.edit_ports.specs.declared.vault.Vault as vault
+use Rattle.edit_ports.specs.Sounds.{MayHaveGrown, sound_bytes}
+use Rattle.wav_pcm.specs.Written.{IsThere}
+use Rattle.sound_bounce.specs.Bounces.{GrowFails, Grows, Keeps, moved}
+
+take_past : (xs ys : List ℕ) (n : ℕ) → take (length xs + n) (xs ++ ys) ≡ xs ++ take n ys
+take_past xs ys n = take-add (length xs) n (xs ++ ys) ∙ rw (take-append_seam xs ys, drop-append_seam xs ys)
+
+-- a part more may have come, or the front of it
+grown_after : (old mid new : Option (List ℕ)) (done piece : List ℕ) → mid ≡ Some (sound_bytes old ++ done)
+    → MayHaveGrown piece mid new → MayHaveGrown (done ++ piece) old new
+grown_after old mid new done piece before (inl same) =
+    inr (
+      length done,
+      omega (arith, length-append done piece),
+      same ∙ before ∙ ap (λ xs. Some (sound_bytes old ++ xs)) (sym (take-append_seam done piece)),
+    )
+grown_after old mid new done piece before (inr (n, le, is)) =
+    inr (
+      length done + n,
+      omega (arith, le, length-append done piece),
+      is ∙ ap (λ o. Some (sound_bytes o ++ take n piece)) before
+          ∙ ap Some (append_assoc (sound_bytes old) done (take n piece))
+          ∙ ap (λ xs. Some (sound_bytes old ++ xs)) (sym (take_past done piece n)),
+    )
+
+-- all of it came
+grown_all : (old new : Option (List ℕ)) (bytes : List ℕ) → new ≡ Some (sound_bytes old ++ bytes)
+    → MayHaveGrown bytes old new
+grown_all old new bytes is =
+    let le : length bytes ≤ length bytes = omega arith in
+    inr (length bytes, le, is ∙ ap (λ xs. Some (sound_bytes old ++ xs)) (sym (take_all (length bytes) bytes le)))
+
+-- a sound that is there
+pub there_of : (o : Option (List ℕ)) (bytes : List ℕ) → o ≡ Some bytes → IsThere o
+there_of o bytes is = subst IsThere (sym is) refl
+
+module _ {V : Type 0} (ghosts : vault.Ghosts V) (name : List ℕ) where
+  pub still : (a b : V) → ghosts.tells b ≡ ghosts.tells a → IsTrue (ghosts.tells a) → IsTrue (ghosts.tells b)
+  still a b same told = subst (λ (x : Bool). IsTrue x) (sym same) told
+
+  pub keeps_self : (a : V) → Keeps (moved ghosts name a a)
+  keeps_self a = record { others = λ told other differs. refl; tells = refl }
+
+  pub keeps_on : (a b c : V) → Keeps (moved ghosts name a b) → Keeps (moved ghosts name b c)
+      → Keeps (moved ghosts name a c)
+  keeps_on a b c h k = record {
+    others = λ told other differs. k.others (still a b h.tells told) other differs ∙ h.others told other differs;
+    tells = k.tells ∙ h.tells;
+  }
+
+  pub grows_self : (a : V) → (IsTrue (ghosts.tells a) → IsThere (ghosts.holds a name))
+      → Grows (moved ghosts name a a) []
+  grows_self a there = record {
+    keeps = keeps_self a;
+    written = λ told. there told ∙ ap Some (sym (append-nil (sound_bytes (ghosts.holds a name))));
+    faults = refl;
+  }
+
+  pub grows_on : (a b c : V) (xs ys : List ℕ) → Grows (moved ghosts name a b) xs → Grows (moved ghosts name b c) ys
+      → Grows (moved ghosts name a c) (xs ++ ys)
+  grows_on a b c xs ys h k = record {
+    keeps = keeps_on a b c h.keeps k.keeps;
+    written = λ told. k.written (still a b h.keeps.tells told)
+        ∙ ap (λ (o : Option (List ℕ)). Some (sound_bytes o ++ ys)) (h.written told)
+        ∙ ap Some (append_assoc (sound_bytes (ghosts.holds a name)) xs ys);
+    faults = k.faults ∙ h.faults;
+  }
+
+  -- a part more, which the vault did not take
+  pub grown_on : (a b c : V) (xs ys : List ℕ) → Grows (moved ghosts name a b) xs
+      → GrowFails (moved ghosts name b c) ys → IsTrue (ghosts.tells a)
+      → MayHaveGrown (xs ++ ys) (ghosts.holds a name) (ghosts.holds c name)
+  grown_on a b c xs ys h k told =
+      grown_after (ghosts.holds a name) (ghosts.holds b name) (ghosts.holds c name) xs ys (h.written told)
+      (k.grown (still a b h.keeps.tells told))
+
+  pub grown_so : (a b : V) (xs : List ℕ) → Grows (moved ghosts name a b) xs → IsTrue (ghosts.tells a)
+      → MayHaveGrown xs (ghosts.holds a name) (ghosts.holds b name)
+  grown_so a b xs h told = grown_all (ghosts.holds a name) (ghosts.holds b name) xs (h.written told)
+
+  -- what an append says
+  pub grown_by : {T E : Type 0} (a b : V) (bytes : List ℕ) (result : Result T E)
+      → (IsTrue (ghosts.tells a)
+      → OnOk result (ghosts.holds b name ≡ Some (sound_bytes (ghosts.holds a name) ++ bytes)))
+      → (IsTrue (ghosts.tells a)
+      → OnErr result (MayHaveGrown bytes (ghosts.holds a name) (ghosts.holds b name)))
+      → (IsTrue (ghosts.tells a) → SameElsewhere name (ghosts.holds a) (ghosts.holds b))
+      → ghosts.tells b ≡ ghosts.tells a → HasCause (ghosts.fault_count a) (ghosts.fault_count b) result
+      → MatchResult result (λ _. Grows (moved ghosts name a b) bytes) (λ _. GrowFails (moved ghosts name a b) bytes)
+  grown_by a b bytes (Ok x) written grown others tells cause = record {
+    keeps = record { others = others; tells = tells };
+    written = written;
+    faults = cause.kept;
+  }
+  grown_by a b bytes (Err e) written grown others tells cause = record {
+    keeps = record { others = others; tells = tells };
+    grown = grown;
+    later = cause.later;
+    rose = cause.failed;
+  }

@@ -1,0 +1,34 @@
+// What a bounce needs memory for.
+ghost use Rattle.std.specs.Prelude.{◌≡◌, ◌≤◌, ◌+◌, ◌*◌, length, IfOk};
+ghost use Rattle.pcm_base.specs.declared.limits.TheConstants.{MAX_LOADED};
+
+use mixdown::Loaded;
+use pcm_base::{Frame, NoMemory};
+use std::alloc::Global;
+
+/// A stretch of the tracks, its frames, and their bytes.
+#[derive(Drop)]
+pub(crate) struct Buffers {
+    pub(crate) loaded: Loaded,
+    pub(crate) frames: Vec<Frame>,
+    pub(crate) bytes: Vec<u8>,
+}
+
+impl Buffers {
+    /// Room for this many frames. The cells of the tracks take theirs at the first load, when it is known how many
+    /// tracks there are.
+    pub(crate) fn new(alloc: Global, batch: usize) -> Result<Buffers, NoMemory>
+        requires few { batch ≤ MAX_LOADED }
+        ensures frames { IfOk result (λ b. length b.frames.items ≡ batch) }
+        ensures bytes { IfOk result (λ b. length b.bytes.items ≡ 64 + 4 * batch) }
+    {
+        let silence = Frame { left: 0, right: 0 };
+        let frames = vec![in alloc; silence; batch]?;
+        let bytes = vec![in alloc; 0u8; 64 + 4 * batch]?;
+        Ok(Buffers {
+            loaded: Loaded::new(alloc),
+            frames,
+            bytes,
+        })
+    }
+}

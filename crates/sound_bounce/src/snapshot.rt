@@ -1,0 +1,257 @@
+// The mix of a snapshot, written to a vault.
+ghost use Rattle.std.specs.Prelude.{◌≡◌, ◌≤◌, ◌<◌, ◌+◌, ◌*◌, ◌^◌, length, MatchResult, Ok, Err};
+ghost use Rattle.pcm_base.specs.declared.limits.TheConstants.{MAX_LOADED};
+ghost use Rattle.pin_turn.specs.Calls.{known};
+ghost use Rattle.studio_seats.specs.Desks.{IsAt, start_at, views};
+ghost use Rattle.studio_seats.specs.Stands.{origin};
+ghost use Rattle.sound_bounce.specs.Bounces.{
+  Bounced,
+  Files,
+  IsDone,
+  IsGone,
+  IsWritten,
+  leaves_pin,
+  may_let_go,
+  moved,
+};
+
+use super::buffers::Buffers;
+use super::stretches::write_stretches;
+use disk_model::Store;
+use edit_ports::Vault;
+use mixdown::Loaded;
+use pcm_base::{Frame, Refusal, Said};
+use std::alloc::Global;
+use std::sync::Wait;
+use std::thread::Threads;
+use studio_seats::{Desk, DeskSeat};
+use wav_pcm::start_wav;
+
+/// How many bytes the file of this many frames has, where all were written.
+fn sized(len: u64, what: Result<(), Refusal>) -> Result<u64, Refusal>
+    requires { 44 + 4 * len < 2 ^ 64 }
+    ensures { MatchResult what (λ _. result ≡ Ok (44 + 4 * len)) (λ why. result ≡ Err why) }
+{
+    match what {
+        Ok(()) => Ok(44 + 4 * len),
+        Err(reason) => Err(reason),
+    }
+}
+
+/// Writes the file of a pin that has `len` frames, and answers how many bytes it has. TooLong is tested before anything
+/// is written.
+fn write_file<R: Threads + Wait + Sync, S: Store, V: Vault>(
+    rt: &R,
+    desk: &Desk<S, V>,
+    seat: &mut DeskSeat<S, V>,
+    vault: &mut V,
+    name: &str,
+    pin: u64,
+    len: u64,
+    batch: usize,
+    loaded: &mut Loaded,
+    frames: &mut [Frame],
+    bytes: &mut [u8],
+) -> Result<u64, Refusal>
+    requires seat { IsAt desk.now seat.old }
+    requires batch { batch ≤ MAX_LOADED }
+    requires frames { length frames.old ≡ batch }
+    requires bytes { 64 + 4 * batch ≤ length bytes.old }
+    ensures same { IsAt desk.now seat.new }
+    ensures files { Files (start_at desk.now).rate pin batch len result (views (known seat.old) (known seat.new))
+        (moved V.Vault name.now vault.old vault.new) }
+{
+    let per_second = desk.rate();
+    match start_wav(vault, name, len, per_second, bytes) {
+        Ok(()) => sized(
+            len,
+            write_stretches(
+                rt, desk, seat, vault, name, pin, len, batch, loaded, frames, bytes,
+            ),
+        ),
+        Err(reason) => Err(reason),
+    }
+}
+
+/// Writes the mix of a pin, and answers how many bytes the file has. The length is asked in one turn.
+fn write_pinned<R: Threads + Wait + Sync, S: Store, V: Vault>(
+    rt: &R,
+    desk: &Desk<S, V>,
+    seat: &mut DeskSeat<S, V>,
+    vault: &mut V,
+    name: &str,
+    pin: u64,
+    batch: usize,
+    loaded: &mut Loaded,
+    frames: &mut [Frame],
+    bytes: &mut [u8],
+) -> Result<u64, Refusal>
+    requires seat { IsAt desk.now seat.old }
+    requires batch { batch ≤ MAX_LOADED }
+    requires frames { length frames.old ≡ batch }
+    requires bytes { 64 + 4 * batch ≤ length bytes.old }
+    ensures same { IsAt desk.now seat.new }
+    ensures written { IsWritten (start_at desk.now).rate pin batch result (views (known seat.old) (known seat.new))
+        (moved V.Vault name.now vault.old vault.new) }
+{
+    let Said { at: _, what } = desk.pin_len(rt, seat, pin);
+    match what {
+        Ok(len) => write_file(
+            rt, desk, seat, vault, name, pin, len, batch, loaded, frames, bytes,
+        ),
+        Err(reason) => Err(reason),
+    }
+}
+
+/// Whether a refusal leaves the pin to be let go. Of these two another seat did so already, or no turn is left for it.
+fn leaves_pin(why: &Refusal) -> bool
+    ensures { result ≡ leaves_pin why.now }
+{
+    match why {
+        Refusal::NoPin { pin: _ } => false,
+        Refusal::Spent { turns: _ } => false,
+        _ => true,
+    }
+}
+
+/// The same of an answer.
+fn may_let_go(what: &Result<u64, Refusal>) -> bool
+    ensures { result ≡ may_let_go what.now }
+{
+    match what {
+        Ok(_) => true,
+        Err(why) => leaves_pin(why),
+    }
+}
+
+/// Lets a pin go, where it may be.
+fn let_go<R: Wait, S: Store, V: Vault>(
+    rt: &R,
+    desk: &Desk<S, V>,
+    seat: &mut DeskSeat<S, V>,
+    pin: u64,
+    may: bool,
+) -> Result<(), Refusal>
+    requires { IsAt desk.now seat.old }
+    ensures same { IsAt desk.now seat.new }
+    ensures gone { IsGone pin may (views (known seat.old) (known seat.new)) }
+{
+    if may {
+        let Said { at: _, what } = desk.unpin(rt, seat, pin);
+        what
+    } else {
+        Ok(())
+    }
+}
+
+/// Writes the mix of a pin, and lets the pin go.
+fn write_and_let_go<R: Threads + Wait + Sync, S: Store, V: Vault>(
+    rt: &R,
+    desk: &Desk<S, V>,
+    seat: &mut DeskSeat<S, V>,
+    vault: &mut V,
+    name: &str,
+    pin: u64,
+    batch: usize,
+    loaded: &mut Loaded,
+    frames: &mut [Frame],
+    bytes: &mut [u8],
+) -> Result<u64, Refusal>
+    requires seat { IsAt desk.now seat.old }
+    requires batch { batch ≤ MAX_LOADED }
+    requires frames { length frames.old ≡ batch }
+    requires bytes { 64 + 4 * batch ≤ length bytes.old }
+    ensures same { IsAt desk.now seat.new }
+    ensures done { IsDone (start_at desk.now).rate pin batch result (views (known seat.old) (known seat.new))
+        (moved V.Vault name.now vault.old vault.new) }
+{
+    let what = write_pinned(
+        rt, desk, seat, vault, name, pin, batch, loaded, frames, bytes,
+    );
+    let may = may_let_go(&what);
+    let _gone = let_go(rt, desk, seat, pin, may);
+    what
+}
+
+/// As [`bounce`], with memory for it.
+fn write_current<R: Threads + Wait + Sync, S: Store, V: Vault>(
+    rt: &R,
+    desk: &Desk<S, V>,
+    seat: &mut DeskSeat<S, V>,
+    vault: &mut V,
+    name: &str,
+    batch: usize,
+    loaded: &mut Loaded,
+    frames: &mut [Frame],
+    bytes: &mut [u8],
+) -> Said<u64>
+    requires seat { IsAt desk.now seat.old }
+    requires batch { batch ≤ MAX_LOADED }
+    requires frames { length frames.old ≡ batch }
+    requires bytes { 64 + 4 * batch ≤ length bytes.old }
+    ensures same { IsAt desk.now seat.new }
+    ensures bounced { Bounced (origin S.Store V.Vault (start_at desk.now)) batch result
+        (views (known seat.old) (known seat.new)) (moved V.Vault name.now vault.old vault.new) }
+{
+    let Said { at, what } = desk.pin(rt, seat);
+    match what {
+        Ok(pin) => Said {
+            at,
+            what: write_and_let_go(
+                rt, desk, seat, vault, name, pin, batch, loaded, frames, bytes,
+            ),
+        },
+        Err(reason) => Said {
+            at,
+            what: Err(reason),
+        },
+    }
+}
+
+/// Writes the mix of the current project as a WAV file, and lets others have turns meanwhile. One turn pins the
+/// project. One asks how long its mix is. For each `batch` frames one turn loads the tracks. They are mixed in threads,
+/// and written to the vault, while no turn is kept. A last turn lets the pin go. So the file is the mix of the project
+/// as it was at the commit number that is said, whatever others do before the file is whole.
+///
+/// Memory is taken for `batch` frames, their bytes, and the cells of the tracks. It does not grow with the length of
+/// the mix.
+///
+/// # Errors
+///
+/// `NoMemory` where there is none, which is the first thing that is tested; those of [`Desk::pin`]; `TooLong` before
+/// anything is written; those of [`Desk::load_pin`]; `VaultFault`. After each but `NoPin` and `Spent` the pin is let
+/// go. The sound is as it was, or holds the first bytes of the file.
+pub fn bounce<R: Threads + Wait + Sync, S: Store, V: Vault>(
+    rt: &R,
+    alloc: Global,
+    desk: &Desk<S, V>,
+    seat: &mut DeskSeat<S, V>,
+    vault: &mut V,
+    name: &str,
+    batch: usize,
+) -> Said<u64>
+    requires seat { IsAt desk.now seat.old }
+    requires some { 0 < batch }
+    requires batch { batch ≤ MAX_LOADED }
+    ensures same { IsAt desk.now seat.new }
+    ensures bounced { Bounced (origin S.Store V.Vault (start_at desk.now)) batch result
+        (views (known seat.old) (known seat.new)) (moved V.Vault name.now vault.old vault.new) }
+{
+    match Buffers::new(alloc, batch) {
+        Ok(mut buffers) => write_current(
+            rt,
+            desk,
+            seat,
+            vault,
+            name,
+            batch,
+            &mut buffers.loaded,
+            buffers.frames.as_mut_slice(),
+            buffers.bytes.as_mut_slice(),
+        ),
+        Err(_) => Said {
+            at: 0,
+            what: Err(Refusal::NoMemory),
+        },
+    }
+}

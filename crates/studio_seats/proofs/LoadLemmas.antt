@@ -1,0 +1,69 @@
+-- What is answered of a pin at one of the deeds of a desk.
+use Rattle.std.proofs.Common.{◌≡◌, ◌⊎◌, ℕ, List, ◌∷◌, ◌++◌, length, Some, None, subst, Result, Ok}
+use Rattle.pcm_base.specs.declared.answer.Reply.{Reply}
+use Rattle.pcm_base.specs.declared.answer.Reply.TheVariants.{Length, Loaded}
+use Rattle.pcm_base.specs.declared.command.Call.{Call}
+use Rattle.pcm_base.specs.declared.command.Call.TheVariants.{LoadPin, PinLen}
+use Rattle.pcm_base.specs.declared.lists.LoadedTrack.{LoadedTrack}
+use Rattle.pcm_base.specs.declared.refusal.Refusal.{Refusal}
+use Rattle.pcm_base.specs.declared.sound.Frame.{Frame}
+use Rattle.pcm_base.specs.Cells.{Project}
+use Rattle.pcm_base.specs.Mix.{loaded_of, mix_of}
+use Rattle.pcm_base.specs.Run.{Answers}
+use Rattle.pcm_base.specs.Studio as model
+use Rattle.disk_model.specs.declared.store.Store.{Ghosts}
+use Rattle.edit_ports.specs.declared.vault.Vault as vault
+use Rattle.editor_core.specs.Core.{Core}
+use Rattle.editor_core.specs.Studios.{IsHeld, studio_of}
+use Rattle.studio_seats.specs.declared.deed.Deed.{Deed}
+use Rattle.studio_seats.specs.Deeds.{entries_of}
+use Rattle.studio_seats.specs.Pins.{ShowsPin, pin_frames}
+use Rattle.studio_seats.specs.Stands.{AllTell, StandsFor, origin}
+use Rattle.studio_seats.proofs.Chains.{chain_cut}
+use Rattle.studio_seats.proofs.Grown.{all_told, leads}
+use Rattle.studio_seats.proofs.PinLemmas.{load_tracks, pin_length, run_shows}
+
+-- What a pin of these frames shows at a deed, or that it is gone, and the step that the deed is.
+record AtDeed (pin : ℕ) (all : List Frame) (d : Deed) : Type 0 where
+  t : model.Studio
+  u : model.Studio
+  step : Answers t d.call d.sound d.what u
+  shows : ShowsPin t.state pin all ⊎ (t.state.pins pin ≡ None)
+
+module _ {D V : Type 0} (disk : Ghosts D) (vaults : vault.Ghosts V) (start now : Core D) (front back : List Deed)
+    (d : Deed) (stands : StandsFor (origin disk vaults start) now (front ++ d ∷ back)) (tell : AllTell vaults)
+    (held : IsHeld disk start) (pin : ℕ) (all : List Frame)
+    (frames : pin_frames (studio_of disk start).rate (studio_of disk start).state (entries_of front) pin ≡ Some all)
+  where
+    at_deed : AtDeed pin all d
+    at_deed =
+        let cut = chain_cut disk vaults start front (d ∷ back) now stands.chain in
+        let stood : StandsFor (origin disk vaults start) cut.0 front =
+        record { began = stands.began; chain = cut.1 } in
+        let led = leads (origin disk vaults start) cut.0 front stood in
+        let told = all_told vaults front tell in
+        record {
+          t = studio_of disk cut.0;
+          u = studio_of disk cut.2.0;
+          step = (cut.2.1.took (λ some. tell)).step (led.held told held);
+          shows = run_shows pin (studio_of disk start) (studio_of disk cut.0) (entries_of front) all
+              (led.run told held) frames;
+        }
+
+    -- tracks that were loaded
+    pub loads_at : (from most : ℕ) (tracks : List LoadedTrack) → d.call ≡ LoadPin pin from most
+        → d.what ≡ Ok (Loaded tracks)
+        → (project : Project) × (all ≡ mix_of project) × (tracks ≡ loaded_of from most project)
+    loads_at from most tracks call_is what_is =
+        let at = at_deed in
+        load_tracks at.t at.u pin from most d.sound tracks all
+        (subst (λ (w : Result Reply Refusal). Answers at.t (LoadPin pin from most) d.sound w at.u) what_is
+        (subst (λ (c : Call). Answers at.t c d.sound d.what at.u) call_is at.step)) at.shows
+
+    -- a length that was answered
+    pub length_at : (n : ℕ) → d.call ≡ PinLen pin → d.what ≡ Ok (Length n) → n ≡ length all
+    length_at n call_is what_is =
+        let at = at_deed in
+        pin_length at.t at.u pin n d.sound all
+        (subst (λ (w : Result Reply Refusal). Answers at.t (PinLen pin) d.sound w at.u) what_is
+        (subst (λ (c : Call). Answers at.t c d.sound d.what at.u) call_is at.step)) at.shows
