@@ -7,7 +7,7 @@ from projects import Project, append, length_of, spell_edit, spell_header
 SIDES = ["both", "left", "right"]
 # The settings of a track: their places in it, and values to set.
 SETTINGS = {"level": (1, [0, 1, 65_536, 1_048_576]), "side": (2, [0, 1, 2]), "mute": (3, [0, 1])}
-LINES = ["track", "drop", "undo", "redo", "purge", "show", "set", "set", *["compact"] * 2, *["put"] * 5]
+LINES = ["track", "drop", "undo", "redo", "purge", "purge-to", "show", "set", "set", *["compact"] * 2, *["put"] * 5]
 
 
 def track_lines(project):
@@ -52,7 +52,7 @@ def made(files, rate, block, depth):
     except Refused as fault:
         return refused(fault)
     project, out = Project(rate, block, depth), Bytes()
-    project.version = 2
+    project.version = 3
     spell_header(out, project)
     files[0] = bytes(out.data) + journals[0][len(out.data):]
     return ["ok 0"], 0
@@ -116,14 +116,17 @@ class Script:
         return True
 
     # Adds a record to the journal, in its file and its version.
-    def write(self, line, spell, *args):
+    def add(self, spell, *args):
         project, out = self.project, Bytes()
         journal = self.files[project.file]
         out.data += journal[:project.end + 1]
         append(out, spell, *args)
         self.files[project.file] = bytes(out.data) + journal[len(out.data):]
         project.end = len(out.data) - 1
-        self.say(line, f"ok {project.commit}")
+
+    def write(self, line, spell, *args):
+        self.add(spell, *args)
+        self.say(line, f"ok {self.project.commit}")
 
     def edit(self, line, tracks):
         before = self.project.tracks()
@@ -234,13 +237,29 @@ class Script:
             self.project.purge(count)
             self.write(line, lambda out: (out.put(1, 4), out.put(8, count)))
 
+    # How many bytes the files have of the blocks that points name, without this many of the oldest.
+    def size_without(self, count):
+        points = self.project.points[count:]
+        named = {block for tracks, _ in points for track in tracks for _, of in track[4] for block in of}
+        return sum(blocks.block_size(length) for _, length in named)
+
+    def purge_to(self, most):
+        line, cursor = f"purge-to {most}", self.project.cursor
+        count = next((it for it in range(cursor) if self.size_without(it) <= most), cursor)
+        if count == 0:
+            self.refuse(line, "BadRange")
+        elif self.has_space(line):
+            self.project.purge(count)
+            self.add(lambda out: (out.put(1, 4), out.put(8, count)))
+            self.say(line, f"purged {self.project.commit} {count}")
+
     # Puts the journal into one header, in the file that it was not in. What that file had before is gone.
     def compact(self):
         project = self.project
         if project.generation == END:
             return self.refuse("compact", f"SpaceSpent {END} 1")
         del self.files[project.file]
-        project.file, project.version = 1 - project.file, 2
+        project.file, project.version = 1 - project.file, 3
         project.generation += 1
         out = Bytes()
         spell_header(out, project)
@@ -265,6 +284,8 @@ class Script:
             getattr(self, way)()
         elif way == "purge":
             self.purge(draw.choice([0, 1, 1, 2, 5]))
+        elif way == "purge-to":
+            self.purge_to(draw.choice([0, 44, 100, 1000, 2**20, 2**63 - 1]))
         elif way == "track" or not tracks:
             self.track()
         else:

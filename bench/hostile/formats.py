@@ -154,19 +154,19 @@ def walk_whole(tests, body, read):
 # The body of a record by its kind; that of an unknown kind may have any length.
 def walk_body(version):
     def read(walk):
-        kind = walk.take(1)
+        kind, least = walk.take(1), min(version, 2)
         if kind[1] == 4:
             return kind, walk.take(8)
-        if kind[1] == (1, 5)[version - 1]:
+        if kind[1] == (1, 5)[least - 1]:
             head = [walk.take(8) for _ in range(3)]
             return kind, *head, *(walk_tracks if version == 1 else walk_changes)(walk)
-        if not version <= kind[1] <= version + 3:
+        if not least <= kind[1] <= least + 3:
             walk.at = len(walk.data)
         return (kind,)
     return read
 
 
-# An edit of either version.
+# An edit of each version.
 def fold_edit(project, file, base, edit):
     kind, tag, next_block, next_track, count, said = edit
     tests = BodyTests(file, base, next_block[1], next_track[1], project.block)
@@ -190,8 +190,8 @@ def fold_edit(project, file, base, edit):
 def fold_record(project, file, base, body):
     tests = Tests(file, base)
     found = walk_whole(tests, body, walk_body(project.version))
-    at, kind = found[0]
-    tests.same((at, kind), max(project.version, min(project.version + 3, kind)))
+    (at, kind), least = found[0], min(project.version, 2)
+    tests.same((at, kind), max(least, min(least + 3, kind)))
     tests.at_least((at, min(END - project.commit, 1)), 1)
     if kind == 2:
         tests.at_least((at, min(project.cursor, 1)), 1)
@@ -226,7 +226,7 @@ def framed(tests, data, at):
     return data[at + 4:end]
 
 
-# The fields that version 2 adds, each of which the file may lack.
+# The fields that versions 2 and 3 add, each of which the file may lack.
 def read_base(tests, data, project):
     def take(at, width, low, high):
         tests.is_there(at, at + width, len(data))
@@ -241,8 +241,13 @@ def read_base(tests, data, project):
     project.next_track = take(45, 8, 1, END)
     count = take(53, 4, 1, project.depth)
     cursor = take(57, 4, 0, count - 1)
-    tests.is_there(61, 64, len(data))
-    for at in range(61, 64):
+    # The bits of a sample, and zeros.
+    zeros = 61 if project.version == 2 else 62
+    if project.version > 2:
+        tests.is_there(61, 62, len(data))
+        tests.same((61, data[61]), 16)
+    tests.is_there(zeros, 64, len(data))
+    for at in range(zeros, 64):
         tests.same((at, data[at]), 0)
     return count, cursor
 
@@ -262,10 +267,10 @@ def read_points(tests, data, project, count):
 def read_header(tests, data):
     magic, version, rate, most, depth = ((at, number(data, at, 4)) for at in range(1, 21, 4))
     tests.same(magic, MAGIC)
-    tests.same(version, max(1, min(2, version[1])))
+    tests.same(version, max(1, min(3, version[1])))
     tests.at_least(rate, 1)
     tests.same(most, max(4, min(262_144, most[1] - most[1] % 2)))
-    tests.same(depth, max(1, min(4096, depth[1])))
+    tests.same(depth, max(1, min(4096 if version[1] < 3 else 65_536, depth[1])))
     project = Project(rate[1], most[1], depth[1])
     project.file, project.version = tests.file, version[1]
     if project.version == 1:
@@ -322,8 +327,8 @@ def generation_of(file, data):
     tests = Tests(file)
     version = number(data, 5, 4)
     tests.same((1, number(data, 1, 4)), MAGIC)
-    tests.same((5, version), max(1, min(2, version)))
-    generation = number(data, 21, 8) if version == 2 else 0
+    tests.same((5, version), max(1, min(3, version)))
+    generation = number(data, 21, 8) if version > 1 else 0
     tests.at_most((21, generation), END)
     return generation
 

@@ -1,4 +1,4 @@
-# Projects that are sound, drawn by a generator: journals of both versions, in file 0 or 1 or in both, with edits,
+# Projects that are sound, drawn by a generator: journals of each version, in file 0 or 1 or in both, with edits,
 # pieces, undos, redos and purges, and their blocks.
 from blocks import spell_block
 from fields import END, LONGEST, Bytes
@@ -6,7 +6,7 @@ from projects import Project, append, common, has_tail, last_blocks, least_mark,
 
 RATES = [1, 8000, 44_100, 2**32 - 1]
 MOST = [4, 4, 4, 6, 8, 64, 256, 512, 262_144]
-DEPTHS = [1, 2, 3, 4, 8, 256, 4096]
+DEPTHS = [1, 2, 3, 4, 8, 256, 4096, 65_536]
 GAINS = [65_536, 65_536, 0, 1, 1_048_576]
 
 
@@ -28,7 +28,8 @@ class Drawn:
         self.draw, self.journals, self.lengths, self.older = draw, {}, {}, set()
         self.project = Project(draw.choice(RATES), draw.choice(MOST), draw.choice(DEPTHS))
         self.project.file = draw.choice([0, 0, 0, 1])
-        if draw.random() < 0.3:
+        self.versions = [2, 3, 3] if self.project.depth <= 4096 else [3]
+        if self.project.depth > 4096 or draw.random() < 0.3:
             self.records()
             self.rebase()
         self.begin()
@@ -44,10 +45,10 @@ class Drawn:
         self.journals[self.project.file] = Journal(self.project)
         self.records()
 
-    # What a header of version 2 says besides the history.
+    # What a header of version 2 or 3 says besides the history.
     def rebase(self):
         draw, project = self.draw, self.project
-        project.version = 2
+        project.version = draw.choice(self.versions)
         project.generation = draw.choice([0, 1, 3, 2**32, END - 1, END])
         if draw.random() < 0.3:
             project.commit = draw.choice([project.commit + 5, 2**40, END, END - 1, END - 4])
@@ -62,7 +63,7 @@ class Drawn:
         if project.generation < END:
             self.older.update(id for id, _ in project.named())
             project.generation += self.draw.choice([1, 1, 1, END - project.generation])
-            project.file, project.version = 1 - project.file, 2
+            project.file, project.version = 1 - project.file, self.draw.choice(self.versions)
             self.begin()
 
     def records(self):

@@ -91,7 +91,7 @@ def spell_header(out, project):
     else:
         out.put(8, project.generation, project.commit, project.next_block, project.next_track)
         out.put(4, len(project.points), project.cursor)
-        out.put(1, 0, 0, 0)
+        out.put(1, 0 if project.version == 2 else 16, 0, 0)
         for tracks, tag in project.points:
             spell_with_length(out, spell_point, tracks, tag)
     out.put(1, 0)
