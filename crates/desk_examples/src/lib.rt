@@ -6,4 +6,6 @@ mod desk_tests;
 #[cfg(test)]
 mod disks;
 #[cfg(test)]
+mod load_tests;
+#[cfg(test)]
 mod stop_tests;
