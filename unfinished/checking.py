@@ -5,6 +5,7 @@ import collections
 import glob
 import os
 import re
+import shutil
 import subprocess
 
 import moving
@@ -377,7 +378,7 @@ def check_imports():
                 wrong.append("crates.txt has %s twice on the line of %s" % (low, crate))
             if low in lows and order.index(low) >= order.index(crate):
                 wrong.append("%s comes before %s in crates.txt" % (crate, low))
-            if low not in lows and not os.path.exists("/opt/rattle/rlibs/%s" % low) and not is_library(low):
+            if low not in lows and not is_library(low):
                 wrong.append("crates.txt: %s stands on %s, which is no crate" % (crate, low))
     for folder in sorted(os.listdir("crates")):
         if folder not in lows and os.path.isdir("crates/%s/src" % folder):
@@ -443,7 +444,7 @@ def one_line_imports(text):
 def is_library(name):
     """Whether the kit or the language has a library of this name, by the kit's own list."""
     if not hasattr(is_library, "names"):
-        m = re.search(r'^TAKEN = "([^"]*)"', open("/opt/rattle/bin/rt").read(), flags=re.M)
+        m = re.search(r'^TAKEN = "([^"]*)"', open(shutil.which("rt")).read(), flags=re.M)
         is_library.names = set(m[1].split()) if m else set()
     return name in is_library.names
 
