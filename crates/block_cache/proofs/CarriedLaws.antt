@@ -1,79 +1,37 @@
--- What lets a store and its cache go on together.
-use Rattle.std.proofs.Common.{◌≡◌, ℕ, Bool, List, Contains, subst}
+-- What stays of a cache whose entries are of blocks whose ids pass a test.
+use Rattle.std.proofs.Common.{◌≡◌, ℕ, Bool, subst}
 use Rattle.std.specs.Prelude.{IsTrue}
-use Rattle.disk_model.specs.Disk.{Files, RemoveStep}
-use Rattle.disk_model.specs.Frames.{Changed, Kept}
+use Rattle.disk_model.specs.Disk.{Files}
+use Rattle.disk_model.specs.Frames.{Changed}
 use Rattle.disk_model.specs.Room.{Room}
 use Rattle.disk_model.specs.declared.store.Store.{Ghosts}
-use Rattle.pcm_base.specs.declared.block.BlockRef.{BlockRef}
-use Rattle.block_cache.specs.Caches.{Entries, IsCacheWithout, KeepsCache, no_entries}
-use Rattle.block_cache.specs.Carried.{HasCache}
-use Rattle.block_cache.proofs.CacheLaws.{cached_on, none_pass, none_right, right_before, right_elsewhere, right_without}
+use Rattle.block_cache.specs.Caches.{AllPass, Entries, IsCacheOf, IsCacheWithout}
+use Rattle.block_cache.proofs.CacheLaws.{right_elsewhere}
 
-module _ {D : Type 0} (disk : Ghosts D) where
-  -- a cache without entries
-  pub carried_none : (test : ℕ → Bool) (store : D) (pages : ℕ) → HasCache disk test store (no_entries pages)
-  carried_none test store pages = record {
-    ids = none_pass test pages;
-    right = λ told. none_right (disk.reads store) pages;
-  }
+-- more pass
+pub pass_more : (test more : ℕ → Bool) (c : Entries) → ((id : ℕ) → IsTrue (test id) → IsTrue (more id)) → AllPass test c
+    → AllPass more c
+pass_more test more c wider pass = record {
+  headers = λ k has. wider k.id (pass.headers k has);
+  samples = λ e has. wider e.0.id (pass.samples e has);
+  frames = λ e has. wider e.0.id (pass.frames e has);
+}
 
-  -- reads of blocks that pass
-  pub carried_read : (test : ℕ → Bool) (old new : D) (bs : List BlockRef) (a b : Entries) → Kept disk old new
-      → KeepsCache (disk.tells old) (disk.reads old) bs a b
-      → ((b : BlockRef) → Contains bs b → IsTrue (test b.id))
-      → HasCache disk test old a → HasCache disk test new b
-  carried_read test old new bs a b kept keeps pass has = record {
-    ids = keeps.ids test pass has.ids;
-    right = cached_on old new bs a b kept keeps has.right;
-  }
+-- without the entries of a block
+pub pass_without : (test : ℕ → Bool) (id : ℕ) (a b : Entries) → IsCacheWithout id a b → AllPass test a → AllPass test b
+pass_without test id a b without pass = record {
+  headers = λ k has. pass.headers k ((without.headers k).0 has).0;
+  samples = λ e has. pass.samples e ((without.samples e).0 has).0;
+  frames = λ e has. pass.frames e ((without.frames e).0 has).0;
+}
 
-  -- reads without it
-  pub carried_kept : (test : ℕ → Bool) (old new : D) (c : Entries) → Kept disk old new
-      → HasCache disk test old c → HasCache disk test new c
-  carried_kept test old new c kept has = record {
-    ids = has.ids;
-    right = λ still.
-        let told : IsTrue (disk.tells old) = subst (λ (t : Bool). IsTrue t) kept.same_tells still in
-        right_before old new c kept (has.right told);
-  }
-
-  -- changes of files that do not pass
-  pub carried_change : (test : ℕ → Bool) (step : Files → Files → Type 0) (much : Room) (old new : D) (c : Entries)
-      → Changed disk step much old new
-      → ((files other : Files) → step files other → (id : ℕ) → IsTrue (test id) → other id ≡ files id)
-      → HasCache disk test old c → HasCache disk test new c
-  carried_change test step much old new c changed same has = record {
-    ids = has.ids;
-    right = λ still.
-        let told : IsTrue (disk.tells old) = subst (λ (t : Bool). IsTrue t) changed.tells still in
-        right_elsewhere (disk.reads old) (disk.reads new) test c has.ids
-        (same (disk.reads old) (disk.reads new) (changed.reads told)) (has.right told);
-  }
-
-  -- more pass
-  pub carried_more : (test more : ℕ → Bool) (store : D) (c : Entries)
-      → ((id : ℕ) → IsTrue (test id) → IsTrue (more id)) → HasCache disk test store c → HasCache disk more store c
-  carried_more test more store c wider has = record {
-    ids = record {
-      headers = λ k there. wider k.id (has.ids.headers k there);
-      samples = λ e there. wider e.0.id (has.ids.samples e there);
-      frames = λ e there. wider e.0.id (has.ids.frames e there);
-    };
-    right = has.right;
-  }
-
-  -- a removal after that of the block's entries
-  pub carried_drop : (test : ℕ → Bool) (id : ℕ) (much : Room) (old new : D) (a b : Entries)
-      → Changed disk (RemoveStep id) much old new → IsCacheWithout id a b
-      → HasCache disk test old a → HasCache disk test new b
-  carried_drop test id much old new a b changed without has = record {
-    ids = record {
-      headers = λ k there. has.ids.headers k ((without.headers k).0 there).0;
-      samples = λ e there. has.ids.samples e ((without.samples e).0 there).0;
-      frames = λ e there. has.ids.frames e ((without.frames e).0 there).0;
-    };
-    right = λ still.
-        let told : IsTrue (disk.tells old) = subst (λ (t : Bool). IsTrue t) changed.tells still in
-        right_without (disk.reads old) (disk.reads new) id a b without (changed.reads told).others (has.right told);
-  }
+-- changes of files that do not pass
+pub right_on : {D : Type 0} (disk : Ghosts D) (test : ℕ → Bool) (step : Files → Files → Type 0) (much : Room)
+    (was now : D) (c : Entries) → Changed disk step much was now
+    → ((files other : Files) → step files other → (id : ℕ) → IsTrue (test id) → other id ≡ files id)
+    → AllPass test c → (IsTrue (disk.tells was) → IsCacheOf (disk.reads was) c) → IsTrue (disk.tells now)
+    → IsCacheOf (disk.reads now) c
+right_on disk test step much was now c changed same pass right still =
+    let told : IsTrue (disk.tells was) = subst (λ (t : Bool). IsTrue t) changed.tells still in
+    right_elsewhere (disk.reads was) (disk.reads now) test c pass
+    (same (disk.reads was) (disk.reads now) (changed.reads told)) (right told)

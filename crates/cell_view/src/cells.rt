@@ -1,17 +1,15 @@
 // The cells of a layout.
-ghost use Rattle.std.specs.Prelude.{◌≡◌, ◌<◌, ◌+◌, ◌-◌, ◌^◌, length, take, drop, min, IsTrue, IsOkUnless, IfOk, IfErr};
-ghost use Rattle.disk_model.specs.Frames.{Kept};
+ghost use Rattle.std.specs.Prelude.{◌≡◌, ◌<◌, ◌+◌, ◌-◌, ◌^◌, length, take, drop, min, IsTrue, IsOkUnless, IfOk};
 ghost use Rattle.sample_block.specs.Sources.{sources_of, AllNamed, AllWhole};
 ghost use Rattle.block_store.specs.declared.fault.BlockFault.TheVariants as fault;
-ghost use Rattle.block_cache.specs.Caches.{IsCacheOf, KeepsCache};
-ghost use Rattle.block_store.specs.Reads.{Counted, IsFaultIn};
+ghost use Rattle.block_cache.specs.Readers.{Reads};
 ghost use Rattle.clip_track.specs.Clips.{end_of, layout_blocks, layout_cells};
 ghost use Rattle.cell_view.specs.Stored.{stored_of};
 
 use super::ahead::read_ahead;
 use super::places::{View, place_in};
 use super::rest::rest_at;
-use block_cache::Cache;
+use block_cache::BlockReader;
 use block_store::BlockFault;
 use clip_track::Layout;
 use disk_model::Store;
@@ -22,31 +20,25 @@ use pcm_base::Cell;
 /// of the store, and none after the cells seen is looked at. Pages that the cache has are not read again. After an
 /// error `out` may have been written in part.
 pub fn read_cells<S: Store>(
-    store: &mut S,
-    cache: &mut Cache,
+    reader: &mut BlockReader<S>,
     layout: &Layout,
     from: u64,
     out: &mut [Cell],
 ) -> Result<usize, BlockFault>
     requires named { AllNamed (layout_blocks layout.now) }
     requires few { from + length out.old < 2 ^ 64 }
-    requires cached { IsTrue (S.tells store.old) → IsCacheOf (S.reads store.old) cache.old }
-    ensures cache { KeepsCache (S.tells store.old) (S.reads store.old) (layout_blocks layout.now) cache.old cache.new }
+    ensures reads { Reads (layout_blocks layout.now) reader.old reader.new result }
     ensures count { IfOk result (λ n. n ≡ min (length out.old) (end_of 0 layout.now - from)) }
     // They are what stands in the files of the blocks, and where the disk has all blocks their samples.
-    ensures stored { IsTrue (S.tells store.old) → IfOk result (λ n. take n out.new
-        ≡ take (length out.old) (drop from (layout_cells (stored_of (S.reads store.old)) layout.now))) }
-    ensures read { IsTrue (S.tells store.old) → AllWhole (S.reads store.old) (layout_blocks layout.now)
+    ensures stored { IsTrue (S.tells reader.old.store) → IfOk result (λ n. take n out.new
+        ≡ take (length out.old) (drop from (layout_cells (stored_of (S.reads reader.old.store)) layout.now))) }
+    ensures read { IsTrue (S.tells reader.old.store) → AllWhole (S.reads reader.old.store) (layout_blocks layout.now)
         → IfOk result (λ n. take n out.new
-        ≡ take (length out.old) (drop from (layout_cells (sources_of (S.reads store.old)) layout.now))) }
+        ≡ take (length out.old) (drop from (layout_cells (sources_of (S.reads reader.old.store)) layout.now))) }
     ensures rest { IfOk result (λ n. drop n out.new ≡ drop n out.old) }
-    // Where the disk has all blocks nothing but the disk refuses; a fault of a file is of one of them.
-    ensures sound { IsTrue (S.tells store.old) → AllWhole (S.reads store.old) (layout_blocks layout.now)
+    // Where the disk has all blocks nothing but the disk refuses.
+    ensures sound { IsTrue (S.tells reader.old.store) → AllWhole (S.reads reader.old.store) (layout_blocks layout.now)
         → IsOkUnless result fault.DiskFault }
-    ensures damaged { IsTrue (S.tells store.old)
-        → IfErr result (λ e. IsFaultIn (S.reads store.old) (layout_blocks layout.now) e) }
-    ensures kept { Kept S.Store store.old store.new }
-    ensures faults { Counted result (S.read_fault_count store.old) (S.read_fault_count store.new) }
 {
     let view = View {
         from,
@@ -54,6 +46,6 @@ pub fn read_cells<S: Store>(
     };
     let count = place_in(view, layout.len());
     let rest = rest_at(layout, from);
-    read_ahead(store, cache, layout, &rest, from, &mut out[..count])?;
+    read_ahead(reader, layout, &rest, from, &mut out[..count])?;
     Ok(count)
 }

@@ -3,9 +3,8 @@
 //!
 //! The layers above use two contracts. `read_cells` gives the cells of a layout from a place on, as many as there are.
 //! `read_ahead` gives them, and gaps past the end, to who goes through a track a stretch at a time: what is left of the
-//! track (`TrackRest`) is handed in, so that no clip or block is passed twice, and the block whose header was compared
-//! last, so that no header is read again for the next stretch of its block. No memory is taken, and no sample is read
-//! but those that are seen.
+//! track (`TrackRest`) is handed in, so that no clip or block is passed twice. Both read by a `BlockReader`, so that no
+//! header is compared twice and no page is read twice while it is kept. Only blocks that are seen are read.
 #![tactic(auto)]
 
 mod ahead;

@@ -2,7 +2,7 @@
 ghost use Rattle.std.specs.Prelude.{ℕ};
 ghost use Rattle.pcm_base.specs.Form.{IsCallInForm, IsInForm, IsTurn};
 ghost use Rattle.editor_core.specs.Core.{core_of};
-ghost use Rattle.editor_core.specs.Studios.{IsStudio};
+ghost use Rattle.editor_state.specs.Studios.{IsStudio};
 
 use super::tests::{disk, new_studio};
 use super::vaults::vault;

@@ -1,6 +1,6 @@
 // Pins and block files that nothing names, of a studio on a disk in memory, whose blocks have at most 4 samples.
 ghost use Rattle.editor_core.specs.Core.{core_of};
-ghost use Rattle.editor_core.specs.Studios.{IsStudio};
+ghost use Rattle.editor_state.specs.Studios.{IsStudio};
 
 use super::scripts::Ask::{Line, Piece, Pin, PinLen, Unpin};
 use super::scripts::{Row, tells};

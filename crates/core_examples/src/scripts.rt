@@ -1,7 +1,7 @@
 // Scripts: what is asked of a studio, one after another, and the text of each answer.
 ghost use Rattle.pcm_base.specs.Form.{IsInForm};
 ghost use Rattle.editor_core.specs.Core.{core_of};
-ghost use Rattle.editor_core.specs.Studios.{IsStudio};
+ghost use Rattle.editor_state.specs.Studios.{IsStudio};
 
 use disk_model::Store;
 use edit_ports::{MemSink, Vault};

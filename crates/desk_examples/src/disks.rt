@@ -1,7 +1,7 @@
 // Projects on disks in memory, as they are made and opened, and what is found of them in the end.
 ghost use Rattle.std.specs.Prelude.{◌≡◌, IfOk, None, []};
 ghost use Rattle.editor_core.specs.Core.{core_of};
-ghost use Rattle.editor_core.specs.Studios.{IsStudio};
+ghost use Rattle.editor_state.specs.Studios.{IsStudio};
 ghost use Rattle.pin_turn.specs.Calls.{known};
 ghost use Rattle.studio_seats.specs.Desks.{IsAt, start_at};
 ghost use Rattle.seat_examples.specs.Jobs.{IsReady};

@@ -14,7 +14,7 @@ use Rattle.pin_turn.specs.declared.view.View.{View}
 use Rattle.pin_turn.specs.Counts.{Each, once_below, times}
 use Rattle.pin_turn.specs.Rule.{ByOthers}
 use Rattle.pin_turn.proofs.Sums.{Each-left}
-use Rattle.editor_core.specs.Core.{Core}
+use Rattle.editor_state.specs.Core.{Core}
 use Rattle.studio_seats.specs.declared.deed.Deed.{Deed}
 use Rattle.studio_seats.specs.declared.held.Held.{Held}
 use Rattle.studio_seats.specs.Deeds.{actor_of, number_after}
@@ -65,8 +65,8 @@ quiet (side.Made pin) c (inl (from, count, is)) = ap commits_of is
 quiet (side.Made pin) c (inr is) = ap commits_of is
 quiet (side.Refused why) c h = absurd h
 
-module _ {D V M : Type 0} (mics : source.Ghosts M) (mic : Change M) (first track : ℕ)
-    (v w : View (Held D V) Deed) (spent : Bool) (own : List Deed) where
+module _ {D V M : Type 0} {disk : Ghosts D} (mics : source.Ghosts M) (mic : Change M) (first track : ℕ)
+    (v w : View (Held D V disk) Deed) (spent : Bool) (own : List Deed) where
   abbrev IsRecording : Side → Option Kept → Type 0
   IsRecording made kept = WhereMade made
       (λ tag. IsSomeAnd kept
@@ -89,7 +89,7 @@ module _ {D V M : Type 0} (mics : source.Ghosts M) (mic : Change M) (first track
   pieces_are (side.Refused why) kept h r = no_pieces (record_calls track (side.Refused why)) (λ c k. k) kept h r.0
 
 module _ {D V M P : Type 0} (k : Kinds D V M P) (start final : Core D) (mid : V) (lent : Lent V M P) (out : Outcome)
-    (u v w : View (Held D V) Deed) (last : ℕ) (first : IsFirst u) (o : Opens start.commit_number out.opened u v)
+    (u v w : View (Held D V k.disk) Deed) (last : ℕ) (first : IsFirst u) (o : Opens start.commit_number out.opened u v)
     (is_last : last ≡ number_after start.commit_number v.seen) (same : mid ≡ lent.vault.before)
     (s : Sat k
     (record { start = start; track = start.next_track; last = last; seat = v; seat_now = w })
@@ -118,7 +118,7 @@ module _ {D V M P : Type 0} (k : Kinds D V M P) (start final : Core D) (mid : V)
   abbrev n : ℕ
   n = start.commit_number
 
-  abbrev x : Parted D V
+  abbrev x : Parted D V disk
   x = record { seat = v; script = s.script; recorder = s.recorder; player = s.player; joined = w }
 
   is_zero : v.number ≡ 0

@@ -5,6 +5,7 @@ use Rattle.pcm_base.specs.declared.command.Call.{Call}
 use Rattle.pcm_base.specs.declared.command.Call.TheVariants.{Unpin}
 use Rattle.pcm_base.specs.declared.refusal.Refusal.{Refusal}
 use Rattle.pcm_base.specs.declared.sound.Frame.{Frame}
+use Rattle.disk_model.specs.declared.store.Store.{Ghosts}
 use Rattle.edit_ports.specs.Answers.{AtEnd, NextAt, Reading, RefusedAt}
 use Rattle.edit_ports.specs.declared.sink.Sink as sink
 use Rattle.player_work.specs.Filled.{reads_to}
@@ -51,19 +52,19 @@ reads_later a b pin refused reading ds later h = record {
     by (RefusedAt at) (there, why, is, inl e) = (there, why, is, inl e)
     by (RefusedAt at) (there, why, is, inr e) = (there, why, is, inr (e.0, e.1, later e.2))
 
-module _ {D V : Type 0} where
+module _ {D V : Type 0} {disk : Ghosts D} where
   -- what a part adds is all that its seat has seen more
-  pub part_added : (fits : Call → Type 0) (v w : View (Held D V) Deed) (p : Part fits v w) (more : List Deed)
+  pub part_added : (fits : Call → Type 0) (v w : View (Held D V disk) Deed) (p : Part fits v w) (more : List Deed)
       → w.seen ≡ v.seen ++ more → p.added ≡ more
   part_added fits v w p more is = same_rest v.seen p.added more (sym p.seen ∙ is)
 
   -- what a seat that had been split off from v has seen
-  pub went : (fits : Call → Type 0) (v o w : View (Held D V) Deed) → o.seen ≡ v.seen → (onward : Onward fits o w)
+  pub went : (fits : Call → Type 0) (v o w : View (Held D V disk) Deed) → o.seen ≡ v.seen → (onward : Onward fits o w)
       → w.seen ≡ v.seen ++ onward.added
   went fits v o w same onward = onward.seen ∙ ap (λ (l : List Deed). l ++ onward.added) same
 
   -- all deeds of a recorder that had been split off from v
-  pub recorded : (track tag : ℕ) (failed : Bool) (v o w : View (Held D V) Deed) (told : Option Refusal)
+  pub recorded : (track tag : ℕ) (failed : Bool) (v o w : View (Held D V disk) Deed) (told : Option Refusal)
       → o.seen ≡ v.seen → RecordsOn track tag true failed (recorder o None 0) (recorder w told 0)
       → (other : Call → Type 0) → (p : Part other v w)
       → AreRecorded w.used_up told (deeds_of (by_seat w.number) p.added)
@@ -78,7 +79,7 @@ module _ {D V : Type 0} where
 
   -- a player's seat, which then releases the pin
   module _ {P : Type 0} (speakers : sink.Ghosts P) (speaker : Change P) (shows : List Frame → Type 0)
-      (pin first place : ℕ) (v o u w : View (Held D V) Deed) (heard : Heard) (same : o.seen ≡ v.seen)
+      (pin first place : ℕ) (v o u w : View (Held D V disk) Deed) (heard : Heard) (same : o.seen ≡ v.seen)
       (reads : ReadsOn pin (reads_to heard.refused place) (worker o None) (worker u heard.refused))
       (lets : LetsGo first pin u w)
       (other : Call → Type 0) (p : Part other v w) (played : IsPlayed speakers speaker shows place heard)

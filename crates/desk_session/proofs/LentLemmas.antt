@@ -1,6 +1,6 @@
 -- A session, by devices that are as those which came back.
 use Rattle.std.proofs.Common.{◌≡◌, ℕ, List, Option, sym, subst}
-use Rattle.editor_core.specs.Core.{Core}
+use Rattle.editor_state.specs.Core.{Core}
 use Rattle.script_session.specs.Change.{change}
 use Rattle.desk_session.specs.Lent.{Kinds, Outcome}
 use Rattle.desk_session.specs.Sessions.{IsSession}

@@ -7,6 +7,7 @@ use Rattle.pcm_base.specs.declared.answer.Reply.{Reply}
 use Rattle.pcm_base.specs.declared.command.Call.{Call}
 use Rattle.pcm_base.specs.declared.refusal.Refusal.{Refusal}
 use Rattle.pcm_base.specs.Counters.{commits_of}
+use Rattle.disk_model.specs.declared.store.Store.{Ghosts}
 use Rattle.pin_turn.specs.Counts.{Each, once_below, times}
 use Rattle.pin_turn.specs.Rule.{ByOthers}
 use Rattle.pin_turn.proofs.Sums.{Each-left, Each-right}
@@ -104,7 +105,8 @@ all_numbers kind n [] h = refl
 all_numbers kind n (e ∷ es) h =
     (λ i. numbers_if (h.0 i) (deeds.made e) n ++ all_numbers kind (raised_by e n) es h.1 i)
 
-module _ {D V : Type 0} (first : ℕ) (pieces reads : Call → Type 0) (x : Parted D V) (h : Rejoined pieces reads x)
+module _ {D V : Type 0} {disk : Ghosts D} (first : ℕ) (pieces reads : Call → Type 0) (x : Parted D V disk)
+    (h : Rejoined pieces reads x)
     (quiet : (c : Call) → reads c → commits_of c ≡ 0)
     (own : x.seat.mine ≡ places_of (by_seat x.seat.number) 0 x.seat.seen)
     (counts : (k : ℕ) → times k x.joined.mine ≡ once_below k (length x.joined.seen)) where

@@ -15,8 +15,8 @@ use Rattle.pcm_base.specs.Counters.{commits_of}
 use Rattle.disk_model.specs.declared.store.Store.{Ghosts}
 use Rattle.edit_ports.specs.declared.vault.Vault as vault
 use Rattle.pin_turn.specs.declared.view.View.{View}
-use Rattle.editor_core.specs.Core.{Core}
-use Rattle.editor_core.specs.Took.{silent, told_by}
+use Rattle.editor_state.specs.Core.{Core}
+use Rattle.editor_state.specs.Took.{silent, told_by}
 use Rattle.studio_seats.specs.declared.deed.Deed.{Deed}
 use Rattle.studio_seats.specs.declared.held.Held.{Held}
 use Rattle.studio_seats.specs.Deeds.{commits, deed, number_after}
@@ -65,7 +65,7 @@ number_one seat n call what few =
 nothing_more : (xs ys : List Deed) → xs ≡ xs ++ ys → ys ≡ []
 nothing_more xs ys h = same_rest xs ys [] (sym h ∙ sym (append-nil xs))
 
-module _ {D V A : Type 0} (disk : Ghosts D) (vaults : vault.Ghosts V) (start : Core D) (v w : View (Held D V) Deed)
+module _ {D V A : Type 0} (disk : Ghosts D) (vaults : vault.Ghosts V) (start : Core D) (v w : View (Held D V disk) Deed)
     (fits : Call → Type 0) (call : Call)
     (what : Result Reply Refusal) (said : Said A) (fit : fits call)
     (none : (why : Refusal) → said.what ≡ Err why → what ≡ Err why) (few : commits_of call ≤ 1) where
@@ -77,7 +77,7 @@ module _ {D V A : Type 0} (disk : Ghosts D) (vaults : vault.Ghosts V) (start : C
       let m = number_after start.commit_number v.seen in
       let on = onward_turn fits disk vaults start v w call what silent said fit (inl x) in
       let seen : w.seen ≡ v.seen ++ (x.between ++ e ∷ []) =
-      ap (λ (z : View (Held D V) Deed). z.seen) x.view ∙ append_assoc v.seen x.between (e ∷ []) in
+      ap (λ (z : View (Held D V disk) Deed). z.seen) x.view ∙ append_assoc v.seen x.between (e ∷ []) in
       let is : on.added ≡ x.between ++ e ∷ [] = same_rest v.seen on.added (x.between ++ e ∷ []) (sym on.seen ∙ seen) in
       let at : said.at ≡ number_after m x.between + commits what call =
       x.number ∙ (turned_number x ∙ (number_append start.commit_number (v.seen ++ x.between) (e ∷ [])
@@ -99,11 +99,11 @@ module _ {D V A : Type 0} (disk : Ghosts D) (vaults : vault.Ghosts V) (start : C
       let m = number_after start.commit_number v.seen in
       let on = onward_turn fits disk vaults start v w call what silent said fit (inr x) in
       let is : on.added ≡ [] =
-      nothing_more v.seen on.added (sym (ap (λ (z : View (Held D V) Deed). z.seen) x.view) ∙ on.seen) in
+      nothing_more v.seen on.added (sym (ap (λ (z : View (Held D V disk) Deed). z.seen) x.view) ∙ on.seen) in
       let refused : what ≡ Err spent = none spent x.what in
       record {
         onward = on;
-        own = inr (refused, ap (deeds_of (by_seat n)) is, ap (λ (z : View (Held D V) Deed). z.used_up) x.view);
+        own = inr (refused, ap (deeds_of (by_seat n)) is, ap (λ (z : View (Held D V disk) Deed). z.used_up) x.view);
         numbers_are = ap (numbers_of (by_seat n) m) is
             ∙ sym (ap (λ (r : Result Reply Refusal). numbers_told (commits r call) said.at) refused);
       }
@@ -114,7 +114,8 @@ module _ {D V A : Type 0} (disk : Ghosts D) (vaults : vault.Ghosts V) (start : C
   opens_call h = ⊎_elim turned spends h
 
 -- nothing was called
-pub opens_none : {D V : Type 0} (first : ℕ) (v : View (Held D V) Deed) → MakesCall IsOpening first (λ own. own ≡ []) [] v v
+pub opens_none : {D V : Type 0} {disk : Ghosts D} (first : ℕ) (v : View (Held D V disk) Deed)
+    → MakesCall IsOpening first (λ own. own ≡ []) [] v v
 opens_none {D} {V} first v =
     let on : Onward IsOpening v v = onward_self IsOpening v in
     let is : on.added ≡ [] = nothing_more v.seen on.added on.seen in
@@ -125,8 +126,8 @@ opens_none {D} {V} first v =
     }
 
 -- the same of a call, told in other words
-pub opens_as : {D V : Type 0} (first : ℕ) (One Other : List Deed → Type 0) (numbers others : List ℕ)
-    (v w : View (Held D V) Deed)
+pub opens_as : {D V : Type 0} {disk : Ghosts D} (first : ℕ) (One Other : List Deed → Type 0) (numbers others : List ℕ)
+    (v w : View (Held D V disk) Deed)
     → ((own : List Deed) → One own → Other own) → numbers ≡ others → MakesCall IsOpening first One numbers v w
     → MakesCall IsOpening first Other others v w
 opens_as first One Other numbers others v w f is h =
@@ -155,7 +156,7 @@ pin_later a b n (side.Made pin) own later h = own_later a b n Pin (Ok (reply.Pin
 pin_later a b n (side.Refused why) own later h = own_later a b n Pin (Err why) own later h
 
 -- both, one after the other
-pub opens_both : {D V : Type 0} (first : ℕ) (opened : Opened) (u v w : View (Held D V) Deed)
+pub opens_both : {D V : Type 0} {disk : Ghosts D} (first : ℕ) (opened : Opened) (u v w : View (Held D V disk) Deed)
     → MakesCall IsOpening first (TrackDeed v.used_up u.number opened.recording) (record_commits opened.recording) u v
     → MakesCall IsOpening first (PinDeed w.used_up v.number opened.pin) [] v w → Opens first opened u w
 opens_both {D} {V} first opened u v w h k =
@@ -193,7 +194,7 @@ tag_on (side.Made tag) first seen seen' more is h =
     let low = h.1 in (h.0, omega (arith, low, on, same))
 tag_on (side.Refused why) first seen seen' more is h = tt
 
-module _ {D V A : Type 0} (disk : Ghosts D) (vaults : vault.Ghosts V) (start : Core D) (v w : View (Held D V) Deed)
+module _ {D V A : Type 0} (disk : Ghosts D) (vaults : vault.Ghosts V) (start : Core D) (v w : View (Held D V disk) Deed)
     (call : Call)
     (what : Result Reply Refusal) (said : Said A) where
   told_turn : (x : Turned (origin disk vaults start) (asked call what silent) said.at (views v w))
@@ -202,9 +203,9 @@ module _ {D V A : Type 0} (disk : Ghosts D) (vaults : vault.Ghosts V) (start : C
       let n = start.commit_number in
       let e = deed v.number call what silent in
       let seen : w.seen ≡ v.seen ++ (x.between ++ e ∷ []) =
-      ap (λ (z : View (Held D V) Deed). z.seen) x.view ∙ append_assoc v.seen x.between (e ∷ []) in
+      ap (λ (z : View (Held D V disk) Deed). z.seen) x.view ∙ append_assoc v.seen x.between (e ∷ []) in
       let same : said.at ≡ number_after n w.seen = x.number
-      ∙ (turned_number x ∙ sym (ap (λ (z : View (Held D V) Deed). number_after n z.seen) x.view)) in
+      ∙ (turned_number x ∙ sym (ap (λ (z : View (Held D V disk) Deed). number_after n z.seen) x.view)) in
       let on = number_on n v.seen (x.between ++ e ∷ []) in
       let at = ap (number_after n) seen in
       let up : max last said.at ≡ said.at = omega (arith, is, same, on, at) in up ∙ same
@@ -213,14 +214,14 @@ module _ {D V A : Type 0} (disk : Ghosts D) (vaults : vault.Ghosts V) (start : C
   told_spent x = λ last is.
       let none = x.at in
       let stays : max last said.at ≡ last = omega (arith, none) in
-      stays ∙ (is ∙ sym (ap (λ (z : View (Held D V) Deed). number_after start.commit_number z.seen) x.view))
+      stays ∙ (is ∙ sym (ap (λ (z : View (Held D V disk) Deed). number_after start.commit_number z.seen) x.view))
 
   -- a call tells the commit number after it
   pub tells_number : Says (origin disk vaults start) (asked call what silent) said (views v w)
       → TellsNumber start.commit_number v said.at w
   tells_number h = ⊎_elim told_turn told_spent h
 
-module _ {D V A : Type 0} (disk : Ghosts D) (vaults : vault.Ghosts V) (start : Core D) (v w : View (Held D V) Deed)
+module _ {D V A : Type 0} (disk : Ghosts D) (vaults : vault.Ghosts V) (start : Core D) (v w : View (Held D V disk) Deed)
     (f : A → Reply) (said : Said A)
     (says : Says (origin disk vaults start) (asked (Line Track) (told_by f said.what) silent) said (views v w)) where
   abbrev told : Result Reply Refusal
@@ -283,7 +284,8 @@ no_numbers (Ok pin) at = refl
 no_numbers (Err why) at = refl
 
 -- a pin
-pub pinned : {D V : Type 0} (disk : Ghosts D) (vaults : vault.Ghosts V) (start : Core D) (v w : View (Held D V) Deed)
+pub pinned : {D V : Type 0} (disk : Ghosts D) (vaults : vault.Ghosts V) (start : Core D)
+    (v w : View (Held D V disk) Deed)
     (said : Said ℕ)
     → Says (origin disk vaults start) (asked Pin (told_by reply.Pinned said.what) silent) said (views v w)
     → MakesCall IsOpening start.commit_number (PinDeed w.used_up v.number (made_by said.what)) [] v w
@@ -296,7 +298,8 @@ pinned {D} {V} disk vaults start v w said says =
     (λ why is. ap (λ (r : Result ℕ Refusal). told_by reply.Pinned r) is) (let none : 0 ≤ 1 = omega arith in none) says)
 
 -- a pin was released
-pub lets_go : {D V : Type 0} (disk : Ghosts D) (vaults : vault.Ghosts V) (start : Core D) (v w : View (Held D V) Deed)
+pub lets_go : {D V : Type 0} (disk : Ghosts D) (vaults : vault.Ghosts V) (start : Core D)
+    (v w : View (Held D V disk) Deed)
     (pin : ℕ) (said : Said (Unit {0}))
     → Says (origin disk vaults start) (asked (Unpin pin) (told_by (λ _. reply.Done) said.what) silent) said (views v w)
     → LetsGo start.commit_number pin v w

@@ -6,6 +6,7 @@ use Rattle.std.proofs.lemmas.List.{append-nil}
 use Rattle.pcm_base.specs.declared.command.Call.{Call}
 use Rattle.pcm_base.specs.declared.refusal.Refusal.{Refusal}
 use Rattle.pcm_base.specs.Counters.{commits_of}
+use Rattle.disk_model.specs.declared.store.Store.{Ghosts}
 use Rattle.pin_turn.specs.declared.view.View.{View}
 use Rattle.pin_turn.specs.Counts.{Each}
 use Rattle.pin_turn.specs.Rule.{ByOthers}
@@ -86,7 +87,8 @@ no_numbers fits never seat n (e ∷ es) h =
     (λ i. none_is seat n e (λ is. never e.call (h.0 is)) (seat == e.actor) refl i
     ++ no_numbers fits never seat (raised_by e n) es h.1 i)
 
-module _ {D V : Type 0} (first track tag : ℕ) (v w : View (Held D V) Deed) (h : NewPart (RecorderAsks track tag) v w)
+module _ {D V : Type 0} {disk : Ghosts D} (first track tag : ℕ) (v w : View (Held D V disk) Deed)
+    (h : NewPart (RecorderAsks track tag) v w)
   where
     -- it had no piece yet
     pub no_pieces : pieces_by track tag w.number first v.seen ≡ []

@@ -5,6 +5,7 @@ use Rattle.std.proofs.Common.{append_assoc}
 use Rattle.std.proofs.lemmas.Bool.Decides.{nat_tests}
 use Rattle.std.proofs.lemmas.List.{append-nil}
 use Rattle.pcm_base.specs.declared.command.Call.{Call}
+use Rattle.disk_model.specs.declared.store.Store.{Ghosts}
 use Rattle.pin_turn.specs.declared.view.View.{View}
 use Rattle.pin_turn.specs.Counts.{Each, longer, times}
 use Rattle.pin_turn.specs.Views.{joined}
@@ -37,9 +38,9 @@ last_of : (a : List ℕ) (P : ℕ → Type 0) (n : ℕ) → Each P (a ++ n ∷ [
 last_of [] P n h = h.0
 last_of (x ∷ xs) P n h = last_of xs P n h.1
 
-module _ {D V : Type 0} where
+module _ {D V : Type 0} {disk : Ghosts D} where
   -- of two lists of which the shorter begins the longer, the longer goes on from each
-  both_begin : (v w : View (Held D V) Deed) → Begins actor_of v w ⊎ Begins actor_of w v
+  both_begin : (v w : View (Held D V disk) Deed) → Begins actor_of v w ⊎ Begins actor_of w v
       → ((more : List Deed) × (longer v.seen w.seen ≡ v.seen ++ more))
       × ((more : List Deed) × (longer v.seen w.seen ≡ w.seen ++ more))
   both_begin v w h = ⊎_elim
@@ -53,7 +54,7 @@ module _ {D V : Type 0} where
       ))
       h
 
-  part_of : (fits : Call → Type 0) (u v w : View (Held D V) Deed) → v.seen ≡ u.seen
+  part_of : (fits : Call → Type 0) (u v w : View (Held D V disk) Deed) → v.seen ≡ u.seen
       → (u.used_up ≡ true → v.used_up ≡ true) → Onward fits v w → Part fits u w
   part_of fits u v w same known o = record {
     added = o.added;
@@ -63,11 +64,11 @@ module _ {D V : Type 0} where
   }
 
   -- a seat that was split off
-  new_part : (fits : Call → Type 0) (v o w : View (Held D V) Deed)
+  new_part : (fits : Call → Type 0) (v o w : View (Held D V disk) Deed)
       → o ≡ record v { number = o.number; mine = []; away = [] } → v.number < o.number
       → Each (λ e. e.actor < o.number) v.seen → Onward fits o w → NewPart fits v w
   new_part fits v o w new above unseen on =
-      let seen : o.seen ≡ v.seen = ap (λ (z : View (Held D V) Deed). z.seen) new in
+      let seen : o.seen ≡ v.seen = ap (λ (z : View (Held D V disk) Deed). z.seen) new in
       let none : places_of (by_seat o.number) 0 o.seen ≡ [] = places_others o.number 0 o.seen
       (lower o.number o.seen (subst (λ (l : List Deed). Each (λ e. e.actor < o.number) l) (sym seen) unseen)) in
       let whole : places_of (by_seat o.number) 0 w.seen ≡ places_of (by_seat o.number) (length o.seen) on.added =
@@ -75,24 +76,24 @@ module _ {D V : Type 0} where
       ∙ (places_behind (by_seat o.number) o.seen on.added
       ∙ ap (λ (l : List ℕ). l ++ places_of (by_seat o.number) (length o.seen) on.added) none) in
       record {
-        part = part_of fits v o w seen (λ is. ap (λ (z : View (Held D V) Deed). z.used_up) new ∙ is) on;
+        part = part_of fits v o w seen (λ is. ap (λ (z : View (Held D V disk) Deed). z.used_up) new ∙ is) on;
         above = subst (λ (n : ℕ). v.number < n) (sym on.number) above;
         unseen = subst (λ (n : ℕ). Each (λ e. e.actor < n) v.seen) (sym on.number) unseen;
         mine = on.mine
             ∙ (ap (λ (l : List ℕ). l ++ places_of (by_seat o.number) (length o.seen) on.added)
-            (ap (λ (z : View (Held D V) Deed). z.mine) new)
+            (ap (λ (z : View (Held D V disk) Deed). z.mine) new)
             ∙ (sym whole ∙ ap (λ (n : ℕ). places_of (by_seat n) 0 w.seen) (sym on.number)));
       }
 
   -- the seat itself
-  pub own_mine : (fits : Call → Type 0) (v w : View (Held D V) Deed) → Onward fits v w
+  pub own_mine : (fits : Call → Type 0) (v w : View (Held D V disk) Deed) → Onward fits v w
       → v.mine ≡ places_of (by_seat v.number) 0 v.seen → w.mine ≡ places_of (by_seat v.number) 0 w.seen
   own_mine fits v w on is = on.mine
       ∙ (ap (λ (l : List ℕ). l ++ places_of (by_seat v.number) (length v.seen) on.added) is
       ∙ sym (ap (λ (l : List Deed). places_of (by_seat v.number) 0 l) on.seen
       ∙ places_behind (by_seat v.number) v.seen on.added))
 
-  module _ (pieces reads : Call → Type 0) (v v1 r v2 p script recorder player : View (Held D V) Deed)
+  module _ (pieces reads : Call → Type 0) (v v1 r v2 p script recorder player : View (Held D V disk) Deed)
       (kept : v1 ≡ record v { away = v.away ++ r.number ∷ [] })
       (new : r ≡ record v { number = r.number; mine = []; away = [] }) (number : IsNewNumber actor_of v r.number)
       (kept2 : v2 ≡ record v1 { away = v1.away ++ p.number ∷ [] })
@@ -104,42 +105,43 @@ module _ {D V : Type 0} where
     first_join = rejoins actor_of v1 v2 script p player kept2 new2 number2 on.away play.number play.away
 
     -- and then the recorder's
-    pub second_join : (j : View (Held D V) Deed) → j ≡ joined script player
+    pub second_join : (j : View (Held D V disk) Deed) → j ≡ joined script player
         → (0 < times recorder.number j.away) × (recorder.away ≡ []) × ((joined j recorder).away ≡ v.away)
     second_join j is = rejoins actor_of v v1 j r recorder kept new number
-        (ap (λ (z : View (Held D V) Deed). z.away) is ∙ first_join.2) rec.number rec.away
+        (ap (λ (z : View (Held D V disk) Deed). z.away) is ∙ first_join.2) rec.number rec.away
 
-    pub rejoined : (j w : View (Held D V) Deed) → j ≡ joined script player → w ≡ joined j recorder
+    pub rejoined : (j w : View (Held D V disk) Deed) → j ≡ joined script player → w ≡ joined j recorder
         → Begins actor_of script player ⊎ Begins actor_of player script
         → Begins actor_of j recorder ⊎ Begins actor_of recorder j
         → Rejoined pieces reads
         (record { seat = v; script = script; recorder = recorder; player = player; joined = w })
     rejoined j w is is2 alike alike2 =
-        let seen1 : v1.seen ≡ v.seen = ap (λ (z : View (Held D V) Deed). z.seen) kept in
-        let seen2 : v2.seen ≡ v.seen = ap (λ (z : View (Held D V) Deed). z.seen) kept2 ∙ seen1 in
-        let number1 : v1.number ≡ v.number = ap (λ (z : View (Held D V) Deed). z.number) kept in
-        let number_2 : v2.number ≡ v.number = ap (λ (z : View (Held D V) Deed). z.number) kept2 ∙ number1 in
+        let seen1 : v1.seen ≡ v.seen = ap (λ (z : View (Held D V disk) Deed). z.seen) kept in
+        let seen2 : v2.seen ≡ v.seen = ap (λ (z : View (Held D V disk) Deed). z.seen) kept2 ∙ seen1 in
+        let number1 : v1.number ≡ v.number = ap (λ (z : View (Held D V disk) Deed). z.number) kept in
+        let number_2 : v2.number ≡ v.number = ap (λ (z : View (Held D V disk) Deed). z.number) kept2 ∙ number1 in
         let mine2 : v2.mine ≡ v.mine =
-        ap (λ (z : View (Held D V) Deed). z.mine) kept2 ∙ ap (λ (z : View (Held D V) Deed). z.mine) kept in
+        ap (λ (z : View (Held D V disk) Deed). z.mine) kept2 ∙ ap (λ (z : View (Held D V disk) Deed). z.mine) kept in
         let one = both_begin script player alike in
         let two = both_begin j recorder alike2 in
-        let j_seen : j.seen ≡ longer script.seen player.seen = ap (λ (z : View (Held D V) Deed). z.seen) is in
-        let w_seen : w.seen ≡ longer j.seen recorder.seen = ap (λ (z : View (Held D V) Deed). z.seen) is2 in
+        let j_seen : j.seen ≡ longer script.seen player.seen = ap (λ (z : View (Held D V disk) Deed). z.seen) is in
+        let w_seen : w.seen ≡ longer j.seen recorder.seen = ap (λ (z : View (Held D V disk) Deed). z.seen) is2 in
         let j_used : j.used_up ≡ (script.used_up || player.used_up) =
-        ap (λ (z : View (Held D V) Deed). z.used_up) is in
+        ap (λ (z : View (Held D V disk) Deed). z.used_up) is in
         let w_used : w.used_up ≡ (j.used_up || recorder.used_up) =
-        ap (λ (z : View (Held D V) Deed). z.used_up) is2 in
+        ap (λ (z : View (Held D V disk) Deed). z.used_up) is2 in
         let w_j : w.seen ≡ j.seen ++ two.0.0 = w_seen ∙ two.0.1 in
         let below : r.number < p.number = last_of v.away (λ k. k < p.number) r.number
-        (subst (λ (l : List ℕ). Each (λ k. k < p.number) l) (ap (λ (z : View (Held D V) Deed). z.away) kept)
+        (subst (λ (l : List ℕ). Each (λ k. k < p.number) l) (ap (λ (z : View (Held D V disk) Deed). z.away) kept)
         number2.above_away) in
         record {
-          by_script = part_of IsOfScript v v2 script seen2 (λ is. ap (λ (z : View (Held D V) Deed). z.used_up) kept2
-              ∙ (ap (λ (z : View (Held D V) Deed). z.used_up) kept ∙ is)) on;
+          by_script = part_of IsOfScript v v2 script seen2 (λ is.
+              ap (λ (z : View (Held D V disk) Deed). z.used_up) kept2
+              ∙ (ap (λ (z : View (Held D V disk) Deed). z.used_up) kept ∙ is)) on;
           script_number = on.number ∙ number_2;
           by_recorder = new_part pieces v r recorder new number.above_own number.above_makers rec;
           by_player = new_part reads v p player
-              (new2 ∙ ap (λ (z : View (Held D V) Deed). record z { number = p.number; mine = []; away = [] }) kept)
+              (new2 ∙ ap (λ (z : View (Held D V disk) Deed). record z { number = p.number; mine = []; away = [] }) kept)
               (subst (λ (n : ℕ). n < p.number) number1 number2.above_own)
               (subst (λ (l : List Deed). Each (λ e. e.actor < p.number) l) seen1 number2.above_makers) play;
           apart = subst (λ (z : ℕ × ℕ). z.0 < z.1) (λ i. (sym rec.number i, sym play.number i)) below;
@@ -151,11 +153,11 @@ module _ {D V : Type 0} where
           more_player = one.1.0 ++ two.0.0;
           player_is = w_j
               ∙ (ap (λ (l : List Deed). l ++ two.0.0) (j_seen ∙ one.1.1) ∙ append_assoc player.seen one.1.0 two.0.0);
-          mine = ap (λ (z : View (Held D V) Deed). z.mine) is2
-              ∙ ap (λ (l : List ℕ). l ++ recorder.mine) (ap (λ (z : View (Held D V) Deed). z.mine) is);
-          number = ap (λ (z : View (Held D V) Deed). z.number) is2
-              ∙ (ap (λ (z : View (Held D V) Deed). z.number) is ∙ (on.number ∙ number_2));
-          away = ap (λ (z : View (Held D V) Deed). z.away) is2 ∙ (second_join j is).2;
+          mine = ap (λ (z : View (Held D V disk) Deed). z.mine) is2
+              ∙ ap (λ (l : List ℕ). l ++ recorder.mine) (ap (λ (z : View (Held D V disk) Deed). z.mine) is);
+          number = ap (λ (z : View (Held D V disk) Deed). z.number) is2
+              ∙ (ap (λ (z : View (Held D V disk) Deed). z.number) is ∙ (on.number ∙ number_2));
+          away = ap (λ (z : View (Held D V disk) Deed). z.away) is2 ∙ (second_join j is).2;
           script_spent = λ h. w_used ∙ (ap (λ (b : Bool). b || recorder.used_up) (j_used
               ∙ ap (λ (b : Bool). b || player.used_up) h));
           recorder_spent = λ h. w_used ∙ (ap (λ (b : Bool). j.used_up || b) h ∙ or_true j.used_up);

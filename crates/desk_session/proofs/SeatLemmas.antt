@@ -3,6 +3,7 @@ use Rattle.std.proofs.Common.{◌≡◌, inl, inr, ℕ, ◌<◌, List, [], sym, 
 use Rattle.std.proofs.Common.{subst}
 use Rattle.pcm_base.specs.declared.command.Call.{Call}
 use Rattle.pcm_base.specs.declared.command.Call.TheVariants.{Unpin}
+use Rattle.disk_model.specs.declared.store.Store.{Ghosts}
 use Rattle.pin_turn.specs.declared.view.View.{View}
 use Rattle.pin_turn.specs.Counts.{Each}
 use Rattle.studio_seats.specs.declared.deed.Deed.{Deed}
@@ -19,21 +20,22 @@ use Rattle.desk_session.specs.Opening.{play_calls, record_calls}
 use Rattle.desk_session.specs.Sides.{WhereMade}
 use Rattle.desk_session.proofs.RejoinLemmas.{lower}
 
-module _ {D V : Type 0} where
-  pub recorder_goes : (made : Side) (track : ℕ) (v w : View (Held D V) Deed)
+module _ {D V : Type 0} {disk : Ghosts D} where
+  pub recorder_goes : (made : Side) (track : ℕ) (v w : View (Held D V disk) Deed)
       → WhereMade made (λ tag. Onward (RecorderAsks track tag) v w) (w ≡ v) → Onward (record_calls track made) v w
   recorder_goes side.NotAsked track v w h =
-      subst (λ (z : View (Held D V) Deed). Onward (record_calls track side.NotAsked) v z) (sym h)
+      subst (λ (z : View (Held D V disk) Deed). Onward (record_calls track side.NotAsked) v z) (sym h)
       (onward_self (record_calls track side.NotAsked) v)
   recorder_goes (side.Made tag) track v w h = h
   recorder_goes (side.Refused why) track v w h =
-      subst (λ (z : View (Held D V) Deed). Onward (record_calls track (side.Refused why)) v z)
+      subst (λ (z : View (Held D V disk) Deed). Onward (record_calls track (side.Refused why)) v z)
       (sym h) (onward_self (record_calls track (side.Refused why)) v)
 
-  idle : (fits : Call → Type 0) (v u w : View (Held D V) Deed) → u ≡ v → w ≡ u → Onward fits v w
-  idle fits v u w one two = subst (λ (z : View (Held D V) Deed). Onward fits v z) (sym (two ∙ one)) (onward_self fits v)
+  idle : (fits : Call → Type 0) (v u w : View (Held D V disk) Deed) → u ≡ v → w ≡ u → Onward fits v w
+  idle fits v u w one two = subst (λ (z : View (Held D V disk) Deed). Onward fits v z) (sym (two ∙ one))
+      (onward_self fits v)
 
-  pub player_goes : (made : Side) (v u w : View (Held D V) Deed)
+  pub player_goes : (made : Side) (v u w : View (Held D V disk) Deed)
       → WhereMade made (λ pin. Onward (IsReadOf pin) v u) (u ≡ v)
       → WhereMade made (λ pin. Onward (λ call. call ≡ Unpin pin) u w) (w ≡ u) → Onward (play_calls made) v w
   player_goes side.NotAsked v u w h k = idle (play_calls side.NotAsked) v u w h k
@@ -43,9 +45,9 @@ module _ {D V : Type 0} where
   player_goes (side.Refused why) v u w h k = idle (play_calls (side.Refused why)) v u w h k
 
   -- a seat that was split off has no pieces yet
-  pub no_piece : (track tag first : ℕ) (v o : View (Held D V) Deed)
+  pub no_piece : (track tag first : ℕ) (v o : View (Held D V disk) Deed)
       → o ≡ record v { number = o.number; mine = []; away = [] }
       → Each (λ e. e.actor < o.number) v.seen → pieces_by track tag o.number first o.seen ≡ []
   no_piece track tag first v o new unseen = pieces_others track tag o.number first o.seen (lower o.number o.seen
       (subst (λ (l : List Deed). Each (λ e. e.actor < o.number) l)
-      (sym (ap (λ (z : View (Held D V) Deed). z.seen) new)) unseen))
+      (sym (ap (λ (z : View (Held D V disk) Deed). z.seen) new)) unseen))

@@ -6,9 +6,10 @@ use Rattle.pcm_base.specs.declared.command.Call.{Call}
 use Rattle.pcm_base.specs.declared.command.Call.TheVariants.{Line, Pin, Unpin}
 use Rattle.pcm_base.specs.declared.command.Command.TheVariants.{Track}
 use Rattle.pcm_base.specs.declared.refusal.Refusal.{Refusal}
+use Rattle.disk_model.specs.declared.store.Store.{Ghosts}
 use Rattle.pin_turn.specs.declared.view.View.{View}
-use Rattle.editor_core.specs.Core.{Core}
-use Rattle.editor_core.specs.Took.{silent}
+use Rattle.editor_state.specs.Core.{Core}
+use Rattle.editor_state.specs.Took.{silent}
 use Rattle.studio_seats.specs.declared.deed.Deed.{Deed}
 use Rattle.studio_seats.specs.declared.held.Held.{Held}
 use Rattle.studio_seats.specs.Deeds.{deed, entries_of, number_after}
@@ -52,7 +53,7 @@ abbrev pub IsPinIn : Side → List Deed → Type 0
 IsPinIn pin seen = IfMade pin (λ number. IsTrue (is_made number (entries_of seen)))
 
 -- the commit number after what a seat has seen of a desk that began so
-abbrev pub number_seen : {D V : Type 0} → Core D → View (Held D V) Deed → ℕ
+abbrev pub number_seen : {D V : Type 0} {disk : Ghosts D} → Core D → View (Held D V disk) Deed → ℕ
 number_seen start v = number_after start.commit_number v.seen
 
 -- the commit number of a new track, which is the recording's own
@@ -61,26 +62,26 @@ record_commits side.NotAsked = []
 record_commits (side.Made tag) = tag ∷ []
 record_commits (side.Refused why) = []
 
-module _ {D V : Type 0} where
+module _ {D V : Type 0} {disk : Ghosts D} where
   -- what was told is the commit number after a turn, where there was one, and else 0
-  abbrev pub TellsNumber : ℕ → View (Held D V) Deed → ℕ → View (Held D V) Deed → Type 0
+  abbrev pub TellsNumber : ℕ → View (Held D V disk) Deed → ℕ → View (Held D V disk) Deed → Type 0
   TellsNumber first v at w = (last : ℕ) → last ≡ number_after first v.seen → max last at ≡ number_after first w.seen
 
   -- A seat went on by one call at most, which fits: its deed, and the numbers of its commits, by the number with which
   -- the desk began.
   pub record MakesCall (fits : Call → Type 0) (first : ℕ) (IsOwn : List Deed → Type 0) (numbers : List ℕ)
-      (v w : View (Held D V) Deed) : Type 0 where
+      (v w : View (Held D V disk) Deed) : Type 0 where
     pub onward : Onward fits v w
     pub own : IsOwn (deeds_of (by_seat v.number) onward.added)
     pub numbers_are : numbers_of (by_seat v.number) (number_after first v.seen) onward.added ≡ numbers
 
   -- A seat let a pin go: one call, whatever it was answered.
-  pub record LetsGo (first pin : ℕ) (v w : View (Held D V) Deed) : Type 0 where
+  pub record LetsGo (first pin : ℕ) (v w : View (Held D V disk) Deed) : Type 0 where
     pub what : Result Reply Refusal
     pub calls : MakesCall (λ call. call ≡ Unpin pin) first (OwnDeed w.used_up v.number (Unpin pin) what) [] v w
 
   -- A seat made both. The recording's number is that of the new track.
-  pub record Opens (first : ℕ) (opened : Opened) (v w : View (Held D V) Deed) : Type 0 where
+  pub record Opens (first : ℕ) (opened : Opened) (v w : View (Held D V disk) Deed) : Type 0 where
     pub onward : Onward IsOpening v w
     pub track_own : List Deed
     pub pin_own : List Deed

@@ -1,7 +1,8 @@
 -- A session at a desk, from a seat and back to it.
 use Rattle.std.specs.Prelude.{◌≡◌, ℕ, [], None, IsSomeAnd}
+use Rattle.disk_model.specs.declared.store.Store.{Ghosts}
 use Rattle.pin_turn.specs.declared.view.View.{View}
-use Rattle.editor_core.specs.Core.{Core}
+use Rattle.editor_state.specs.Core.{Core}
 use Rattle.studio_seats.specs.declared.deed.Deed.{Deed}
 use Rattle.studio_seats.specs.declared.held.Held.{Held}
 use Rattle.studio_seats.specs.Merge.{by_seat, deeds_of}
@@ -18,19 +19,20 @@ use Rattle.desk_session.specs.Works.{RanScript}
 
 -- The studio with which a desk began, the track of the recording, the commit number that was told last before the
 -- script, and what the seat knew before it and knows after it.
-pub record Sitting (D V : Type 0) : Type 0 where
+pub record Sitting (D V : Type 0) (disk : Ghosts D) : Type 0 where
   pub start : Core D
   pub track : ℕ
   pub last : ℕ
-  pub seat : View (Held D V) Deed
-  pub seat_now : View (Held D V) Deed
+  pub seat : View (Held D V disk) Deed
+  pub seat_now : View (Held D V disk) Deed
 
 -- What script, recorder and player did, each at its own seat, from what one seat had seen; it took the others in.
-pub record Sat {D V M P : Type 0} (k : Kinds D V M P) (s : Sitting D V) (lent : Lent V M P) (out : Outcome)
+pub record Sat {D V M P : Type 0} {disk : Ghosts D} (k : Kinds D V M P) (s : Sitting D V disk) (lent : Lent V M P)
+    (out : Outcome)
     : Type 0 where
-  pub script : View (Held D V) Deed
-  pub recorder : View (Held D V) Deed
-  pub player : View (Held D V) Deed
+  pub script : View (Held D V disk) Deed
+  pub recorder : View (Held D V disk) Deed
+  pub player : View (Held D V disk) Deed
   pub seats : Rejoined (record_calls s.track out.opened.recording) (play_calls out.opened.pin) (record {
     seat = s.seat;
     script = script;

@@ -8,7 +8,7 @@ use Rattle.edit_ports.specs.declared.vault.Vault as vault
 use Rattle.edit_ports.specs.Told.{preceded}
 use Rattle.pin_turn.specs.Counts.{Each}
 use Rattle.pin_turn.specs.Rule.{ByOthers}
-use Rattle.editor_core.specs.Core.{Core}
+use Rattle.editor_state.specs.Core.{Core}
 use Rattle.studio_seats.specs.declared.deed.Deed.{Deed}
 use Rattle.studio_seats.specs.Deeds.{actor_of, number_after}
 use Rattle.studio_seats.specs.Faults.{AllServed}

@@ -1,10 +1,11 @@
 -- What the threads of a session did, each by a seat of its own.
 use Rattle.std.specs.Prelude.{◌≡◌, ℕ, ℤ, true, List, [], Option, None, IsSomeAnd, is_some}
 use Rattle.pcm_base.specs.declared.refusal.Refusal.{Refusal}
+use Rattle.disk_model.specs.declared.store.Store.{Ghosts}
 use Rattle.edit_ports.specs.declared.vault.Vault as vault
 use Rattle.player_work.specs.Filled.{reads_to}
 use Rattle.pin_turn.specs.declared.view.View.{View}
-use Rattle.editor_core.specs.Core.{Core}
+use Rattle.editor_state.specs.Core.{Core}
 use Rattle.studio_seats.specs.declared.deed.Deed.{Deed}
 use Rattle.studio_seats.specs.declared.held.Held.{Held}
 use Rattle.studio_seats.specs.Onward.{Onward, worker}
@@ -24,13 +25,14 @@ use Rattle.desk_session.specs.Sounds.{IsPlayed, IsRecorded}
 
 -- The studio with which a desk began, the commit number that was told last before a script, and what the script's seat
 -- knew before it and knows after it.
-pub record Scripting (D V : Type 0) : Type 0 where
+pub record Scripting (D V : Type 0) (disk : Ghosts D) : Type 0 where
   pub start : Core D
   pub last : ℕ
-  pub seat : Change (View (Held D V) Deed)
+  pub seat : Change (View (Held D V disk) Deed)
 
 -- a script ran, from the place of its seat before to that of its seat after
-abbrev pub RanScript : {D V M P : Type 0} → vault.Ghosts V → Scripting D V → Lent V M P → Told → Type 0
+abbrev pub RanScript : {D V M P : Type 0} {disk : Ghosts D} → vault.Ghosts V → Scripting D V disk → Lent V M P
+    → Told → Type 0
 RanScript vaults s lent told = (told_last : ℕ) × Ran told.stop
     (reached (record {
       place = place_of s.start s.seat.before s.last [] (vaults.tells lent.vault.before)
@@ -44,20 +46,22 @@ RanScript vaults s lent told = (told_last : ℕ) × Ran told.stop
 
 -- The studio with which a desk began, the track of the recording, the commit number that was told last before the
 -- script, and what the seats of script, recorder and player knew before and know after.
-pub record Working (D V : Type 0) : Type 0 where
+pub record Working (D V : Type 0) (disk : Ghosts D) : Type 0 where
   pub start : Core D
   pub track : ℕ
   pub last : ℕ
-  pub script : Change (View (Held D V) Deed)
-  pub recorder : Change (View (Held D V) Deed)
-  pub player : Change (View (Held D V) Deed)
+  pub script : Change (View (Held D V disk) Deed)
+  pub recorder : Change (View (Held D V disk) Deed)
+  pub player : Change (View (Held D V disk) Deed)
 
 -- the pieces of a recording, as a seat has seen them
-abbrev pub pieces_seen : {D V : Type 0} → Working D V → ℕ → View (Held D V) Deed → List (List ℤ × ℕ)
+abbrev pub pieces_seen : {D V : Type 0} {disk : Ghosts D} → Working D V disk → ℕ → View (Held D V disk) Deed
+    → List (List ℤ × ℕ)
 pieces_seen s tag v = pieces_by s.track tag v.number s.start.commit_number v.seen
 
 -- The lines were run, and beside them a recording where there is a track and a playback where there is a pin.
-pub record Works {D V M P : Type 0} (k : Kinds D V M P) (s : Working D V) (lent : Lent V M P) (out : Outcome)
+pub record Works {D V M P : Type 0} {disk : Ghosts D} (k : Kinds D V M P) (s : Working D V disk) (lent : Lent V M P)
+    (out : Outcome)
     : Type 0 where
   pub goes : Onward IsOfScript s.script.before s.script.now
   pub ran : RanScript k.vaults (record { start = s.start; last = s.last; seat = s.script }) lent out.told

@@ -2,7 +2,7 @@
 ghost use Rattle.std.specs.Prelude.{◌≡◌, is_some, IfOk, IfErr};
 ghost use Rattle.pin_turn.specs.Calls.{known};
 ghost use Rattle.editor_core.specs.Core.{core_of};
-ghost use Rattle.editor_core.specs.Studios.{IsStudio};
+ghost use Rattle.editor_state.specs.Studios.{IsStudio};
 ghost use Rattle.studio_seats.specs.Desks.{IsAt, IsFirst, start_at};
 ghost use Rattle.script_session.specs.Change.{change};
 ghost use Rattle.script_session.specs.Progress.{IsCauseOf, IsReadTo};
@@ -42,7 +42,7 @@ pub struct Seated<S: Store, V: Vault> {
 }
 
 /// What a session left.
-pub struct Ended<S> {
+pub struct Ended<S: Store> {
     pub studio: Studio<S>,
     pub opened: Opened,
     /// The id that the recording's track has, where it was made.

@@ -4,15 +4,14 @@ use Rattle.std.specs.List.{AllByRecursion}
 use Rattle.disk_model.specs.declared.store.Store.{Ghosts}
 use Rattle.sample_block.specs.Sources.{AllWhole}
 use Rattle.block_cache.specs.Caches.{no_entries}
-use Rattle.pcm_base.specs.declared.limits.TheConstants.{COUNTER_LIMIT}
 use Rattle.block_ledger.specs.Entries.{count_of}
 use Rattle.project_journal.specs.Header.{IsFormat}
 use Rattle.project_state.specs.Meaning.{history_blocks}
 use Rattle.record_body.specs.KeptSound.{IsSoundTagged}
 use Rattle.layout_uses.specs.Layouts.{AreDrawn, AreNumbered, history_tracks}
 use Rattle.layout_uses.specs.Tallies.{IsTally}
-use Rattle.editor_core.specs.Core.{Core}
-use Rattle.editor_core.specs.Studios.{AreCounters, AreJournalNumbers, IsDurable, IsGiven}
+use Rattle.editor_state.specs.Core.{Core}
+use Rattle.editor_state.specs.Studios.{AreCounters, AreJournalNumbers, IsDurable, IsGiven}
 use Rattle.editor_core.specs.declared.assembly.Parts.{Parts}
 
 -- the studio of these parts: it is not stopped, nothing was copied, there are no pins, and the next pin is 1
@@ -40,8 +39,8 @@ assembled store p = record {
 }
 
 -- What is asked of the parts, on every store: the numbers are within their bounds, layouts, ids and tags are sound,
--- layouts of one number are the same and were drawn, their uses by the history are counted, and the ledger counts the
--- blocks of the layouts so used, and has ids alone that were given.
+-- layouts of one number are the same and were drawn, the next one's number is at most the journal's end, their uses by
+-- the history are counted, and the ledger counts the blocks of the layouts so used, and has ids alone that were given.
 pub record AreParts (p : Parts) : Type 0 where
   pub pages_least : 1 ≤ p.pages
   pub pages_most : p.pages ≤ 1024
@@ -50,7 +49,7 @@ pub record AreParts (p : Parts) : Type 0 where
   pub journal : AreJournalNumbers p.file p.version p.generation
   pub points : AllByRecursion (IsSoundTagged p.block_size p.next_block p.next_track p.commit_number)
       p.history.history.points
-  pub layouts : p.next_layout ≤ COUNTER_LIMIT
+  pub layouts : p.next_layout ≤ p.journal_end
   pub numbered : AreNumbered (history_tracks p.history.history)
   pub drawn : AreDrawn p.next_layout (history_tracks p.history.history)
   pub counted : IsTally (history_tracks p.history.history) [] p.tally

@@ -5,17 +5,17 @@ ghost use Rattle.pcm_base.specs.declared.command.Call.TheVariants.{Line};
 ghost use Rattle.pcm_base.specs.declared.command.Command.TheVariants as command;
 ghost use Rattle.pcm_base.specs.Form.{IsInForm, IsTurn};
 ghost use Rattle.pcm_base.specs.Run.{name_in_line};
-ghost use Rattle.editor_core.specs.Applied.{Applies, TookOver};
+ghost use Rattle.editor_state.specs.Applied.{Applies, TookOver};
 ghost use Rattle.editor_core.specs.Core.{core_of};
-ghost use Rattle.editor_core.specs.Imports.{VaultCounted};
+ghost use Rattle.editor_state.specs.Vaults.{VaultCounted};
 ghost use Rattle.editor_core.specs.Lines.{ChangesCells, UsesClipboard};
-ghost use Rattle.editor_core.specs.Studios.{IsStudio};
-ghost use Rattle.editor_core.specs.Took.{Took, freeing, quietly, told_by};
+ghost use Rattle.editor_state.specs.Studios.{IsStudio};
+ghost use Rattle.editor_state.specs.Took.{Took, freeing, quietly, told_by};
 
-use super::copies::RunRange;
 use super::studio::Studio;
 use disk_model::Store;
 use edit_ports::Vault;
+use editor_tracks::RunRange;
 use pcm_base::{Answer, Command, Placing, RangeEdit, Refusal, Removing, Reply};
 use std::alloc::Global;
 

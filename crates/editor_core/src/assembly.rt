@@ -2,11 +2,11 @@
 ghost use Rattle.std.specs.Prelude.{◌≡◌, IfOk, IfErr};
 ghost use Rattle.editor_core.specs.Core.{core_of};
 ghost use Rattle.editor_core.specs.Parts.{AreParts, HasParts, assembled};
-ghost use Rattle.editor_core.specs.Studios.{IsHeld, IsStudio};
+ghost use Rattle.editor_state.specs.Studios.{IsHeld, IsStudio};
 
 use super::buffers::BlockBuffers;
 use super::studio::Studio;
-use block_cache::Cache;
+use block_cache::{BlockReader, Cache};
 use disk_model::Store;
 use layout_uses::Tally;
 use project_state::Point;
@@ -53,9 +53,9 @@ impl<S: Store> Studio<S> {
         let Ok(buffers) = BlockBuffers::new(alloc, parts.block_size) else {
             return Err(store);
         };
+        let reader = BlockReader { store, cache };
         Ok(Studio {
-            store,
-            cache,
+            reader,
             history: parts.history,
             clipboard: None,
             pins: Vec::new(alloc),
@@ -102,7 +102,7 @@ impl<S: Store> Studio<S> {
     pub fn into_store(self) -> S
         ensures { result ≡ (core_of self).store }
     {
-        let Studio { store, .. } = self;
-        store
+        let Studio { reader, .. } = self;
+        reader.into_store()
     }
 }

@@ -7,8 +7,8 @@ ghost use Rattle.record_body.specs.Batches.{with_point};
 ghost use Rattle.record_body.specs.Kept.{current_tracks};
 ghost use Rattle.project_state.specs.Numbers.{AgreeById};
 ghost use Rattle.record_body.specs.Numbers.{BodyAgrees};
-ghost use Rattle.editor_core.specs.Adding.{ExceedsBy};
-ghost use Rattle.editor_core.specs.Bodies.{all_bytes, all_len, body_bytes, single, whole_len, writing};
+ghost use Rattle.editor_state.specs.Adding.{ExceedsBy};
+ghost use Rattle.editor_state.specs.Bodies.{all_bytes, all_len, body_bytes, single, whole_len, writing};
 ghost use Rattle.editor_core.specs.Core.{core_of};
 
 use super::current::current_of;
@@ -73,8 +73,22 @@ impl<S: Store> Studio<S> {
         }
     }
 
-    // The same of records that come together, this many before the last. It returns how many bytes they have without
-    // the gate of the first and the length of its body.
+    // How many bytes it has written out whole, and this many before it that say the current point: without the gate of
+    // the first and the length of its body.
+    pub(crate) fn whole_size(&self, body: &Body, more: u64) -> Result<u64, NoMemory>
+        requires few { more < 64 }
+        ensures value { IfOk result (λ len. len ≡ whole_len (core_of self.now) (writing more body.now)) }
+        ensures small { IfOk result (λ len. len ≤ 2 ^ 53) }
+    {
+        if more == 0 {
+            return Ok(body_len(body) as u64);
+        }
+        let again = self.again(body)?;
+        Ok(len_together(more, body_len(&again), body_len(body)))
+    }
+
+    // The same as `may_record` of records that come together, this many before the last. It returns how many bytes they
+    // have without the gate of the first and the length of its body.
     pub(crate) fn may_write(&self, body: &Body, more: u64) -> Result<u64, Refusal>
         requires numbers { BodyAgrees (current_tracks self.now.history.history) body.now }
         requires again { AgreeById (current_tracks self.now.history.history) (current_tracks self.now.history.history) }

@@ -16,7 +16,8 @@ ghost use Rattle.sample_block.specs.Blocks.{blocks};
 ghost use Rattle.sample_block.specs.Faults.{damage_of};
 ghost use Rattle.sample_block.specs.Sources.{sources_of, AllNamed, AllWhole};
 ghost use Rattle.sample_block.specs.Spelling.{IsBlock, size_of};
-ghost use Rattle.block_cache.specs.Caches.{IsCacheOf, KeepsCache};
+ghost use Rattle.block_cache.specs.Caches.{AllPass};
+ghost use Rattle.block_cache.specs.Readers.{Reads};
 ghost use Rattle.project_state.specs.Meaning.{meant, point_blocks};
 ghost use Rattle.mix_view.specs.Tracks.{mix_length_of};
 ghost use Rattle.piece_store.specs.Brought.{AreInOrder};
@@ -30,12 +31,13 @@ ghost use Rattle.wav_pcm.specs.declared.fault.SoundFault.TheVariants.{BadWav};
 ghost use Rattle.sound_import.specs.declared.fault.ImportFault.TheVariants as import;
 ghost use Rattle.sound_import.specs.Imported.{IsRefused, IsCutShort, ImportCounted};
 ghost use Rattle.sound_export.specs.Written as export;
-ghost use Rattle.sound_export.specs.Written.{ExportCounted, IsBlockFault, IsLengthFault, IsNoDamage};
+ghost use Rattle.sound_export.specs.Written.{ExportCounted, IsLengthFault, IsNoDamage, disk_part};
 ghost use Rattle.editor_core.specs.Buffers.{IsRoomy};
-ghost use Rattle.editor_core.specs.Exports.{Writes};
+ghost use Rattle.editor_state.specs.Exports.{Writes};
+ghost use Rattle.editor_state.specs.Given.{is_given};
 
 use super::exports::write_stretches;
-use block_cache::Cache;
+use block_cache::BlockReader;
 use block_store::{BlockFault, check_block};
 use disk_model::Store;
 use edit_ops::NewBlock;
@@ -103,7 +105,7 @@ impl BlockBuffers {
     // As `write_new_block`, in these buffers. It takes no memory.
     pub(crate) fn write_new<S: Store, G: Brings>(
         &mut self,
-        store: &mut S,
+        reader: &mut BlockReader<S>,
         block: &NewBlock,
         given: &mut G,
     ) -> Result<(), MakeFault>
@@ -113,29 +115,33 @@ impl BlockBuffers {
             → AreInOrder 0 (G.brings given.old).count block.now.pieces }
         requires total { total block.now.pieces ≡ block.now.len }
         requires room { block.now.len ≤ self.old }
-        ensures stored { IsTrue (S.tells store.old) → AllThere (S.reads store.old) block.now.pieces
-            → S.reads store.old block.now.id ≡ None
-            → OnOk result (IsFilled (G.brings given.old) (S.reads store.old) block.now.pieces
-            (blocks (S.reads store.new) block.now.id)) }
+        // No page is of a block of this number or above.
+        requires pages { AllPass (is_given block.now.id) reader.old.cache }
+        ensures pages { reader.new.cache ≡ reader.old.cache }
+        ensures stored { IsTrue (S.tells reader.old.store) → AllThere (S.reads reader.old.store) block.now.pieces
+            → S.reads reader.old.store block.now.id ≡ None
+            → OnOk result (IsFilled (G.brings given.old) (S.reads reader.old.store) block.now.pieces
+            (blocks (S.reads reader.new.store) block.now.id)) }
         ensures changed { Changed S.Store (SameElsewhere block.now.id) (record {
           files = 1;
           bytes = size_of block.now.len;
           calls = 1;
-        }) store.old store.new }
-        ensures untouched { IfErr result (λ e. NotPut e (Kept S.Store store.old store.new)) }
-        ensures sound { IsTrue (S.tells store.old) → AllThere (S.reads store.old) block.now.pieces
+        }) reader.old.store reader.new.store }
+        ensures untouched { IfErr result (λ e. NotPut e (Kept S.Store reader.old.store reader.new.store)) }
+        ensures sound { IsTrue (S.tells reader.old.store) → AllThere (S.reads reader.old.store) block.now.pieces
             → IfErr result IsOfDevice }
         ensures refused { IfErr result (IsBroughtFault (G.brings given.old)) }
-        ensures damaged { IsTrue (S.tells store.old)
-            → IfErr result (IsFaultRead (S.reads store.old) block.now.pieces) }
-        ensures faults { MadeCounted result (S.read_fault_count store.old) (S.read_fault_count store.new)
-            (S.change_fault_count store.old) (S.change_fault_count store.new) }
+        ensures damaged { IsTrue (S.tells reader.old.store)
+            → IfErr result (IsFaultRead (S.reads reader.old.store) block.now.pieces) }
+        ensures faults { MadeCounted result
+            (S.read_fault_count reader.old.store) (S.read_fault_count reader.new.store)
+            (S.change_fault_count reader.old.store) (S.change_fault_count reader.new.store) }
         ensures still { StillBrings G.Brings given.old given.new }
         ensures given { MadeBrought result (G.fault_count given.old) (G.fault_count given.new) }
         ensures same { self.new ≡ self.old }
     {
         write_new_block(
-            store,
+            &mut reader.store,
             block,
             given,
             &mut self.samples,
@@ -171,58 +177,53 @@ impl BlockBuffers {
     // As `write_stretches`, by the buffer for sounds. It takes no memory.
     pub(crate) fn write_sound<S: Store, V: Vault>(
         &mut self,
-        store: &mut S,
-        cache: &mut Cache,
+        reader: &mut BlockReader<S>,
         vault: &mut V,
         name: &str,
         point: &Point,
         rate: u32,
     ) -> Result<u64, ExportFault>
         requires named { AllNamed (point_blocks point.now) }
-        requires cached { IsTrue (S.tells store.old) → IsCacheOf (S.reads store.old) cache.old }
-        ensures cache { KeepsCache (S.tells store.old) (S.reads store.old) (point_blocks point.now) cache.old
-            cache.new }
-        ensures written { IsTrue (V.tells vault.old) → IsTrue (S.tells store.old)
-            → AllWhole (S.reads store.old) (point_blocks point.now)
-            → Writes (wav_text (mix_of (meant (sources_of (S.reads store.old)) point.now)) rate)
+        ensures reads { Reads (point_blocks point.now) reader.old reader.new (disk_part result) }
+        ensures written { IsTrue (V.tells vault.old) → IsTrue (S.tells reader.old.store)
+            → AllWhole (S.reads reader.old.store) (point_blocks point.now)
+            → Writes (wav_text (mix_of (meant (sources_of (S.reads reader.old.store)) point.now)) rate)
             (V.holds vault.old name.now) (V.holds vault.new name.now) result }
         ensures len { IfOk result (λ n. n ≡ 44 + 4 * mix_length_of point.now) }
         ensures fits { MatchResult result (λ n. FitsFile (mix_length_of point.now))
             (IsLengthFault (mix_length_of point.now)) }
         ensures untouched { IsTrue (V.tells vault.old) → IfErr result (λ e. export.IsOfDevice e
             ⊎ (V.holds vault.new name.now ≡ V.holds vault.old name.now)) }
-        ensures sound { IsTrue (S.tells store.old) → AllWhole (S.reads store.old) (point_blocks point.now)
+        ensures sound { IsTrue (S.tells reader.old.store) → AllWhole (S.reads reader.old.store) (point_blocks point.now)
             → IfErr result IsNoDamage }
-        ensures damaged { IsTrue (S.tells store.old)
-            → IfErr result (λ e. IsBlockFault (S.reads store.old) (point_blocks point.now) e) }
-        ensures kept { Kept S.Store store.old store.new }
         ensures others { IsTrue (V.tells vault.old) → outside.SameElsewhere name.now (V.holds vault.old)
             (V.holds vault.new) }
         ensures tells { V.tells vault.new ≡ V.tells vault.old }
-        ensures faults { ExportCounted result (S.read_fault_count store.old) (S.read_fault_count store.new)
-            (V.fault_count vault.old) (V.fault_count vault.new) }
+        ensures faults { ExportCounted result (V.fault_count vault.old) (V.fault_count vault.new) }
         ensures same { self.new ≡ self.old }
     {
-        write_stretches(store, cache, vault, name, point, rate, &mut self.sound)
+        write_stretches(reader, vault, name, point, rate, &mut self.sound)
     }
 
-    // As `check_block`, in these buffers. It takes no memory.
+    // As `check_block`, in these buffers and without the pages that are kept. It takes no memory.
     pub(crate) fn check<S: Store>(
         &mut self,
-        store: &mut S,
+        reader: &mut BlockReader<S>,
         block: BlockRef,
     ) -> Result<(), BlockFault>
         requires block { IsBlock block.id block.len }
         requires room { block.len ≤ self.old }
-        ensures whole { IsTrue (S.tells store.old) → OnOk result (IsWhole (S.reads store.old) block.id block.len) }
-        ensures sound { IsTrue (S.tells store.old) → IsWhole (S.reads store.old) block.id block.len
+        ensures whole { IsTrue (S.tells reader.old.store)
+            → OnOk result (IsWhole (S.reads reader.old.store) block.id block.len) }
+        ensures sound { IsTrue (S.tells reader.old.store) → IsWhole (S.reads reader.old.store) block.id block.len
             → IsOkUnless result fault.DiskFault }
-        ensures checked { IsTrue (S.tells store.old)
-            → Checks block.id (damage_of block.id block.len (bytes_of (S.reads store.old block.id))) result }
-        ensures kept { Kept S.Store store.old store.new }
-        ensures faults { Counted result (S.read_fault_count store.old) (S.read_fault_count store.new) }
+        ensures checked { IsTrue (S.tells reader.old.store)
+            → Checks block.id (damage_of block.id block.len (bytes_of (S.reads reader.old.store block.id))) result }
+        ensures kept { Kept S.Store reader.old.store reader.new.store }
+        ensures faults { Counted result (S.read_fault_count reader.old.store) (S.read_fault_count reader.new.store) }
+        ensures pages { reader.new.cache ≡ reader.old.cache }
         ensures same { self.new ≡ self.old }
     {
-        check_block(store, block, &mut self.file)
+        check_block(&mut reader.store, block, &mut self.file)
     }
 }

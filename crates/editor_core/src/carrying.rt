@@ -12,40 +12,30 @@ ghost use Rattle.edit_ops.specs.Plans.{AreNew};
 ghost use Rattle.piece_store.specs.Brought.{MayBring};
 ghost use Rattle.piece_store.specs.Bringers.{StillBrings};
 ghost use Rattle.envelope_view.specs.Answers.{IsUndamaged};
-ghost use Rattle.editor_core.specs.Applied.{Lasts};
+ghost use Rattle.editor_state.specs.Applied.{Lasts};
 ghost use Rattle.project_journal.specs.Journal.{AreWaiting};
 ghost use Rattle.record_body.specs.Kept.{current_tracks};
 ghost use Rattle.project_state.specs.Numbers.{AgreeById};
 ghost use Rattle.record_body.specs.Numbers.{BodyAgrees};
-ghost use Rattle.editor_core.specs.Bodies.{all_bytes, all_len, whole_len, writing};
+ghost use Rattle.editor_state.specs.Adding.{Undrawn};
+ghost use Rattle.editor_state.specs.Bodies.{all_bytes, all_len, whole_len, writing};
 ghost use Rattle.editor_core.specs.Core.{core_of};
-ghost use Rattle.editor_core.specs.Edits.{Spends, IsPlanned, IsEdit, IsPrepared, NotPrepared, Carried, clip_then};
-ghost use Rattle.editor_core.specs.Edits.{IsStill, MayServe, tagged_by};
-ghost use Rattle.editor_core.specs.Imports.{IfCutShort, IsInsideOr};
-ghost use Rattle.editor_core.specs.Makes.{RefusedBrought};
-ghost use Rattle.editor_core.specs.Made.{AllInOrder, PiecesReadable};
-ghost use Rattle.editor_core.specs.Occurrences.{HasAll, HasIds, Moves};
-ghost use Rattle.editor_core.specs.Studios.{IsHeld, IsStudio, MayPaste, clip_blocks};
-ghost use Rattle.editor_core.specs.Took.{Took, told_by, with_sound};
+ghost use Rattle.editor_state.specs.Edits.{Spends, IsPlanned, IsEdit, IsPrepared, NotPrepared, Carried, clip_then};
+ghost use Rattle.editor_state.specs.Edits.{IsStill, MayServe, tagged_by};
+ghost use Rattle.editor_state.specs.Vaults.{IfCutShort, IsInsideOr};
+ghost use Rattle.editor_state.specs.Makes.{RefusedBrought};
+ghost use Rattle.editor_state.specs.Made.{AllInOrder, PiecesReadable};
+ghost use Rattle.editor_state.specs.Occurrences.{HasAll, HasIds, Moves};
+ghost use Rattle.editor_state.specs.Studios.{IsHeld, IsStudio, MayPaste, clip_blocks};
+ghost use Rattle.editor_state.specs.Took.{Took, told_by, with_sound};
 
 use super::studio::Studio;
 use disk_model::Store;
-use edit_ops::{NewBlock, NewBlocks, Strips};
+use edit_ops::{NewBlock, Strips};
+use editor_state::Planned;
 use pcm_base::{COUNTER_LIMIT, NoMemory, Refusal};
 use piece_store::Brings;
-use project_state::Point;
 use record_body::Body;
-
-/// A new point, the blocks that are to be made for it, the id of the next block after them, how many track ids and
-/// layout numbers it gives, and what it puts into the clipboard, if anything.
-pub(crate) struct Planned {
-    pub(crate) point: Point,
-    pub(crate) makes: NewBlocks,
-    pub(crate) next: u64,
-    pub(crate) tracks: u64,
-    pub(crate) layouts: u64,
-    pub(crate) clip: Option<Strips>,
-}
 
 // Whether a counter has room for this many more.
 fn has_room(have: u64, need: u64) -> Result<(), Refusal>
@@ -74,21 +64,32 @@ impl<S: Store> Studio<S> {
         has_room(self.commit_number, count)
     }
 
-    // Makes room for this many blocks in the ledger, and for a point in the history with this many new layouts.
-    fn ready_counts(&mut self, count: u64, layouts: u64) -> Result<(), NoMemory>
-        requires { self.old.next_layout ≤ COUNTER_LIMIT }
+    // Whether numbers are left for this many layouts. The journal's places are tested before, for records of this many
+    // bytes.
+    pub(crate) fn may_draw(&self, whole: u64, layouts: u64) -> Result<(), Refusal>
+        requires small { whole ≤ 2 ^ 53 }
+        requires end { self.now.journal_end ≤ COUNTER_LIMIT }
+        requires layouts { self.now.next_layout ≤ COUNTER_LIMIT }
+        ensures ok { OnOk result (self.now.next_layout + layouts ≤ COUNTER_LIMIT) }
+        ensures err { IfErr result (Undrawn self.now.journal_end self.now.next_layout layouts whole) }
+    {
+        has_room(self.journal_end, 6 + whole)?;
+        has_room(self.next_layout, layouts)
+    }
+
+    // Makes room for this many blocks in the ledger, and for a point in the history.
+    fn ready_counts(&mut self, count: u64) -> Result<(), NoMemory>
         ensures same { core_of self.new ≡ core_of self.old }
         ensures spare { OnOk result (count ≤ self.new.tally.ledger.spare) }
         ensures point { OnOk result (length self.new.history.history.points < self.new.history.capacity) }
         ensures uses { OnOk result (MAX_TRACKS ≤ self.new.tally.uses.spare) }
-        ensures layouts { OnOk result (self.old.next_layout + layouts ≤ COUNTER_LIMIT) }
     {
         self.tally.ledger.reserve(count)?;
-        self.make_room(layouts)
+        self.make_room()
     }
 
-    // Tests the counters and the journal's places, takes all memory that is needed, and writes the records into the
-    // row. Nothing is asked of the disk.
+    // Tests the counters, the journal's places and the numbers of layouts, takes all memory that is needed, and writes
+    // the records into the row. Nothing is asked of the disk.
     fn prepare(
         &mut self,
         body: &Body,
@@ -106,7 +107,7 @@ impl<S: Store> Studio<S> {
         requires end { self.old.journal_end ≤ COUNTER_LIMIT }
         requires more { more < 64 }
         ensures same { core_of self.new ≡ core_of self.old }
-        ensures prepared { OnOk result (IsPrepared (core_of self.old) blocks tracks (more + 1)
+        ensures prepared { OnOk result (IsPrepared (core_of self.old) blocks tracks layouts (more + 1)
             (all_len (core_of self.old) (writing more body.now))) }
         ensures rows { OnOk result (AreWaiting self.new.row.items
             (all_bytes (core_of self.old) (writing more body.now))) }
@@ -115,13 +116,15 @@ impl<S: Store> Studio<S> {
         ensures point { OnOk result (length self.new.history.history.points < self.new.history.capacity) }
         ensures uses { OnOk result (MAX_TRACKS ≤ self.new.tally.uses.spare) }
         ensures layouts { OnOk result (self.old.next_layout + layouts ≤ COUNTER_LIMIT) }
-        ensures err { IfErr result (NotPrepared (core_of self.old) blocks tracks (more + 1)
+        ensures err { IfErr result (NotPrepared (core_of self.old) blocks tracks layouts (more + 1)
             (whole_len (core_of self.old) (writing more body.now))
             (all_len (core_of self.old) (writing more body.now))) }
     {
         self.may_make(blocks, tracks, more + 1)?;
+        let whole = self.whole_size(body, more)?;
+        self.may_draw(whole, layouts)?;
         self.may_write(body, more)?;
-        self.ready_counts(blocks, layouts)?;
+        self.ready_counts(blocks)?;
         self.write_records(body, more)?;
         Ok(())
     }
@@ -149,6 +152,7 @@ impl<S: Store> Studio<S> {
               makes = makes.now;
               given = samples;
               tracks = tracks;
+              layouts = layouts;
               count = suc more;
               bodies = all_bytes (core_of self.old) (writing more body.now);
               whole = whole_len (core_of self.old) (writing more body.now);

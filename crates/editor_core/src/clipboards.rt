@@ -4,10 +4,10 @@ ghost use Rattle.pcm_base.specs.declared.limits.TheConstants.{MAX_TRACKS};
 ghost use Rattle.block_ledger.specs.Counts.{occurrences};
 ghost use Rattle.block_ledger.specs.Entries.{count_of};
 ghost use Rattle.clip_track.specs.Items.{item_blocks, strip_blocks};
-ghost use Rattle.editor_core.specs.Copies.{blocks_in, strips_blocks};
+ghost use Rattle.editor_tracks.specs.Copies.{blocks_in, strips_blocks};
 ghost use Rattle.editor_core.specs.Core.{core_of};
-ghost use Rattle.editor_core.specs.Occurrences.{HasAll, HasIds, Dropped, Held, Moves, times_named};
-ghost use Rattle.editor_core.specs.Studios.{clip_blocks};
+ghost use Rattle.editor_state.specs.Occurrences.{HasAll, HasIds, Dropped, Held, Moves, times_named};
+ghost use Rattle.editor_state.specs.Studios.{clip_blocks};
 
 use super::studio::Studio;
 use block_ledger::Ledger;

@@ -1,9 +1,11 @@
 // A commit: whether it may be made, and its record.
 ghost use Rattle.std.specs.Prelude.{◌≡◌, ℕ, ◌+◌, ◌≤◌, ◌<◌, ◌^◌, List, [], ◌∷◌, length, vec_capacity, IfErr, OnOk};
+ghost use Rattle.block_cache.specs.Caches.{AllPass};
 ghost use Rattle.project_journal.specs.Journal.{AreWaiting};
 ghost use Rattle.envelope_view.specs.Answers.{IsUndamaged};
-ghost use Rattle.editor_core.specs.Adding.{Adds, Exceeds, IsNoWant, Settles, Tested};
+ghost use Rattle.editor_state.specs.Adding.{Adds, Exceeds, IsNoWant, Settles, Tested};
 ghost use Rattle.editor_core.specs.Core.{core_of};
+ghost use Rattle.editor_state.specs.Given.{is_block};
 
 use super::studio::Studio;
 use disk_model::Store;
@@ -59,11 +61,13 @@ impl<S: Store> Studio<S> {
     pub(crate) fn commit_small(&mut self, body: &[u8]) -> Result<(), Refusal>
         requires small { length body.now ≤ 9 }
         requires room { self.old.commit_number < COUNTER_LIMIT }
+        requires file { self.old.file ≤ 1 }
+        requires pages { AllPass is_block self.old.reader.cache }
         ensures record { Adds S.Store (core_of self.old) (body.now ∷ []) 1 (length body.now) result (core_of self.new) }
         ensures memory { IfErr result IsNoWant }
         ensures undamaged { IfErr result IsUndamaged }
     {
-        let added = append_small(&mut self.store, self.file, self.journal_end, body);
+        let added = append_small(&mut self.reader.store, self.file, self.journal_end, body);
         self.settle(added, 1)
     }
 
@@ -71,6 +75,8 @@ impl<S: Store> Studio<S> {
     pub(crate) fn commit_written(&mut self) -> Result<(), Refusal>
         requires room { self.old.commit_number < COUNTER_LIMIT }
         requires short { length self.old.body.items ≤ LONGEST_BODY }
+        requires file { self.old.file ≤ 1 }
+        requires pages { AllPass is_block self.old.reader.cache }
         ensures record { (whole : ℕ) → Adds S.Store (core_of self.old) (self.old.body.items ∷ []) 1 whole result
             (core_of self.new) }
         ensures memory { 5 + length self.old.body.items ≤ vec_capacity self.old.row → IfErr result IsNoWant }
@@ -79,7 +85,7 @@ impl<S: Store> Studio<S> {
         ensures ledger { self.new.tally ≡ self.old.tally }
     {
         let added = append(
-            &mut self.store,
+            &mut self.reader.store,
             self.file,
             self.journal_end,
             &self.body,
@@ -94,6 +100,8 @@ impl<S: Store> Studio<S> {
         requires room { self.old.commit_number + count ≤ COUNTER_LIMIT }
         requires some { 5 ≤ length self.old.row.items }
         requires short { length self.old.row.items ≤ LONGEST_BODY + 5 }
+        requires file { self.old.file ≤ 1 }
+        requires pages { AllPass is_block self.old.reader.cache }
         ensures records { (whole : ℕ) (bodies : List (List ℕ)) → AreWaiting self.old.row.items bodies
             → length bodies ≡ count → Adds S.Store (core_of self.old) bodies count whole result (core_of self.new) }
         ensures memory { 1 + length self.old.row.items ≤ vec_capacity self.old.row → IfErr result IsNoWant }
@@ -101,7 +109,8 @@ impl<S: Store> Studio<S> {
         ensures history { self.new.history ≡ self.old.history }
         ensures ledger { self.new.tally ≡ self.old.tally }
     {
-        let added = append_records(&mut self.store, self.file, self.journal_end, &mut self.row);
+        let end = self.journal_end;
+        let added = append_records(&mut self.reader.store, self.file, end, &mut self.row);
         self.settle(added, count)
     }
 
@@ -119,7 +128,7 @@ impl<S: Store> Studio<S> {
                 Ok(())
             }
             Err(JournalFault::DiskFault) => {
-                self.stopped = Some(self.store.faults());
+                self.stopped = Some(self.reader.store.faults());
                 Err(Refusal::DiskFault)
             }
             Err(JournalFault::SpaceSpent { have, need }) => {

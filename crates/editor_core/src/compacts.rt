@@ -1,8 +1,8 @@
 // The journal put into one header.
 ghost use Rattle.std.specs.Prelude.{◌≡◌};
-ghost use Rattle.editor_core.specs.Compacts.{Compacts};
+ghost use Rattle.editor_cleanup.specs.Compacts.{Compacts};
 ghost use Rattle.editor_core.specs.Core.{core_of};
-ghost use Rattle.editor_core.specs.Studios.{IsStudio};
+ghost use Rattle.editor_state.specs.Studios.{IsStudio};
 
 use super::studio::Studio;
 use disk_model::Store;
@@ -37,10 +37,10 @@ impl<S: Store> Studio<S> {
             });
         }
         let text = self.packed_text(alloc)?;
-        let Ok(there) = is_there(&mut self.store, 1 - self.file) else {
+        let Ok(there) = is_there(&mut self.reader.store, 1 - self.file) else {
             return Err(Refusal::DiskFault);
         };
-        match compact(&mut self.store, self.file, there, &text) {
+        match compact(&mut self.reader.store, self.file, there, &text) {
             Ok(()) => {
                 self.file = 1 - self.file;
                 self.version = PACKED_VERSION;
@@ -49,7 +49,7 @@ impl<S: Store> Studio<S> {
                 Ok(self.journal_end + 1)
             }
             Err(_) => {
-                self.stopped = Some(self.store.faults());
+                self.stopped = Some(self.reader.store.faults());
                 Err(Refusal::DiskFault)
             }
         }

@@ -5,28 +5,20 @@ ghost use Rattle.pcm_base.specs.declared.command.Call.TheVariants.{Line};
 ghost use Rattle.pcm_base.specs.declared.command.Command.TheVariants as command;
 ghost use Rattle.edit_ops.specs.Runs.{layouts};
 ghost use Rattle.envelope_view.specs.Answers.{IsUndamaged};
-ghost use Rattle.editor_core.specs.Copies.{layouts_at, run_of, Copies, AnswersCopy};
+ghost use Rattle.editor_tracks.specs.Copies.{layouts_at, run_of, Copies, AnswersCopy};
 ghost use Rattle.editor_core.specs.Core.{core_of};
-ghost use Rattle.editor_core.specs.Studios.{IsStudio};
-ghost use Rattle.editor_core.specs.Took.{Took, quietly, told_by};
+ghost use Rattle.editor_state.specs.Studios.{IsStudio};
+ghost use Rattle.editor_state.specs.Took.{Took, quietly, told_by};
 
 use super::current::{current_of, layout_of};
 use super::studio::Studio;
 use clip_track::Layout;
 use disk_model::Store;
 use edit_ops::{Strips, copy};
+use editor_tracks::RunRange;
 use pcm_base::{NoMemory, Refusal};
 use project_state::{Point, Track};
 use std::alloc::Global;
-
-/// The cells of as many tracks as `count`, from a track on, from one place to another.
-#[derive(Clone, Copy)]
-pub struct RunRange {
-    pub track: u64,
-    pub count: u64,
-    pub from: u64,
-    pub to: u64,
-}
 
 // Adds a track's layout where its id is this one or greater.
 fn add_layout<'a>(run: &mut Vec<&'a Layout>, track: &'a Track, id: u64) -> Result<(), NoMemory>

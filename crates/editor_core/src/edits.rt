@@ -10,15 +10,16 @@ ghost use Rattle.envelope_view.specs.Answers.{IsUndamaged};
 ghost use Rattle.project_state.specs.Tracks.{AllBelow, track_of};
 ghost use Rattle.record_body.specs.Kept.{current_tracks};
 ghost use Rattle.editor_core.specs.Core.{core_of};
-ghost use Rattle.editor_core.specs.Plain.{line_of, IsGood, refusal_by, set_by, IsSet, IsEdited};
-ghost use Rattle.editor_core.specs.Points.{lacks};
-ghost use Rattle.editor_core.specs.Studios.{IsStudio};
-ghost use Rattle.editor_core.specs.Took.{Took, quietly, told_by};
+ghost use Rattle.editor_commits.specs.Plain.{line_of, IsGood, refusal_by, set_by, IsSet, IsEdited};
+ghost use Rattle.editor_state.specs.Points.{lacks};
+ghost use Rattle.editor_state.specs.Studios.{IsStudio};
+ghost use Rattle.editor_state.specs.Took.{Took, quietly, told_by};
 
-use super::plain::{PlainEdit, layouts_for, set_track, tracks_for};
+use super::plain::{layouts_for, set_track, tracks_for};
 use super::points::with_new_track;
 use super::studio::Studio;
 use disk_model::Store;
+use editor_commits::PlainEdit;
 use pcm_base::{MAX_TRACKS, NoMemory, Refusal, Side};
 use project_state::Point;
 use std::alloc::Global;
@@ -131,9 +132,9 @@ impl<S: Store> Studio<S> {
         let tracks = tracks_for(&edit);
         self.may_commit(self.edit_refusal(&edit), tracks)?;
         let layouts = layouts_for(&edit);
-        self.make_room(layouts)?;
+        self.make_room()?;
         let point = self.edited(alloc, &edit)?;
-        let point = self.commit_point(point, tracks)?;
+        let point = self.commit_point(point, tracks, layouts)?;
         self.take_point(point, tracks, layouts);
         Ok(self.commit_number)
     }

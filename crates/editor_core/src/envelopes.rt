@@ -3,9 +3,9 @@ ghost use Rattle.pcm_base.specs.declared.answer.Reply.TheVariants as reply;
 ghost use Rattle.pcm_base.specs.declared.command.Call.TheVariants.{Line};
 ghost use Rattle.pcm_base.specs.declared.command.Command.TheVariants.{Envelope};
 ghost use Rattle.editor_core.specs.Core.{core_of};
-ghost use Rattle.editor_core.specs.Reads.{Looks};
-ghost use Rattle.editor_core.specs.Studios.{IsStudio};
-ghost use Rattle.editor_core.specs.Took.{told_by};
+ghost use Rattle.editor_state.specs.Reads.{Looks};
+ghost use Rattle.editor_state.specs.Studios.{IsStudio};
+ghost use Rattle.editor_state.specs.Took.{told_by};
 
 use super::current::layout_of;
 use super::studio::Studio;
@@ -41,15 +41,7 @@ impl<S: Store> Studio<S> {
             return Err(Refusal::Stopped { faults });
         }
         let layout = layout_of(&self.history, track)?;
-        let scans = scan_columns(
-            alloc,
-            &mut self.store,
-            &mut self.cache,
-            layout,
-            from,
-            to,
-            columns,
-        )?;
+        let scans = scan_columns(alloc, &mut self.reader, layout, from, to, columns)?;
         Ok(Columns::new(scans))
     }
 }

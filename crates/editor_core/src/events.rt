@@ -9,11 +9,11 @@ ghost use Rattle.pcm_base.specs.declared.answer.Reply.TheVariants as reply;
 ghost use Rattle.pcm_base.specs.declared.command.Call.TheVariants as call;
 ghost use Rattle.pcm_base.specs.declared.refusal.Refusal.{Refusal};
 ghost use Rattle.pcm_base.specs.Form.{IsCallInForm};
-ghost use Rattle.editor_core.specs.Applied.{TookOver, reply_of as told_reply};
+ghost use Rattle.editor_state.specs.Applied.{TookOver, reply_of as told_reply};
 ghost use Rattle.editor_core.specs.Core.{core_of};
-ghost use Rattle.editor_core.specs.Events.{AreInForm, IsOther, RanOver};
-ghost use Rattle.editor_core.specs.Studios.{IsStudio};
-ghost use Rattle.editor_core.specs.Took.{Took, quietly, told_by};
+ghost use Rattle.editor_state.specs.Events.{AreInForm, IsOther, RanOver};
+ghost use Rattle.editor_state.specs.Studios.{IsStudio};
+ghost use Rattle.editor_state.specs.Took.{Took, quietly, told_by};
 
 use super::apply::done;
 use super::studio::Studio;

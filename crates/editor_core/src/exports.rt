@@ -9,23 +9,23 @@ ghost use Rattle.pcm_base.specs.Outside.{SameElsewhere};
 ghost use Rattle.pcm_base.specs.Wave.{wav_text};
 ghost use Rattle.disk_model.specs.Frames.{Kept};
 ghost use Rattle.sample_block.specs.Sources.{sources_of, AllNamed, AllWhole};
-ghost use Rattle.block_cache.specs.Caches.{IsCacheOf, KeepsCache};
+ghost use Rattle.block_cache.specs.Readers.{Reads};
 ghost use Rattle.project_state.specs.Meaning.{meant, point_blocks};
 ghost use Rattle.wav_pcm.specs.Wavs.{FitsFile};
 ghost use Rattle.mix_view.specs.Tracks.{mix_length_of};
-ghost use Rattle.sound_export.specs.Written.{ExportCounted, IsBlockFault, IsLengthFault, IsNoDamage, IsOfDevice};
+ghost use Rattle.sound_export.specs.Written.{ExportCounted, IsLengthFault, IsNoDamage, IsOfDevice, disk_part};
 ghost use Rattle.envelope_view.specs.Answers.{IsUndamaged};
-ghost use Rattle.editor_core.specs.Adding.{IsNoWant};
-ghost use Rattle.editor_core.specs.Applied.{Lasts};
+ghost use Rattle.editor_state.specs.Adding.{IsNoWant};
+ghost use Rattle.editor_state.specs.Applied.{Lasts};
 ghost use Rattle.editor_core.specs.Core.{core_of};
-ghost use Rattle.editor_core.specs.Exports.{Writes, moved_from};
-ghost use Rattle.editor_core.specs.Imports.{VaultCounted};
-ghost use Rattle.editor_core.specs.Studios.{IsHeld, IsStudio};
-ghost use Rattle.editor_core.specs.Took.{Took, told_by, with_sound};
+ghost use Rattle.editor_state.specs.Exports.{Writes, moved_from};
+ghost use Rattle.editor_state.specs.Vaults.{VaultCounted};
+ghost use Rattle.editor_state.specs.Studios.{IsHeld, IsStudio};
+ghost use Rattle.editor_state.specs.Took.{Took, told_by, with_sound};
 
 use super::current::current_of;
 use super::studio::Studio;
-use block_cache::Cache;
+use block_cache::BlockReader;
 use disk_model::Store;
 use edit_ports::Vault;
 use pcm_base::{Cell, Frame, Refusal};
@@ -40,8 +40,7 @@ const EXPORT_FRAMES: usize = 16_384;
 
 // Writes the mix of a project in stretches, whose bytes are written by `bytes`, and answers how many bytes the sound has.
 pub(crate) fn write_stretches<S: Store, V: Vault>(
-    store: &mut S,
-    cache: &mut Cache,
+    reader: &mut BlockReader<S>,
     vault: &mut V,
     name: &str,
     point: &Point,
@@ -50,32 +49,26 @@ pub(crate) fn write_stretches<S: Store, V: Vault>(
 ) -> Result<u64, ExportFault>
     requires named { AllNamed (point_blocks point.now) }
     requires bytes { 64 ≤ length bytes.old }
-    requires cached { IsTrue (S.tells store.old) → IsCacheOf (S.reads store.old) cache.old }
-    ensures cache { KeepsCache (S.tells store.old) (S.reads store.old) (point_blocks point.now) cache.old cache.new }
-    ensures written { IsTrue (V.tells vault.old) → IsTrue (S.tells store.old)
-        → AllWhole (S.reads store.old) (point_blocks point.now)
-        → Writes (wav_text (mix_of (meant (sources_of (S.reads store.old)) point.now)) rate)
+    ensures reads { Reads (point_blocks point.now) reader.old reader.new (disk_part result) }
+    ensures written { IsTrue (V.tells vault.old) → IsTrue (S.tells reader.old.store)
+        → AllWhole (S.reads reader.old.store) (point_blocks point.now)
+        → Writes (wav_text (mix_of (meant (sources_of (S.reads reader.old.store)) point.now)) rate)
         (V.holds vault.old name.now) (V.holds vault.new name.now) result }
     ensures len { IfOk result (λ n. n ≡ 44 + 4 * mix_length_of point.now) }
     ensures fits { MatchResult result (λ n. FitsFile (mix_length_of point.now))
         (IsLengthFault (mix_length_of point.now)) }
     ensures untouched { IsTrue (V.tells vault.old) → IfErr result (λ e. IsOfDevice e
         ⊎ (V.holds vault.new name.now ≡ V.holds vault.old name.now)) }
-    ensures sound { IsTrue (S.tells store.old) → AllWhole (S.reads store.old) (point_blocks point.now)
+    ensures sound { IsTrue (S.tells reader.old.store) → AllWhole (S.reads reader.old.store) (point_blocks point.now)
         → IfErr result IsNoDamage }
-    ensures damaged { IsTrue (S.tells store.old)
-        → IfErr result (λ e. IsBlockFault (S.reads store.old) (point_blocks point.now) e) }
-    ensures kept { Kept S.Store store.old store.new }
     ensures others { IsTrue (V.tells vault.old) → SameElsewhere name.now (V.holds vault.old) (V.holds vault.new) }
     ensures tells { V.tells vault.new ≡ V.tells vault.old }
-    ensures faults { ExportCounted result (S.read_fault_count store.old) (S.read_fault_count store.new)
-        (V.fault_count vault.old) (V.fault_count vault.new) }
+    ensures faults { ExportCounted result (V.fault_count vault.old) (V.fault_count vault.new) }
 {
     let mut cells = [Cell::Gap; EXPORT_CELLS];
     let mut frames = [Frame { left: 0, right: 0 }; EXPORT_FRAMES];
     write_mix(
-        store,
-        cache,
+        reader,
         vault,
         name,
         point,
@@ -108,8 +101,11 @@ impl<S: Store> Studio<S> {
         // Whatever the vault tells, nothing of the studio and its disk changes but the pages that are kept.
         ensures lasts { (sound : SoundMove) → Lasts S.Store (core_of self.old)
             (with_sound (Line (command.Export name.now)) sound (told_by reply.Wrote result)) (core_of self.new) }
-        ensures same { core_of self.new ≡ record (core_of self.old) { store = self.new.store; cache = self.new.cache } }
-        ensures kept { Kept S.Store self.old.store self.new.store }
+        ensures same { core_of self.new ≡ record (core_of self.old) {
+          store = self.new.reader.store;
+          cache = self.new.reader.cache;
+        } }
+        ensures kept { Kept S.Store self.old.reader.store self.new.reader.store }
         ensures sound { IsHeld S.Store (core_of self.old) → IfErr result IsUndamaged }
         ensures memory { IfErr result IsNoWant }
         ensures others { IsTrue (V.tells vault.old) → SameElsewhere name.now (V.holds vault.old) (V.holds vault.new) }
@@ -120,14 +116,9 @@ impl<S: Store> Studio<S> {
             return Err(Refusal::Stopped { faults });
         }
         let point = current_of(&self.history);
-        let bytes = self.buffers.write_sound(
-            &mut self.store,
-            &mut self.cache,
-            vault,
-            name,
-            point,
-            self.rate,
-        )?;
+        let bytes = self
+            .buffers
+            .write_sound(&mut self.reader, vault, name, point, self.rate)?;
         Ok(bytes)
     }
 }

@@ -7,29 +7,17 @@ ghost use Rattle.pcm_base.specs.declared.refusal.Refusal.TheVariants as refusal;
 ghost use Rattle.pcm_base.specs.Refusals.{length_limit};
 ghost use Rattle.edit_ops.specs.Plans.{AnswersTest};
 ghost use Rattle.project_state.specs.Tracks.{Adds, AllBelow};
-ghost use Rattle.editor_core.specs.Imports.{AddsChannel, AllFitBehind, FitsBehind, IsChannelPlan};
-ghost use Rattle.editor_core.specs.Imports.{block_behind, piece_behind, track_with};
+ghost use Rattle.editor_imports.specs.Imports.{AddsChannel, AllFitBehind, FitsBehind, IsChannelPlan, block_behind};
+ghost use Rattle.editor_imports.specs.Imports.{piece_behind, track_with};
 
-use super::carrying::Planned;
 use block_sequence::Pieces;
 use clip_track::Layout;
 use edit_ops::{NewBlock, NewBlocks, Plan, Planner, insert};
+use editor_imports::Growing;
+use editor_state::Planned;
 use pcm_base::{NoMemory, Piece, Refusal, Side, UNITY_GAIN};
 use project_state::{Point, Track};
 use std::alloc::Global;
-
-/// The project that grows track by track, the blocks that are to be made for it, the id of the next block after them,
-/// and how many samples the tracks so far have: this many of those that are brought are spoken for. And the number that
-/// the next layout gets.
-#[derive(Drop)]
-pub(crate) struct Growing {
-    pub(crate) point: Point,
-    pub(crate) makes: Vec<NewBlock>,
-    pub(crate) next: u64,
-    pub(crate) brought: u64,
-    /// The number of the next layout.
-    pub(crate) number: u64,
-}
 
 // A piece of a channel's samples, as a piece of all samples, where this many stand before the channel's.
 fn moved_piece(piece: Piece, skip: u64) -> Piece

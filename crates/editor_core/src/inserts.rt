@@ -16,29 +16,23 @@ ghost use Rattle.piece_store.specs.Bringing.{brought_count};
 ghost use Rattle.envelope_view.specs.Answers.{IsUndamaged};
 ghost use Rattle.record_body.specs.Kept.{current_tracks};
 ghost use Rattle.editor_core.specs.Core.{core_of};
-ghost use Rattle.editor_core.specs.Edits.{IsStill};
-ghost use Rattle.editor_core.specs.Exchanges.{may_begin};
-ghost use Rattle.editor_core.specs.Inserts.{IsPlace, place_cells, place_edit, place_test};
-ghost use Rattle.editor_core.specs.Studios.{IsHeld, IsStudio};
-ghost use Rattle.editor_core.specs.Took.{Took, quietly, told_by, with_sound};
-ghost use Rattle.editor_core.specs.TrackEdits.{IsTrackCall, IsTrackPlan, NoTrackPlan, track_command};
+ghost use Rattle.editor_state.specs.Edits.{IsStill};
+ghost use Rattle.editor_state.specs.Exchanges.{may_begin};
+ghost use Rattle.editor_tracks.specs.Inserts.{IsPlace, place_cells, place_edit, place_test};
+ghost use Rattle.editor_state.specs.Studios.{IsHeld, IsStudio};
+ghost use Rattle.editor_state.specs.Took.{Took, quietly, told_by, with_sound};
+ghost use Rattle.editor_tracks.specs.TrackEdits.{IsTrackCall, IsTrackPlan, NoTrackPlan, track_command};
 
-use super::carrying::Planned;
 use super::planning::planned;
 use super::studio::Studio;
 use clip_track::Layout;
 use disk_model::Store;
 use edit_ops::{Plan, Planner, insert};
+use editor_state::Planned;
+use editor_tracks::Place;
 use pcm_base::{CHUNK_SAMPLES, Refusal};
 use piece_store::Given;
 use std::alloc::Global;
-
-/// Where in a track samples are put in: at a place, to which a shorter track is continued by gaps, or at its end.
-#[derive(Clone, Copy)]
-pub(crate) enum Place {
-    At { at: u64 },
-    End,
-}
 
 /// How many samples of a recording were taken or refused together, and what was answered.
 #[derive(Drop)]

@@ -7,12 +7,12 @@ ghost use Rattle.clip_track.specs.Clips.{IsLayout};
 ghost use Rattle.project_state.specs.Tracks.{AllBelow, AreAbove};
 ghost use Rattle.project_state.specs.declared.track.Track.{Track};
 ghost use Rattle.layout_uses.specs.Drawing.{HasNumbers};
-ghost use Rattle.editor_core.specs.Copies.{run_of};
-ghost use Rattle.editor_core.specs.RunEdits.{IsRunPlan, Lays, laid_or, next_number};
-ghost use Rattle.editor_core.specs.TrackEdits.{with_layout};
+ghost use Rattle.editor_tracks.specs.Copies.{run_of};
+ghost use Rattle.editor_tracks.specs.RunEdits.{IsRunPlan, Lays, laid_or, next_number};
+ghost use Rattle.editor_tracks.specs.TrackEdits.{with_layout};
 
-use super::carrying::Planned;
 use edit_ops::{NewBlock, NewBlocks, Plan, Plans, Strips};
+use editor_state::Planned;
 use pcm_base::NoMemory;
 use project_state::{Point, Track};
 use std::alloc::Global;

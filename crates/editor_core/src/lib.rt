@@ -46,7 +46,7 @@ mod texts;
 mod views;
 
 pub use assembly::Parts;
-pub use copies::RunRange;
+pub use editor_tracks::RunRange;
 pub use facts::Facts;
 pub use inserts::Tried;
-pub use studio::{Pin, Studio};
+pub use studio::Studio;

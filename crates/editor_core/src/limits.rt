@@ -1,7 +1,7 @@
 // The bounds of a studio.
-ghost use Rattle.editor_core.specs.Bounded.{IsBounded};
+ghost use Rattle.editor_state.specs.Bounded.{IsBounded};
 ghost use Rattle.editor_core.specs.Core.{core_of};
-ghost use Rattle.editor_core.specs.Studios.{IsStudio};
+ghost use Rattle.editor_state.specs.Studios.{IsStudio};
 
 use super::studio::Studio;
 use disk_model::Store;

@@ -8,8 +8,8 @@ ghost use Rattle.pcm_base.specs.Pieces.{Sources};
 ghost use Rattle.pcm_base.specs.Step.{line_of_track};
 ghost use Rattle.project_state.specs.Meaning.{meant, meant_track};
 ghost use Rattle.editor_core.specs.Core.{core_of};
-ghost use Rattle.editor_core.specs.Studios.{IsStudio};
-ghost use Rattle.editor_core.specs.Took.{Took, quietly, told_by};
+ghost use Rattle.editor_state.specs.Studios.{IsStudio};
+ghost use Rattle.editor_state.specs.Took.{Took, quietly, told_by};
 
 use super::current::current_of;
 use super::studio::Studio;

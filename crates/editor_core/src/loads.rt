@@ -2,8 +2,8 @@
 ghost use Rattle.std.specs.Prelude.{◌≡◌, ◌+◌, ◌^◌, ◌<◌, ◌≤◌};
 ghost use Rattle.pcm_base.specs.declared.limits.TheConstants.{MAX_LOADED};
 ghost use Rattle.editor_core.specs.Core.{core_of};
-ghost use Rattle.editor_core.specs.Loads.{Loads};
-ghost use Rattle.editor_core.specs.Studios.{IsStudio};
+ghost use Rattle.editor_views.specs.Loads.{Loads};
+ghost use Rattle.editor_state.specs.Studios.{IsStudio};
 
 use super::pinned::point_of;
 use super::studio::Studio;
@@ -40,7 +40,7 @@ impl<S: Store> Studio<S> {
             return Err(Refusal::Stopped { faults });
         }
         let point = point_of(&self.pins, pin)?;
-        match load_stretch(&mut self.store, &mut self.cache, point, from, n, loaded) {
+        match load_stretch(&mut self.reader, point, from, n, loaded) {
             Ok(count) => Ok(count),
             Err(fault) => Err(fault.into()),
         }

@@ -3,19 +3,20 @@ ghost use Rattle.std.specs.Prelude.{◌≡◌, ℕ, ℤ, IsSome, ◌+◌, ◌≤
 ghost use Rattle.pcm_base.specs.declared.limits.TheConstants.{COUNTER_LIMIT, FIRST_BLOCK, MAX_BLOCK_SAMPLES};
 ghost use Rattle.pcm_base.specs.Pieces.{total};
 ghost use Rattle.sample_block.specs.Spelling.{IsBlock};
+ghost use Rattle.block_cache.specs.Caches.{AllPass};
 ghost use Rattle.block_ledger.specs.Entries.{count_of};
 ghost use Rattle.piece_store.specs.Brought.{AreInOrder, MayBring};
 ghost use Rattle.piece_store.specs.Bringers.{StillBrings};
 ghost use Rattle.piece_store.specs.Reading.{AllReadable, AllThere};
 ghost use Rattle.edit_ops.specs.Plans.{AreNew};
 ghost use Rattle.editor_core.specs.Core.{core_of};
-ghost use Rattle.editor_core.specs.Made.{AllInOrder, PiecesReadable, batch_of, ids_from};
-ghost use Rattle.editor_core.specs.Makes.{AddsFree, IsBroughtRefusal, IsDamageAmong, IsOfDevices, MadeOne, Makes};
-ghost use Rattle.editor_core.specs.Makes.{NotMade, RefusedBrought, Syncs, Writes};
+ghost use Rattle.editor_state.specs.Made.{AllInOrder, PiecesReadable, batch_of, ids_from};
+ghost use Rattle.editor_state.specs.Makes.{AddsFree, IsBroughtRefusal, IsDamageAmong, IsOfDevices, MadeOne, Makes};
+ghost use Rattle.editor_state.specs.Makes.{NotMade, RefusedBrought, Syncs, Writes};
+ghost use Rattle.editor_state.specs.Given.{is_given};
 
 use super::studio::Studio;
 use block_ledger::Ledger;
-use block_store::sync_block;
 use disk_model::Store;
 use edit_ops::NewBlock;
 use pcm_base::Refusal;
@@ -45,15 +46,17 @@ impl<S: Store> Studio<S> {
         requires spare { 0 < self.old.tally.ledger.spare }
         requires fresh { count_of self.old.tally.ledger block.now.id ≡ None }
         requires few { self.old.next_block < COUNTER_LIMIT }
+        requires pages { AllPass (is_given self.old.next_block) self.old.reader.cache }
         ensures made { MatchResult result
             (λ _. (samples : ℕ → ℤ) × MayBring (G.brings given.old) samples
             × MadeOne S.Store (core_of self.old) samples block.now (core_of self.new))
             (λ e. NotMade S.Store (core_of self.old) e (core_of self.new)) }
-        ensures sound { IsTrue (S.tells self.old.store) → AllThere (S.reads self.old.store) block.now.pieces
+        ensures sound { IsTrue (S.tells self.old.reader.store)
+            → AllThere (S.reads self.old.reader.store) block.now.pieces
             → IfErr result IsOfDevices }
         ensures refused { IfErr result (IsBroughtRefusal (G.brings given.old)) }
-        ensures damaged { IsTrue (S.tells self.old.store)
-            → IfErr result (IsDamageAmong (S.reads self.old.store) block.now.pieces) }
+        ensures damaged { IsTrue (S.tells self.old.reader.store)
+            → IfErr result (IsDamageAmong (S.reads self.old.reader.store) block.now.pieces) }
         ensures still { StillBrings G.Brings given.old given.new }
         ensures given { RefusedBrought result (G.fault_count given.old) (G.fault_count given.new) }
         ensures spare { self.old.tally.ledger.spare ≤ self.new.tally.ledger.spare + 1 }
@@ -62,7 +65,7 @@ impl<S: Store> Studio<S> {
         ensures row { self.new.row ≡ self.old.row }
         ensures uses { self.new.tally.uses ≡ self.old.tally.uses }
     {
-        match self.buffers.write_new(&mut self.store, block, given) {
+        match self.buffers.write_new(&mut self.reader, block, given) {
             Ok(()) => {
                 count_free(&mut self.tally.ledger, block.id);
                 self.next_block += 1;
@@ -71,7 +74,7 @@ impl<S: Store> Studio<S> {
             Err(MakeFault::Read { fault }) => Err(Refusal::from(fault)),
             Err(MakeFault::Bring { fault }) => Err(Refusal::from(fault)),
             Err(MakeFault::Put) => {
-                self.stopped = Some(self.store.faults());
+                self.stopped = Some(self.reader.store.faults());
                 Err(Refusal::DiskFault)
             }
         }
@@ -89,6 +92,7 @@ impl<S: Store> Studio<S> {
         requires size { self.old.buffers ≤ MAX_BLOCK_SAMPLES }
         requires spare { length makes.now ≤ self.old.tally.ledger.spare }
         requires below { (id : ℕ) → IsSome (count_of self.old.tally.ledger id) → id < self.old.next_block }
+        requires pages { AllPass (is_given self.old.next_block) self.old.reader.cache }
         ensures written { (samples : ℕ → ℤ) × MayBring (G.brings given.old) samples
             × Writes S.Store (core_of self.old) (batch_of samples makes.now) result (core_of self.new) }
         ensures refused { IfErr result (IsBroughtRefusal (G.brings given.old)) }
@@ -115,8 +119,8 @@ impl<S: Store> Studio<S> {
         ensures uses { self.new.tally.uses ≡ self.old.tally.uses }
     {
         'rows: for i in 0..count {
-            if let Err(_) = sync_block(&mut self.store, first + i) {
-                let faults = self.store.faults();
+            if let Err(_) = self.reader.sync(first + i) {
+                let faults = self.reader.store.faults();
                 self.stopped = Some(faults);
                 return Err(Refusal::DiskFault);
             }
@@ -141,6 +145,7 @@ impl<S: Store> Studio<S> {
         requires size { self.old.buffers ≤ MAX_BLOCK_SAMPLES }
         requires spare { length makes.now ≤ self.old.tally.ledger.spare }
         requires below { (id : ℕ) → IsSome (count_of self.old.tally.ledger id) → id < self.old.next_block }
+        requires pages { AllPass (is_given self.old.next_block) self.old.reader.cache }
         ensures made { (samples : ℕ → ℤ) × MayBring (G.brings given.old) samples
             × Makes S.Store (core_of self.old) (batch_of samples makes.now) result (core_of self.new) }
         ensures refused { IfErr result (IsBroughtRefusal (G.brings given.old)) }

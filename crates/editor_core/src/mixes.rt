@@ -1,5 +1,5 @@
 // What is heard of a project.
-ghost use Rattle.std.specs.Prelude.{◌≡◌, ◌+◌, ◌-◌, ◌<◌, ◌≤◌, length, min, take, drop, IsTrue, IsOkUnless, IfErr};
+ghost use Rattle.std.specs.Prelude.{◌≡◌, ◌+◌, ◌-◌, ◌<◌, ◌≤◌, length, min, take, drop, IsTrue, IsOkUnless};
 ghost use Rattle.std.specs.Prelude.{IfOk};
 ghost use Rattle.pcm_base.specs.declared.limits.TheConstants.{MAX_CELLS, MAX_VIEW};
 ghost use Rattle.pcm_base.specs.declared.answer.Reply.TheVariants.{Frames};
@@ -7,22 +7,20 @@ ghost use Rattle.pcm_base.specs.declared.command.Call.TheVariants.{Line, ReadPin
 ghost use Rattle.pcm_base.specs.declared.command.Command.TheVariants.{Mix};
 ghost use Rattle.pcm_base.specs.Mix.{mix_of, mix_length};
 ghost use Rattle.pcm_base.specs.Pieces.{Sources};
-ghost use Rattle.disk_model.specs.Frames.{Kept};
 ghost use Rattle.sample_block.specs.Sources.{sources_of, AllNamed, AllWhole};
 ghost use Rattle.block_store.specs.declared.fault.BlockFault.TheVariants as fault;
-ghost use Rattle.block_store.specs.Reads.{Counted, IsFaultIn};
-ghost use Rattle.block_cache.specs.Caches.{IsCacheOf, KeepsCache};
+ghost use Rattle.block_cache.specs.Readers.{Reads};
 ghost use Rattle.project_state.specs.Meaning.{meant, point_blocks};
 ghost use Rattle.mix_view.specs.Tracks.{mix_length_of};
 ghost use Rattle.editor_core.specs.Core.{core_of};
-ghost use Rattle.editor_core.specs.Reads.{Sees};
-ghost use Rattle.editor_core.specs.Studios.{IsStudio};
+ghost use Rattle.editor_state.specs.Reads.{Sees};
+ghost use Rattle.editor_state.specs.Studios.{IsStudio};
 
 use super::current::current_of;
 use super::pinned::point_of;
 use super::shows::may_view;
 use super::studio::Studio;
-use block_cache::Cache;
+use block_cache::BlockReader;
 use block_store::BlockFault;
 use disk_model::Store;
 use mix_view::{mix_len, read_frames};
@@ -35,8 +33,7 @@ const MIX_CELLS: usize = 8192;
 // Puts the frames of a project's mix from a place on at the front of `out`, as many as there are, up to a number, and
 // answers how many.
 fn read_mix<S: Store>(
-    store: &mut S,
-    cache: &mut Cache,
+    reader: &mut BlockReader<S>,
     point: &Point,
     from: u64,
     most: usize,
@@ -44,26 +41,21 @@ fn read_mix<S: Store>(
 ) -> Result<usize, BlockFault>
     requires named { AllNamed (point_blocks point.now) }
     requires room { most ≤ length out.old }
-    requires cached { IsTrue (S.tells store.old) → IsCacheOf (S.reads store.old) cache.old }
-    ensures cache { KeepsCache (S.tells store.old) (S.reads store.old) (point_blocks point.now) cache.old cache.new }
+    ensures reads { Reads (point_blocks point.now) reader.old reader.new result }
     ensures fits { IfOk result (λ n. n ≤ length out.new) }
     ensures count { IfOk result (λ n. n ≡ min most (mix_length_of point.now - from)) }
     ensures len { (src : Sources) → mix_length (meant src point.now) ≡ mix_length_of point.now }
     ensures limit { IfOk result (λ n. 0 < n → from + n ≤ MAX_CELLS) }
-    ensures read { IsTrue (S.tells store.old) → AllWhole (S.reads store.old) (point_blocks point.now)
+    ensures read { IsTrue (S.tells reader.old.store) → AllWhole (S.reads reader.old.store) (point_blocks point.now)
         → IfOk result (λ n. take n out.new
-        ≡ take n (drop from (mix_of (meant (sources_of (S.reads store.old)) point.now)))) }
-    ensures sound { IsTrue (S.tells store.old) → AllWhole (S.reads store.old) (point_blocks point.now)
+        ≡ take n (drop from (mix_of (meant (sources_of (S.reads reader.old.store)) point.now)))) }
+    ensures sound { IsTrue (S.tells reader.old.store) → AllWhole (S.reads reader.old.store) (point_blocks point.now)
         → IsOkUnless result fault.DiskFault }
-    ensures damaged { IsTrue (S.tells store.old)
-        → IfErr result (λ e. IsFaultIn (S.reads store.old) (point_blocks point.now) e) }
-    ensures kept { Kept S.Store store.old store.new }
-    ensures faults { Counted result (S.read_fault_count store.old) (S.read_fault_count store.new) }
 {
     let left = mix_len(point).saturating_sub(from);
     let count = (most as u64).min(left) as usize;
     let mut cells = [Cell::Gap; MIX_CELLS];
-    read_frames(store, cache, point, from, &mut cells, &mut out[..count])
+    read_frames(reader, point, from, &mut cells, &mut out[..count])
 }
 
 impl<S: Store> Studio<S> {
@@ -90,7 +82,7 @@ impl<S: Store> Studio<S> {
         may_view(from, to)?;
         let point = current_of(&self.history);
         let most = (to - from) as usize;
-        let count = read_mix(&mut self.store, &mut self.cache, point, from, most, out)?;
+        let count = read_mix(&mut self.reader, point, from, most, out)?;
         Ok(count)
     }
 
@@ -115,14 +107,7 @@ impl<S: Store> Studio<S> {
             return Err(Refusal::Stopped { faults });
         }
         let point = point_of(&self.pins, pin)?;
-        match read_mix(
-            &mut self.store,
-            &mut self.cache,
-            point,
-            from,
-            out.len(),
-            out,
-        ) {
+        match read_mix(&mut self.reader, point, from, out.len(), out) {
             Ok(count) => Ok(count),
             Err(fault) => Err(fault.into()),
         }

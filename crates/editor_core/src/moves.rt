@@ -11,10 +11,10 @@ ghost use Rattle.record_body.specs.declared.body.Body.TheVariants.{Purge};
 ghost use Rattle.record_body.specs.Spelling.{spelling};
 ghost use Rattle.purge_size.specs.Sizes.{IsPurgeTo};
 ghost use Rattle.envelope_view.specs.Answers.{IsUndamaged};
-ghost use Rattle.editor_core.specs.Adding.{IsNoWant};
+ghost use Rattle.editor_state.specs.Adding.{IsNoWant};
 ghost use Rattle.editor_core.specs.Core.{core_of};
-ghost use Rattle.editor_core.specs.Studios.{IsStudio};
-ghost use Rattle.editor_core.specs.Took.{Took, quietly, told_by};
+ghost use Rattle.editor_state.specs.Studios.{IsStudio};
+ghost use Rattle.editor_state.specs.Took.{Took, quietly, told_by};
 
 use super::studio::Studio;
 use byteorder::{ByteOrder, LittleEndian};

@@ -1,19 +1,9 @@
 // Edits that make no blocks.
 ghost use Rattle.std.specs.Prelude.{◌≡◌};
-ghost use Rattle.editor_core.specs.Plain.{layouts_by, tracks_by, set_by};
+ghost use Rattle.editor_commits.specs.Plain.{layouts_by, tracks_by, set_by};
 
-use pcm_base::Side;
+use editor_commits::PlainEdit;
 use project_state::Track;
-
-/// An edit that makes no blocks.
-#[derive(Clone, Copy)]
-pub(crate) enum PlainEdit {
-    Track,
-    Drop { track: u64 },
-    Level { track: u64, gain: u32 },
-    Side { track: u64, side: Side },
-    Mute { track: u64, mute: bool },
-}
 
 // How many track ids it needs.
 pub(crate) fn tracks_for(edit: &PlainEdit) -> u64

@@ -1,11 +1,11 @@
 // The new project of an edit of one track, by the plan of its layout.
 ghost use Rattle.std.specs.Prelude.{◌≡◌, IfOk, None, OnOk};
 ghost use Rattle.clip_track.specs.Clips.{IsLayout};
-ghost use Rattle.editor_core.specs.Points.{put_in};
-ghost use Rattle.editor_core.specs.TrackEdits.{with_layout};
+ghost use Rattle.editor_state.specs.Points.{put_in};
+ghost use Rattle.editor_tracks.specs.TrackEdits.{with_layout};
 
-use super::carrying::Planned;
 use edit_ops::Plan;
+use editor_state::Planned;
 use pcm_base::NoMemory;
 use project_state::{Point, Track};
 

@@ -3,14 +3,13 @@ ghost use Rattle.std.specs.Prelude.{◌≡◌, ◌≤◌, ◌<◌, ◌^◌, ℕ,
 ghost use Rattle.pcm_base.specs.declared.limits.TheConstants.{COUNTER_LIMIT, FIRST_BLOCK};
 ghost use Rattle.block_ledger.specs.Entries.{count_of};
 ghost use Rattle.editor_core.specs.Core.{core_of};
-ghost use Rattle.editor_core.specs.Frees.{Reclaims};
-ghost use Rattle.editor_core.specs.Passes.{DropsFirst, ForgetsFirst, RemovesFirst, SyncsFirst};
-ghost use Rattle.editor_core.specs.Removals.{Drops};
-ghost use Rattle.editor_core.specs.Studios.{IsStudio};
+ghost use Rattle.editor_cleanup.specs.Frees.{Reclaims};
+ghost use Rattle.editor_cleanup.specs.Passes.{DropsFirst, ForgetsFirst, RemovesFirst, SyncsFirst};
+ghost use Rattle.editor_state.specs.Removals.{Drops};
+ghost use Rattle.editor_state.specs.Studios.{IsStudio};
 
 use super::studio::Studio;
-use block_cache::remove_block_cached;
-use block_store::{BlockFault, sync_block};
+use block_store::BlockFault;
 use disk_model::Store;
 use pcm_base::Refusal;
 
@@ -35,7 +34,7 @@ impl<S: Store> Studio<S> {
         match dropped {
             Ok(()) => Ok(count),
             Err(_) => {
-                self.stopped = Some(self.store.faults());
+                self.stopped = Some(self.reader.store.faults());
                 Err(Refusal::DiskFault)
             }
         }
@@ -81,7 +80,7 @@ impl<S: Store> Studio<S> {
         requires high { id < COUNTER_LIMIT }
         ensures { Drops S.Store (core_of self.old) id result (core_of self.new) }
     {
-        remove_block_cached(&mut self.store, &mut self.cache, id)
+        self.reader.remove(id)
     }
 
     // Syncs the files of the first blocks that nothing names, this many at most.
@@ -94,7 +93,7 @@ impl<S: Store> Studio<S> {
             let Some(id) = self.tally.ledger.next_free(from) else {
                 return Ok(());
             };
-            sync_block(&mut self.store, id)?;
+            self.reader.sync(id)?;
             from = id + 1;
         }
         Ok(())

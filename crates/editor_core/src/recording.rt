@@ -16,7 +16,7 @@ use project_state::Point;
 use undo_history::History;
 
 // A point is to be recorded under a tag: it uses its layouts, and the points that go use theirs no more.
-#[tactic(auto, using(crate::proofs::Recorded::becomes_in_place, crate::proofs::Recorded::becomes_behind))]
+#[tactic(auto, using(crate::proofs::PointCounts::becomes_in_place, crate::proofs::PointCounts::becomes_behind))]
 fn count_recorded(tally: &mut Tally, history: &History<Point>, point: &Point, tag: u64)
     requires room { length point.now ≤ tally.old.uses.spare }
     requires there { HasIds (count_of tally.old.ledger) (track_blocks point.now) }

@@ -3,8 +3,8 @@ ghost use Rattle.std.specs.Prelude.{◌≡◌, ◌++◌, None, Some, Contains, I
 ghost use Rattle.clip_track.specs.Clips.{layout_blocks};
 ghost use Rattle.project_state.specs.Meaning.{point_blocks, history_blocks};
 ghost use Rattle.editor_core.specs.Core.{core_of};
-ghost use Rattle.editor_core.specs.Scans.{AreIdsOf, AreListed, MayStand, Scans, ScansBlock};
-ghost use Rattle.editor_core.specs.Studios.{IsStudio, ids_of};
+ghost use Rattle.editor_views.specs.Scans.{AreIdsOf, AreListed, MayStand, Scans, ScansBlock};
+ghost use Rattle.editor_state.specs.Studios.{IsStudio, ids_of};
 
 use super::studio::Studio;
 use block_store::BlockFault;
@@ -129,7 +129,7 @@ impl<S: Store> Studio<S> {
         requires named { Contains (history_blocks (core_of self.old).history) block }
         ensures { ScansBlock S.Store (core_of self.old) block result (core_of self.new) }
     {
-        self.buffers.check(&mut self.store, block)
+        self.buffers.check(&mut self.reader, block)
     }
 
     /// Reads the file of one block whole, and compares all of it with what the block's file has to be: its size, its

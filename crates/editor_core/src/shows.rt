@@ -1,5 +1,5 @@
 // What is shown of a track.
-ghost use Rattle.std.specs.Prelude.{◌≡◌, ◌+◌, ◌-◌, ◌≤◌, length, min, take, IsTrue, IsOkUnless, IfErr, IfOk};
+ghost use Rattle.std.specs.Prelude.{◌≡◌, ◌+◌, ◌-◌, ◌≤◌, length, min, take, IsTrue, IsOkUnless, IfOk};
 ghost use Rattle.std.specs.Prelude.{MatchResult, None, Some};
 ghost use Rattle.pcm_base.specs.declared.answer.Reply.TheVariants.{Cells};
 ghost use Rattle.pcm_base.specs.declared.command.Call.TheVariants.{Line};
@@ -7,19 +7,17 @@ ghost use Rattle.pcm_base.specs.declared.command.Command.TheVariants.{Show};
 ghost use Rattle.pcm_base.specs.declared.refusal.Refusal.TheVariants.{BadRange};
 ghost use Rattle.pcm_base.specs.Edits.{part};
 ghost use Rattle.pcm_base.specs.Refusals.{bad_view};
-ghost use Rattle.disk_model.specs.Frames.{Kept};
 ghost use Rattle.sample_block.specs.Sources.{sources_of, AllNamed, AllWhole};
 ghost use Rattle.block_store.specs.declared.fault.BlockFault.TheVariants as fault;
-ghost use Rattle.block_store.specs.Reads.{Counted, IsFaultIn};
-ghost use Rattle.block_cache.specs.Caches.{IsCacheOf, KeepsCache};
+ghost use Rattle.block_cache.specs.Readers.{Reads};
 ghost use Rattle.clip_track.specs.Clips.{layout_blocks, layout_cells};
 ghost use Rattle.editor_core.specs.Core.{core_of};
-ghost use Rattle.editor_core.specs.Reads.{Sees};
-ghost use Rattle.editor_core.specs.Studios.{IsStudio};
+ghost use Rattle.editor_state.specs.Reads.{Sees};
+ghost use Rattle.editor_state.specs.Studios.{IsStudio};
 
 use super::current::layout_of;
 use super::studio::Studio;
-use block_cache::Cache;
+use block_cache::BlockReader;
 use block_store::BlockFault;
 use cell_view::read_cells;
 use clip_track::Layout;
@@ -41,8 +39,7 @@ pub(crate) fn may_view(from: u64, to: u64) -> Result<(), Refusal>
 // Puts the cells of a layout from one place to another at the front of `out`, as many as there are, and answers how
 // many.
 fn read_view<S: Store>(
-    store: &mut S,
-    cache: &mut Cache,
+    reader: &mut BlockReader<S>,
     layout: &Layout,
     from: u64,
     to: u64,
@@ -51,20 +48,16 @@ fn read_view<S: Store>(
     requires named { AllNamed (layout_blocks layout.now) }
     requires up { from ≤ to }
     requires room { to ≤ from + length out.old }
-    requires cached { IsTrue (S.tells store.old) → IsCacheOf (S.reads store.old) cache.old }
-    ensures cache { KeepsCache (S.tells store.old) (S.reads store.old) (layout_blocks layout.now) cache.old cache.new }
+    ensures reads { Reads (layout_blocks layout.now) reader.old reader.new result }
     ensures count { IfOk result (λ n. n ≤ length out.new) }
-    ensures read { IsTrue (S.tells store.old) → AllWhole (S.reads store.old) (layout_blocks layout.now)
-        → IfOk result (λ n. take n out.new ≡ part from to (layout_cells (sources_of (S.reads store.old)) layout.now)) }
-    ensures sound { IsTrue (S.tells store.old) → AllWhole (S.reads store.old) (layout_blocks layout.now)
+    ensures read { IsTrue (S.tells reader.old.store) → AllWhole (S.reads reader.old.store) (layout_blocks layout.now)
+        → IfOk result
+        (λ n. take n out.new ≡ part from to (layout_cells (sources_of (S.reads reader.old.store)) layout.now)) }
+    ensures sound { IsTrue (S.tells reader.old.store) → AllWhole (S.reads reader.old.store) (layout_blocks layout.now)
         → IsOkUnless result fault.DiskFault }
-    ensures damaged { IsTrue (S.tells store.old)
-        → IfErr result (λ e. IsFaultIn (S.reads store.old) (layout_blocks layout.now) e) }
-    ensures kept { Kept S.Store store.old store.new }
-    ensures faults { Counted result (S.read_fault_count store.old) (S.read_fault_count store.new) }
 {
     let view = &mut out[..(to - from) as usize];
-    read_cells(store, cache, layout, from, view)
+    read_cells(reader, layout, from, view)
 }
 
 impl<S: Store> Studio<S> {
@@ -96,7 +89,7 @@ impl<S: Store> Studio<S> {
         }
         let layout = layout_of(&self.history, track)?;
         may_view(from, to)?;
-        let count = read_view(&mut self.store, &mut self.cache, layout, from, to, out)?;
+        let count = read_view(&mut self.reader, layout, from, to, out)?;
         Ok(count)
     }
 }

@@ -1,24 +1,18 @@
 // The studio.
 use super::buffers::BlockBuffers;
-use block_cache::Cache;
+use block_cache::BlockReader;
+use disk_model::Store;
 use edit_ops::Strips;
+use editor_state::Pin;
 use layout_uses::Tally;
 use project_state::Point;
 use undo_history::History;
 
-/// A project that is kept as it was, by its number.
-#[derive(Drop)]
-pub struct Pin {
-    pub(crate) number: u64,
-    pub(crate) point: Point,
-}
-
 /// The editor of one project on a store.
 #[derive(Drop)]
-pub struct Studio<S> {
-    pub(crate) store: S,
-    /// Pages of blocks that were read.
-    pub(crate) cache: Cache,
+pub struct Studio<S: Store> {
+    /// The store, and pages of its blocks that were read.
+    pub(crate) reader: BlockReader<S>,
     pub(crate) history: History<Point>,
     pub(crate) clipboard: Option<Strips>,
     pub(crate) pins: Vec<Pin>,

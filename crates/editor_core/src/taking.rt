@@ -2,6 +2,7 @@
 // current one.
 ghost use Rattle.std.specs.Prelude.{◌≡◌, ℕ, ◌+◌, ◌≤◌, ◌<◌, ◌^◌, IfOk, OnOk, length};
 ghost use Rattle.pcm_base.specs.declared.limits.TheConstants.{COUNTER_LIMIT, MAX_TRACKS};
+ghost use Rattle.block_cache.specs.Caches.{AllPass};
 ghost use Rattle.block_ledger.specs.Counts.{occurrences};
 ghost use Rattle.block_ledger.specs.Entries.{count_of};
 ghost use Rattle.pcm_base.specs.History.{edited};
@@ -12,31 +13,26 @@ ghost use Rattle.record_body.specs.declared.body.Body.TheVariants.{Edit};
 ghost use Rattle.layout_uses.specs.Layouts.{history_tracks, track_blocks};
 ghost use Rattle.layout_uses.specs.Occurrences.{HasIds, times_named};
 ghost use Rattle.layout_uses.specs.Tallies.{Becomes, MayBecome};
-ghost use Rattle.editor_core.specs.Adding.{AddsBody};
-ghost use Rattle.editor_core.specs.Bodies.{single};
+ghost use Rattle.editor_state.specs.Adding.{AddsBody, AddsDrawn};
+ghost use Rattle.editor_state.specs.Bodies.{single};
 ghost use Rattle.editor_core.specs.Core.{core_of};
+ghost use Rattle.editor_state.specs.Given.{is_block};
 
 use super::studio::Studio;
 use disk_model::Store;
 use layout_uses::count_edit;
-use pcm_base::{COUNTER_LIMIT, MAX_TRACKS, NoMemory, Refusal};
+use pcm_base::{MAX_TRACKS, NoMemory, Refusal};
 use project_state::Point;
-use record_body::Body;
+use record_body::{Body, body_len};
 
 impl<S: Store> Studio<S> {
-    // Makes room in memory for one point more and for the uses of its layouts, of which this many are new. It is
-    // refused too where their numbers are spent.
-    pub(crate) fn make_room(&mut self, layouts: u64) -> Result<(), NoMemory>
-        requires { self.old.next_layout ≤ COUNTER_LIMIT }
+    // Makes room in memory for one point more and for the uses of its layouts.
+    pub(crate) fn make_room(&mut self) -> Result<(), NoMemory>
         ensures same { core_of self.new ≡ core_of self.old }
         ensures ledger { self.new.tally.ledger ≡ self.old.tally.ledger }
         ensures ok { OnOk result (length self.new.history.history.points < self.new.history.capacity) }
         ensures uses { OnOk result (MAX_TRACKS ≤ self.new.tally.uses.spare) }
-        ensures layouts { OnOk result (self.old.next_layout + layouts ≤ COUNTER_LIMIT) }
     {
-        if layouts > COUNTER_LIMIT - self.next_layout {
-            return Err(NoMemory);
-        }
         self.tally.reserve(MAX_TRACKS as u64)?;
         self.history.reserve()
     }
@@ -46,6 +42,8 @@ impl<S: Store> Studio<S> {
         requires numbers { BodyAgrees (current_tracks self.old.history.history) body.now }
         requires room { self.old.commit_number < COUNTER_LIMIT }
         requires end { self.old.journal_end ≤ COUNTER_LIMIT }
+        requires file { self.old.file ≤ 1 }
+        requires pages { AllPass is_block self.old.reader.cache }
         ensures record { AddsBody S.Store (core_of self.old) (single body.now) result (core_of self.new) }
         ensures history { self.new.history ≡ self.old.history }
         ensures ledger { self.new.tally ≡ self.old.tally }
@@ -55,13 +53,22 @@ impl<S: Store> Studio<S> {
         self.commit_written()
     }
 
-    // The same of an edit that gives this many track ids; the point comes back.
-    pub(crate) fn commit_point(&mut self, point: Point, tracks: u64) -> Result<Point, Refusal>
+    // The same of an edit that gives this many track ids and layout numbers; the point comes back. It is refused too
+    // where numbers of layouts are not left.
+    pub(crate) fn commit_point(
+        &mut self,
+        point: Point,
+        tracks: u64,
+        layouts: u64,
+    ) -> Result<Point, Refusal>
         requires numbers { AgreeById (current_tracks self.old.history.history) point }
         requires room { self.old.commit_number < COUNTER_LIMIT }
         requires ids { self.old.next_track + tracks ≤ COUNTER_LIMIT }
         requires end { self.old.journal_end ≤ COUNTER_LIMIT }
-        ensures record { AddsBody S.Store (core_of self.old)
+        requires layouts { self.old.next_layout ≤ COUNTER_LIMIT }
+        requires file { self.old.file ≤ 1 }
+        requires pages { AllPass is_block self.old.reader.cache }
+        ensures record { AddsDrawn S.Store (core_of self.old) layouts
             (single (Edit 0 self.old.next_block (self.old.next_track + tracks) point)) result (core_of self.new) }
         ensures same { IfOk result (λ p. p ≡ point) }
         ensures history { self.new.history ≡ self.old.history }
@@ -73,6 +80,7 @@ impl<S: Store> Studio<S> {
             next_track: self.next_track + tracks,
             point,
         };
+        self.may_draw(body_len(&body) as u64, layouts)?;
         self.commit_body(&body)?;
         let Body::Edit { point, .. } = body else {
             unreachable!();

@@ -8,7 +8,7 @@ ghost use Rattle.project_journal.specs.Journal.{points_size};
 ghost use Rattle.project_journal.specs.Packing.{AreShort, header_row, sized};
 ghost use Rattle.record_body.specs.Kept.{point_bytes};
 ghost use Rattle.editor_core.specs.Core.{core_of};
-ghost use Rattle.editor_core.specs.Packing.{packed_base, packed_log, packed_size, packed_text, points_in};
+ghost use Rattle.editor_state.specs.Packing.{packed_base, packed_log, packed_size, packed_text, points_in};
 
 use super::studio::Studio;
 use byteorder::{ByteOrder, LittleEndian};

@@ -3,8 +3,8 @@ ghost use Rattle.std.specs.Prelude.{◌≡◌, ◌-◌, min};
 ghost use Rattle.pcm_base.specs.declared.command.Call.TheVariants.{Line};
 ghost use Rattle.pcm_base.specs.declared.command.Command.TheVariants as command;
 ghost use Rattle.editor_core.specs.Core.{core_of};
-ghost use Rattle.editor_core.specs.Studios.{IsStudio};
-ghost use Rattle.editor_core.specs.Took.{Took, quietly};
+ghost use Rattle.editor_state.specs.Studios.{IsStudio};
+ghost use Rattle.editor_state.specs.Took.{Took, quietly};
 
 use super::studio::Studio;
 use disk_model::Store;

@@ -9,9 +9,10 @@ use Rattle.record_body.specs.Kept.{Kept, opened}
 use Rattle.project_state.specs.Meaning.{meant_history}
 use Rattle.record_body.proofs.Unnumbered.{history_meant_alike}
 use Rattle.sample_block.specs.Sources.{sources_of}
-use Rattle.editor_core.specs.Core.{Core, core_of}
+use Rattle.editor_state.specs.Core.{Core}
+use Rattle.editor_core.specs.Core.{core_of}
 use Rattle.editor_core.specs.Parts.{assembled}
-use Rattle.editor_core.specs.Studios.{shown, studio_of}
+use Rattle.editor_state.specs.Studios.{shown, studio_of}
 use Rattle.editor_core.specs.declared.assembly.Parts.{Parts}
 use Rattle.editor_core.specs.declared.studio.Studio.{Studio}
 use Rattle.editor_recovery.specs.declared.fault.OpenFault.{OpenFault}
@@ -21,19 +22,20 @@ use Rattle.editor_recovery.specs.Opening.{IsFound}
 use Rattle.editor_recovery.specs.Stores.{answer_of, store_of}
 
 module _ {D : Type 0} (store : D) (p : Parts) where
-  pub same_store : (r : Result (Studio D) (OpenFault × D)) → IfOk r (λ s. core_of s ≡ assembled store p)
+  pub same_store : {disk : Ghosts D} (r : Result (Studio D disk) (OpenFault × D))
+      → IfOk r (λ s. core_of s ≡ assembled store p)
       → IfErr r (λ e. (e.0 ≡ fault.NoMemory) × (e.1 ≡ store)) → store_of r ≡ store
   same_store (Ok s) is none = ap (λ (c : Core D). c.store) is
   same_store (Err e) is none = none.1
 
-  pub answers : (P : Result Found OpenFault → Type 0) (r : Result (Studio D) (OpenFault × D))
+  pub answers : {disk : Ghosts D} (P : Result Found OpenFault → Type 0) (r : Result (Studio D disk) (OpenFault × D))
       → IfOk r (λ s. core_of s ≡ assembled store p) → IfErr r (λ e. (e.0 ≡ fault.NoMemory) × (e.1 ≡ store))
       → P (Ok (found_in p)) → P (Err fault.NoMemory) → P (answer_of r)
   answers P (Ok s) is none ok refused = subst (λ (c : Core D). P (Ok (found_by c))) (sym is) ok
   answers P (Err e) is none ok refused = subst (λ (f : OpenFault). P (Err f)) (sym none.0) refused
 
-  pub each : (Q : Core D → Type 0) (r : Result (Studio D) (OpenFault × D)) → IfOk r (λ s. core_of s ≡ assembled store p)
-      → Q (assembled store p) → IfOk r (λ s. Q (core_of s))
+  pub each : {disk : Ghosts D} (Q : Core D → Type 0) (r : Result (Studio D disk) (OpenFault × D))
+      → IfOk r (λ s. core_of s ≡ assembled store p) → Q (assembled store p) → IfOk r (λ s. Q (core_of s))
   each Q (Ok s) is q = subst Q (sym is) q
   each Q (Err e) is q = tt
 

@@ -9,7 +9,7 @@ use Rattle.disk_model.specs.declared.store.Store.{Ghosts}
 use Rattle.block_store.specs.declared.fault.BlockFault.{BlockFault}
 use Rattle.block_store.specs.declared.fault.BlockFault.TheVariants as block
 use Rattle.block_store.specs.Reads.{Counted}
-use Rattle.editor_core.specs.Studios.{ids_of}
+use Rattle.editor_state.specs.Studios.{ids_of}
 use Rattle.editor_recovery.specs.declared.fault.OpenFault.{OpenFault}
 use Rattle.editor_recovery.specs.Blocks.{fault_of}
 use Rattle.editor_recovery.specs.Causes.{Causes}

@@ -20,10 +20,10 @@ use Rattle.block_store.specs.declared.fault.BlockFault.TheVariants as block
 use Rattle.block_store.specs.Reads.{CountedBy}
 use Rattle.project_state.specs.declared.track.Track.{Track}
 use Rattle.project_state.specs.Meaning.{history_blocks}
-use Rattle.editor_core.specs.Core.{Core}
-use Rattle.editor_core.specs.Scans.{AreListed, BlockScanned, HaveOneLength, ScansBlock}
-use Rattle.editor_core.specs.Studios.{IsHeld, IsStudio, ids_of}
-use Rattle.editor_core.proofs.Rests.{rests_held, rests_keeps, rests_studio}
+use Rattle.editor_state.specs.Core.{Core}
+use Rattle.editor_views.specs.Scans.{AreListed, BlockScanned, HaveOneLength, ScansBlock}
+use Rattle.editor_state.specs.Studios.{IsHeld, IsStudio, ids_of}
+use Rattle.editor_state.proofs.Calls.SameStores.{rests_held, rests_keeps, rests_studio}
 use Rattle.editor_recovery.specs.declared.fault.OpenFault.{OpenFault}
 use Rattle.editor_recovery.specs.declared.fault.OpenFault.TheVariants as fault
 use Rattle.editor_recovery.specs.Checking.{AllScanned, ChecksAll, ChecksStudio, IsCountOf}

@@ -13,6 +13,7 @@ use Rattle.project_journal.specs.Reader.{IsLater, reader_form}
 use Rattle.project_journal.proofs.AnyFormats.{HasBase, base_sound}
 use Rattle.project_journal.proofs.Bases.{plain}
 use Rattle.project_journal.proofs.Found.{read_whole}
+use Rattle.project_journal.proofs.Parses.{form_least}
 use Rattle.project_journal.proofs.Readables.{readable}
 use Rattle.record_body.specs.Kept.{Kept, Begins, LeadIn, version_of}
 use Rattle.record_body.proofs.KeptBounds.{lead_sound}
@@ -23,7 +24,7 @@ use Rattle.record_fold.specs.declared.project.Project.{Project}
 use Rattle.record_fold.proofs.Based.{begun_depth, begun_valid}
 use Rattle.record_fold.proofs.Commits.{lead_commits, told_few}
 use Rattle.record_fold.proofs.Stepping.{valid_by}
-use Rattle.editor_core.specs.Studios.{AreJournalNumbers}
+use Rattle.editor_state.specs.Studios.{AreJournalNumbers}
 use Rattle.editor_recovery.specs.declared.disk.Folded.{Folded}
 use Rattle.editor_recovery.specs.Finding.{FoldsDisk, IsSoundFolded, records_fault}
 use Rattle.editor_recovery.proofs.SoundParts.{format_of}
@@ -142,6 +143,7 @@ module _ {D : Type 0} (disk : Ghosts D) (store : D) (reader : Reader) (f : Folde
       early = l.early;
       begins = l.begins;
       leads = l.leads;
+      few = omega (arith, l.few, l.end, ap (λ (b : Base). b.count) l.base);
     },
   )
 
@@ -157,10 +159,10 @@ module _ {D : Type 0} (disk : Ghosts D) (store : D) (reader : Reader) (f : Folde
       let sound = lead_sound (version_of form) j.block_size base.history.depth base.commit base (kept_of f.project)
       (map body_at j.records) l.leads valid in
       let same_size : f.block_size ≡ j.block_size = size ∙ l.block_size in
-      let depth : f.project.history.history.depth ≡ j.depth =
+      let depth : f.project.numbered.history.history.depth ≡ j.depth =
       sound.depth_is ∙ begun_depth j.points (log_of j) base l.begins in
       record {
-        format = format_of f.rate j.rate f.block_size j.block_size f.project.history.history.depth j.depth
+        format = format_of f.rate j.rate f.block_size j.block_size f.project.numbered.history.history.depth j.depth
             (rate ∙ l.rate) same_size depth ready.format;
         kept = subst (λ (m : ℕ). IsValid m (kept_of f.project)) (sym same_size)
             (valid_by j.block_size base.history.depth (base.commit + length (map body_at j.records))
@@ -171,4 +173,6 @@ module _ {D : Type 0} (disk : Ghosts D) (store : D) (reader : Reader) (f : Folde
             version generation_is;
         end_least = omega (arith, end, l.end, ready.records);
         end_most = omega (arith, end, l.end, ready.end);
+        numbers = l.numbers;
+        layouts = omega (arith, end, l.few, form_least form known);
       }

@@ -40,7 +40,7 @@ use Rattle.record_fold.specs.Faults.{first_fault_in, journal_fault}
 use Rattle.record_fold.proofs.HeaderSound.{points_sound}
 use Rattle.record_fold.proofs.Sound.{leading_sound_in}
 use Rattle.editor_core.specs.Parts.{HasParts, assembled}
-use Rattle.editor_core.specs.Studios.{SameBlocks, named_blocks}
+use Rattle.editor_state.specs.Studios.{SameBlocks, named_blocks}
 use Rattle.editor_core.specs.declared.assembly.Parts.{Parts}
 use Rattle.editor_recovery.specs.declared.fault.OpenFault.{OpenFault}
 use Rattle.editor_recovery.specs.declared.fault.OpenFault.TheVariants as fault

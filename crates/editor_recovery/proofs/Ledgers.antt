@@ -20,8 +20,8 @@ use Rattle.layout_uses.specs.declared.tally.Tally.{Tally}
 use Rattle.layout_uses.specs.Layouts.{history_tracks, points_tracks, track_blocks}
 use Rattle.layout_uses.specs.Occurrences.{HasIds, times_named}
 use Rattle.layout_uses.specs.Tallies.{AreCounts, Comes, IsTally}
-use Rattle.editor_core.specs.Studios.{IsGiven}
-use Rattle.editor_core.proofs.Bounds.{named_most, point_few}
+use Rattle.editor_state.specs.Studios.{IsGiven}
+use Rattle.editor_state.proofs.Blocks.BlockNumbers.{named_most, point_few}
 use Rattle.editor_recovery.specs.Files.{is_foreign, IsAbove}
 use Rattle.editor_recovery.specs.Listing.{AreFiles}
 use Rattle.editor_recovery.specs.Ledgers.{AreCounted, AreNoted, IsLedgerOf}

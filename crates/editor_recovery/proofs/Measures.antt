@@ -16,7 +16,7 @@ use Rattle.editor_recovery.specs.declared.fault.OpenFault.{OpenFault}
 use Rattle.editor_recovery.specs.Listing.{AreFiles}
 use Rattle.editor_recovery.specs.Finding.{TestsMeasured}
 use Rattle.std.proofs.lemmas.List.Elements.{All-from_recursion, All-contains}
-use Rattle.editor_core.specs.Scans.{HaveOneLength}
+use Rattle.editor_views.specs.Scans.{HaveOneLength}
 use Rattle.editor_recovery.specs.Sizes.{file_size}
 use Rattle.editor_recovery.proofs.Highest.{contains_get, at_default}
 use Rattle.editor_recovery.proofs.Points.{all_blocks, all_flat, all_points, both_all}

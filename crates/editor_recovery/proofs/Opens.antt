@@ -1,21 +1,21 @@
 -- From what the steps of opening answer to what opening answers.
-use Rattle.std.proofs.Common.{◌≡◌, ℕ, inl, inr, List, map, None, Result, Ok, Err, sym, subst, ◌∙◌}
-use Rattle.std.specs.Prelude.{IfErr, IfOk, IsTrue}
+use Rattle.std.proofs.Common.{◌≡◌, ℕ, inl, inr, List, None, Result, Ok, Err, sym, ap, subst, ◌∙◌, arith}
+use Rattle.std.specs.Prelude.{⊤, IfErr, IfOk, IsTrue}
 use Rattle.pcm_base.specs.declared.block.BlockRef.{BlockRef}
 use Rattle.disk_model.specs.Disk.{Files, bytes_of}
 use Rattle.disk_model.specs.declared.store.Store.{Ghosts}
 use Rattle.project_journal.specs.Choice.{IsNewest, IsPicked}
 use Rattle.project_journal.specs.Header.{Form}
 use Rattle.project_journal.specs.Journal as journal
-use Rattle.project_journal.specs.Journal.{Contents, HasLog, body_at, log_of}
+use Rattle.project_journal.specs.Journal.{Contents, HasLog, log_of}
 use Rattle.project_journal.specs.Opening.{IsOpened}
 use Rattle.project_journal.specs.Reader.{IsStored}
 use Rattle.project_journal.specs.declared.fault.Damaged.{Damaged}
 use Rattle.project_journal.specs.declared.reader.Reader.{Reader}
 use Rattle.project_journal.proofs.Found.{journal_generation, log_there, read_whole, stored_here}
 use Rattle.project_state.specs.Meaning.{history_blocks}
-use Rattle.record_body.specs.Kept.{version_of}
-use Rattle.layout_uses.specs.declared.numbering.Numbered.{Numbered}
+use Rattle.project_state.specs.Numbers.{unnumbered_history}
+use Rattle.record_body.proofs.Unnumbered.{history_blocks_alike}
 use Rattle.record_fold.specs.Bases.{base_of}
 use Rattle.record_fold.specs.Folds.{kept_of}
 use Rattle.editor_recovery.specs.declared.disk.Disk.{Disk}
@@ -26,15 +26,15 @@ use Rattle.editor_recovery.specs.declared.fault.OpenFault.TheVariants as fault
 use Rattle.editor_recovery.specs.Listing.{AreFiles, Lists, TellsForeign}
 use Rattle.editor_recovery.specs.Files.{NoForeign}
 use Rattle.editor_recovery.specs.Found.{answer_in, found_in}
-use Rattle.editor_recovery.specs.Finding.{FoldsDisk, IsFoldOf, TestsMeasured, TestsSizes, ArePartsOf}
+use Rattle.editor_recovery.specs.Finding.{ArePartsOf, FoldsDisk, IsFoldOf, IsSoundFolded, TestsMeasured, TestsSizes}
 use Rattle.editor_recovery.specs.Opening.{HeaderFault, Opens}
 use Rattle.editor_recovery.specs.Reading.{IsRead, ReadsDisk, Refuses}
-use Rattle.editor_recovery.specs.Sizes.{AllHaveSize, file_size}
+use Rattle.editor_recovery.specs.Sizes.{AllHaveSize, IsFirstWrong, file_size}
 use Rattle.editor_recovery.specs.Standing.{Stands}
 use Rattle.editor_recovery.proofs.Alone.{some_picked, some_refused}
 use Rattle.editor_recovery.proofs.Ledgers.{ledger_of}
 use Rattle.editor_recovery.proofs.Listed.{next_block}
-use Rattle.editor_recovery.proofs.Plain.{history_same, plain_begun, plain_lead}
+use Rattle.editor_recovery.proofs.SoundParts.{parts_numbered}
 use Rattle.editor_recovery.proofs.Wrong.{all_right, one_wrong}
 
 abbrev pub damaged : ℕ → ℕ → ℕ → Damaged
@@ -122,7 +122,7 @@ measured files sizes bs (Err (fault.Damaged file at want have)) same tests =
 -- a block's file that has not its size
 pub unsized : (files : Files) (form : Form) (j : Contents) (listed : List ℕ) (f : Folded) (e : OpenFault)
     → IsRead files form j listed → IsFoldOf form j f
-    → TestsSizes {T = Numbered} files (history_blocks f.project.history.history) (Err e) → Opens files (Err e)
+    → TestsSizes {T = ⊤} files (history_blocks f.project.numbered.history.history) (Err e) → Opens files (Err e)
 unsized files form j listed f fault.Absent is fold tests = absurd tests
 unsized files form j listed f fault.Exists is fold tests = absurd tests
 unsized files form j listed f fault.DiskFault is fold tests = tt
@@ -137,48 +137,55 @@ unsized files form j listed f (fault.Damaged file at want have) is fold tests = 
     kept = kept_of f.project;
     stands = stands_read files form j listed f is fold;
     block = tests.0;
-    first = tests.1;
+    first = subst (λ (bs : List BlockRef). IsFirstWrong files bs tests.0)
+        (sym (history_blocks_alike f.project.numbered.history.history)) tests.1;
     tells = (tests.2, λ i. record { at = tests.3 i; want = tests.4 i; have = tests.5 i });
   })),
 )
 
 -- and none
 parts_open : (files : Files) (form : Form) (j : Contents) (listed : List ℕ) (f : Folded) (p : Parts)
-    → IsRead files form j listed → IsFoldOf form j f → AllHaveSize files (history_blocks f.project.history.history)
+    → IsRead files form j listed → IsFoldOf form j f → IsSoundFolded f
+    → AllHaveSize files (history_blocks f.project.numbered.history.history)
     → ArePartsOf listed f p → Opens files (Ok (found_in p))
-parts_open files form j listed f p is fold sizes parts = record {
-  form = form;
-  log = log_of j;
-  kept = kept_of f.project;
-  project = record { stands = stands_read files form j listed f is fold; sizes = sizes };
-  found = record {
-    rate = parts.rate ∙ fold.rate;
-    block_size = parts.block_size ∙ fold.block_size;
-    history = parts.history ∙ history_same f.project.history.history
-        (plain_lead (version_of form) j.block_size (base_of j) (kept_of f.project) (map body_at j.records) fold.leads
-        (plain_begun (log_of j) (base_of j) fold.begins));
-    layouts = parts.layouts;
-    numbered = parts.numbered;
-    drawn = parts.drawn;
-    counted = parts.counted;
-    ledger = ledger_of files listed _ is.listed parts.ledger;
-    next_block = next_block files listed f.project.next_block p.next_block is.listed parts.next_block;
-    next_track = parts.next_track;
-    commit = parts.commit;
-    file = parts.file ∙ fold.file;
-    version = parts.version ∙ fold.version;
-    generation = parts.generation ∙ fold.generation;
-  };
-  foreign = is.foreign;
-}
+parts_open files form j listed f p is fold sound sizes parts =
+    let numbers = parts_numbered listed f p sound parts in
+    record {
+      form = form;
+      log = log_of j;
+      kept = kept_of f.project;
+      project = record {
+        stands = stands_read files form j listed f is fold;
+        sizes = subst (AllHaveSize files) (sym (history_blocks_alike f.project.numbered.history.history)) sizes;
+      };
+      found = record {
+        rate = parts.rate ∙ fold.rate;
+        block_size = parts.block_size ∙ fold.block_size;
+        history = ap unnumbered_history parts.history;
+        layouts = omega (arith, parts.next_layout, parts.end, sound.layouts);
+        layouts_least = numbers.least;
+        layouts_few = omega (arith, parts.next_layout, parts.end, fold.end, fold.few);
+        numbered = numbers.numbered;
+        drawn = numbers.drawn;
+        counted = parts.counted;
+        ledger = ledger_of files listed _ is.listed parts.ledger;
+        next_block = next_block files listed f.project.next_block p.next_block is.listed parts.next_block;
+        next_track = parts.next_track;
+        commit = parts.commit;
+        file = parts.file ∙ fold.file;
+        version = parts.version ∙ fold.version;
+        generation = parts.generation ∙ fold.generation;
+      };
+      foreign = is.foreign;
+    }
 
 pub parts_result : (files : Files) (form : Form) (j : Contents) (listed : List ℕ) (f : Folded)
-    (r : Result Parts OpenFault) → IsRead files form j listed → IsFoldOf form j f
-    → AllHaveSize files (history_blocks f.project.history.history)
+    (r : Result Parts OpenFault) → IsRead files form j listed → IsFoldOf form j f → IsSoundFolded f
+    → AllHaveSize files (history_blocks f.project.numbered.history.history)
     → IfOk r (ArePartsOf listed f) → IfErr r (λ e. e ≡ fault.NoMemory) → Opens files (answer_in r)
-parts_result files form j listed f (Ok p) is fold sizes parts memory =
-    parts_open files form j listed f p is fold sizes parts
-parts_result files form j listed f (Err e) is fold sizes parts memory =
+parts_result files form j listed f (Ok p) is fold sound sizes parts memory =
+    parts_open files form j listed f p is fold sound sizes parts
+parts_result files form j listed f (Err e) is fold sound sizes parts memory =
     subst (λ (x : OpenFault). Opens files (Err x)) (sym memory) tt
 
 -- a listing beside a header without faults

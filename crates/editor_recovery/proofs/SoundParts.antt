@@ -1,16 +1,18 @@
 -- The parts of a sound project are sound.
-use Rattle.std.proofs.Common.{◌≡◌, ℕ, ◌≤◌, List, Result, Ok, Err, sym, subst, ◌∙◌, arith}
+use Rattle.std.proofs.Common.{◌≡◌, ℕ, ◌≤◌, List, Result, Ok, Err, sym, ap, subst, ◌∙◌, arith}
 use Rattle.std.specs.Prelude.{None, IfOk, find}
 use Rattle.block_ledger.specs.Entries.{count_of}
 use Rattle.project_state.specs.Meaning.{history_blocks}
-use Rattle.editor_core.specs.Scans.{HaveOneLength}
+use Rattle.editor_views.specs.Scans.{HaveOneLength}
 use Rattle.editor_recovery.specs.Files.{is_foreign}
 use Rattle.editor_recovery.proofs.Ledgers.{given}
-use Rattle.editor_recovery.proofs.Plain.{same_blocks, same_depth, same_sound}
-use Rattle.std.specs.List.{All}
+use Rattle.editor_recovery.proofs.Plain.{valid_back}
+use Rattle.std.specs.List.{All, AllByRecursion}
 use Rattle.std.proofs.lemmas.List.Elements.{All-weaker, recursion_from_All}
+use Rattle.pcm_base.specs.History.{History}
 use Rattle.project_journal.specs.Header.{IsFormat}
 use Rattle.project_state.specs.declared.track.Track.{Track}
+use Rattle.layout_uses.specs.Drawing.{IsNumbered}
 use Rattle.record_body.specs.KeptSound.{IsSoundTagged}
 use Rattle.record_body.proofs.KeptBounds.{tagged_more}
 use Rattle.editor_recovery.specs.declared.disk.Folded.{Folded}
@@ -36,28 +38,34 @@ tagged_at m m' block block' track track' commit commit' p size le same_track sam
     subst (λ (n : ℕ). IsSoundTagged n block' track' commit' p) (sym size) (tagged_more m block track commit block'
     track' commit' p le (omega (arith, same_track)) (omega (arith, same_commit)) s)
 
+-- their layouts have the numbers that were drawn
+pub parts_numbered : (files : List ℕ) (f : Folded) (p : Parts) → IsSoundFolded f → ArePartsOf files f p
+    → IsNumbered p.history.history p.next_layout
+parts_numbered files f p is are =
+    subst (λ (n : ℕ). IsNumbered p.history.history n) (sym are.next_layout)
+    (subst (λ (h : History (List Track)). IsNumbered h f.project.numbered.next) (sym are.history) is.numbers)
+
 sound_parts : (files : List ℕ) (f : Folded) (p : Parts) → IsSoundFolded f → find is_foreign files ≡ None
-    → HaveOneLength (history_blocks f.project.history.history)
+    → HaveOneLength (history_blocks f.project.numbered.history.history)
     → ArePartsOf files f p → IsSoundParts p
 sound_parts files f p is known one are =
     let project = f.project in
-    let sound = is.kept in
-    let same = are.history in
-    let depth : p.history.history.depth ≡ project.history.history.depth =
-    same_depth p.history.history project.history.history same in
-    let old = project.history.history.points in
-    let all : All (IsSoundTagged p.block_size p.next_block p.next_track p.commit_number) old =
-    All-weaker (IsSoundTagged f.block_size project.next_block project.next_track project.commit)
-    (IsSoundTagged p.block_size p.next_block p.next_track p.commit_number)
+    let h : History (List Track) = project.numbered.history.history in
+    let sound = valid_back f.block_size project is.kept in
+    let depth : p.history.history.depth ≡ h.depth = ap (λ (z : History (List Track)). z.depth) are.history in
+    let numbers = parts_numbered files f p is are in
+    let Q : List Track × ℕ → Type 0 = IsSoundTagged p.block_size p.next_block p.next_track p.commit_number in
+    let all : All Q h.points =
+    All-weaker (IsSoundTagged f.block_size project.next_block project.next_track project.commit) Q
     (λ x s. tagged_at f.block_size p.block_size project.next_block p.next_block project.next_track p.next_track
-    project.commit p.commit_number x are.block_size are.next_block.no_lower are.next_track are.commit s) old
+    project.commit p.commit_number x are.block_size are.next_block.no_lower are.next_track are.commit s) h.points
     sound.points in
     record {
       parts = record {
         pages_least = omega (arith, are.pages);
         pages_most = omega (arith, are.pages);
-        format = format_of p.rate f.rate p.block_size f.block_size p.history.history.depth project.history.history.depth
-            are.rate are.block_size depth is.format;
+        format = format_of p.rate f.rate p.block_size f.block_size p.history.history.depth h.depth are.rate
+            are.block_size depth is.format;
         counters = record {
           block_least = omega (arith, sound.block_least, are.next_block.no_lower);
           block_most = are.bound;
@@ -76,21 +84,20 @@ sound_parts files f p is known one are =
           generation_most = omega (arith, are.generation, is.journal.generation_most);
           first_version = λ first. are.generation ∙ is.journal.first_version (sym are.version ∙ first);
         };
-        points = same_sound p.history.history project.history.history same p.block_size p.next_block p.next_track
-            p.commit_number (recursion_from_All
-            (IsSoundTagged p.block_size p.next_block p.next_track p.commit_number) old all);
-        layouts = are.layouts;
-        numbered = are.numbered;
-        drawn = are.drawn;
+        points = subst (λ (z : History (List Track)). AllByRecursion Q z.points) (sym are.history)
+            (recursion_from_All Q h.points all);
+        layouts = omega (arith, are.next_layout, are.end, is.layouts);
+        numbered = numbers.numbered;
+        drawn = numbers.drawn;
         counted = are.counted;
         given = given files (count_of p.tally.ledger) project.next_block p.next_block are.ledger known are.next_block;
       };
-      one_length = subst HaveOneLength (sym (same_blocks p.history.history project.history.history same)) one;
+      one_length = subst HaveOneLength (sym (ap history_blocks are.history)) one;
     }
 
 pub sound_result : (files : List ℕ) (f : Folded) (r : Result Parts OpenFault) → IsSoundFolded f
     → find is_foreign files ≡ None
-    → HaveOneLength (history_blocks f.project.history.history)
+    → HaveOneLength (history_blocks f.project.numbered.history.history)
     → IfOk r (ArePartsOf files f) → IfOk r IsSoundParts
 sound_result files f (Ok p) is known one are = sound_parts files f p is known one are
 sound_result files f (Err e) is known one are = tt

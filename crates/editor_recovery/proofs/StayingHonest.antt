@@ -18,11 +18,10 @@ use Rattle.project_journal.proofs.Parses.{form_known}
 use Rattle.record_body.specs.Kept as keeping
 use Rattle.project_state.specs.Meaning.{history_blocks}
 use Rattle.record_body.proofs.Unnumbered.{history_blocks_alike}
-use Rattle.editor_core.specs.Core.{Core, form_at}
-use Rattle.editor_core.specs.Left.{LeavesOthers, MayRemove}
-use Rattle.editor_core.specs.Studios.{IsDurable, IsHeld, IsStudio, clip_blocks, pin_blocks, shown}
-use Rattle.editor_core.specs.Studios.{studio_of}
-use Rattle.editor_core.specs.Took.{Exchange, Took}
+use Rattle.editor_state.specs.Core.{Core, form_at}
+use Rattle.editor_state.specs.Left.{LeavesOthers, MayRemove}
+use Rattle.editor_state.specs.Studios.{IsDurable, IsHeld, IsStudio, clip_blocks, pin_blocks, shown, studio_of}
+use Rattle.editor_state.specs.Took.{Exchange, Took}
 use Rattle.editor_recovery.specs.Files.{NoForeign, is_foreign}
 use Rattle.editor_recovery.specs.Honest.{IsHonest, Names}
 use Rattle.editor_recovery.specs.StayingHonest.{IsHonestImage, StaysHonest}

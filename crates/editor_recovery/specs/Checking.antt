@@ -12,9 +12,9 @@ use Rattle.block_store.specs.Reads.{Counted}
 use Rattle.project_journal.specs.Gate.{EachSince}
 use Rattle.record_body.specs.Kept.{Keeps}
 use Rattle.project_state.specs.Meaning.{history_blocks}
-use Rattle.editor_core.specs.Core.{Core}
-use Rattle.editor_core.specs.Scans.{AreIdsOf, BlockScanned, Differs, HaveOneLength}
-use Rattle.editor_core.specs.Studios.{IsHeld, IsStudio, shown, studio_of}
+use Rattle.editor_state.specs.Core.{Core}
+use Rattle.editor_views.specs.Scans.{AreIdsOf, BlockScanned, Differs, HaveOneLength}
+use Rattle.editor_state.specs.Studios.{IsHeld, IsStudio, shown, studio_of}
 use Rattle.editor_recovery.specs.declared.fault.OpenFault.{OpenFault}
 use Rattle.editor_recovery.specs.declared.fault.OpenFault.TheVariants as fault
 use Rattle.editor_recovery.specs.Causes.{Causes}

@@ -1,8 +1,7 @@
 -- What the steps of opening answer.
-use Rattle.std.specs.Prelude.{◌≡◌, ℕ, ◌≤◌, None, Some, List, [], map, Result, Ok, Err}
+use Rattle.std.specs.Prelude.{◌≡◌, ℕ, ◌+◌, ◌*◌, ◌≤◌, None, Some, List, [], map, Result, Ok, Err}
 use Rattle.pcm_base.specs.declared.limits.TheConstants.{COUNTER_LIMIT, LEAST_END}
 use Rattle.pcm_base.specs.declared.block.BlockRef.{BlockRef}
-use Rattle.pcm_base.specs.History.{History}
 use Rattle.disk_model.specs.Disk.{Files}
 use Rattle.sample_block.specs.Spelling.{size_of}
 use Rattle.disk_model.specs.declared.store.Store.{Ghosts}
@@ -13,18 +12,15 @@ use Rattle.project_journal.specs.Journal.{Contents, body_at, log_of}
 use Rattle.project_journal.specs.Reader.{IsStored}
 use Rattle.block_ledger.specs.Entries.{count_of}
 use Rattle.record_body.specs.Kept.{Begins, LeadIn, version_of}
-use Rattle.project_state.specs.Numbers.{unnumbered_history}
-use Rattle.project_state.specs.declared.track.Track.{Track}
-use Rattle.layout_uses.specs.declared.numbering.Numbered.{Numbered}
-use Rattle.layout_uses.specs.Layouts.{AreDrawn, AreNumbered, history_tracks}
+use Rattle.layout_uses.specs.Layouts.{history_tracks}
 use Rattle.layout_uses.specs.Tallies.{IsTally}
 use Rattle.record_fold.specs.Bases.{base_of}
 use Rattle.record_fold.specs.Faults.{journal_fault}
-use Rattle.record_fold.specs.Folds.{kept_of, IsValid}
+use Rattle.record_fold.specs.Folds.{kept_of, HasLayoutNumbers, IsValid}
 use Rattle.record_fold.specs.Heads.{HasFault}
 use Rattle.editor_recovery.specs.declared.disk.Folded.{Folded}
 use Rattle.editor_recovery.specs.declared.finding.TheConstants.{PAGES}
-use Rattle.editor_core.specs.Studios.{AreJournalNumbers}
+use Rattle.editor_state.specs.Studios.{AreJournalNumbers}
 use Rattle.editor_core.specs.declared.assembly.Parts.{Parts}
 use Rattle.editor_recovery.specs.declared.fault.OpenFault.{OpenFault}
 use Rattle.editor_recovery.specs.declared.fault.OpenFault.TheVariants as fault
@@ -44,6 +40,8 @@ pub record IsFoldOf (form : Form) (j : Contents) (f : Folded) : Type 0 where
   pub early : j.early ≡ None
   pub begins : Begins (log_of j) (base_of j)
   pub leads : LeadIn (version_of form) j.block_size (base_of j) (map body_at j.records) (kept_of f.project)
+  -- for each number of a layout there are 9 bytes of the journal
+  pub few : 9 * f.project.numbered.next + 16 * j.base.count + form.header_size ≤ 9 + j.end
 
 -- that of the store's journal, or its first fault, which is in its file
 abbrev pub FoldsDisk : {D : Type 0} → Ghosts D → D → Form → Result Folded OpenFault → Type 0
@@ -63,19 +61,15 @@ records_fault _ = fault.Exists
 
 -- whatever the store tells, a project that was folded is sound
 pub record IsSoundFolded (f : Folded) : Type 0 where
-  pub format : IsFormat f.rate f.block_size f.project.history.history.depth
+  pub format : IsFormat f.rate f.block_size f.project.numbered.history.history.depth
   pub kept : IsValid f.block_size (kept_of f.project)
   pub commit : f.project.commit ≤ COUNTER_LIMIT
   pub journal : AreJournalNumbers f.file f.version f.generation
   pub end_least : LEAST_END ≤ f.end
   pub end_most : f.end ≤ COUNTER_LIMIT
-
--- the history with numbers for its layouts, and the number that the next new layout gets
-pub record AreNumbersOf (h : History (List Track)) (n : Numbered) : Type 0 where
-  pub same : unnumbered_history n.history.history ≡ unnumbered_history h
-  pub numbered : AreNumbered (history_tracks n.history.history)
-  pub drawn : AreDrawn n.next (history_tracks n.history.history)
-  pub most : n.next ≤ COUNTER_LIMIT
+  -- its layouts have numbers, and the next one is at most the journal's end
+  pub numbers : HasLayoutNumbers f.project
+  pub layouts : f.project.numbered.next ≤ f.end
 
 -- no file has another size than its block asks, by the sizes that were measured, or the first that has
 abbrev pub TestsMeasured : {T : Type 0} → (ℕ → ℕ) → List BlockRef → Result T OpenFault → Type 0
@@ -101,11 +95,8 @@ pub record ArePartsOf (files : List ℕ) (f : Folded) (p : Parts) : Type 0 where
   pub rate : p.rate ≡ f.rate
   pub pages : p.pages ≡ PAGES
   pub block_size : p.block_size ≡ f.block_size
-  -- the layouts have numbers, and nothing else is new
-  pub history : unnumbered_history p.history.history ≡ unnumbered_history f.project.history.history
-  pub layouts : p.next_layout ≤ COUNTER_LIMIT
-  pub numbered : AreNumbered (history_tracks p.history.history)
-  pub drawn : AreDrawn p.next_layout (history_tracks p.history.history)
+  pub history : p.history.history ≡ f.project.numbered.history.history
+  pub next_layout : p.next_layout ≡ f.project.numbered.next
   pub counted : IsTally (history_tracks p.history.history) [] p.tally
   pub ledger : AreCounted files (count_of p.tally.ledger)
   pub next_block : IsAbove files f.project.next_block p.next_block

@@ -4,7 +4,7 @@ use Rattle.pcm_base.specs.History.{History}
 use Rattle.block_ledger.specs.Counts.{Counts}
 use Rattle.block_ledger.specs.Entries.{count_of}
 use Rattle.project_state.specs.declared.track.Track.{Track}
-use Rattle.editor_core.specs.Core.{Core}
+use Rattle.editor_state.specs.Core.{Core}
 use Rattle.editor_core.specs.declared.assembly.Parts.{Parts}
 use Rattle.editor_recovery.specs.declared.fault.OpenFault.{OpenFault}
 

@@ -1,6 +1,5 @@
 -- What opening a disk answers.
-use Rattle.std.specs.Prelude.{◌≡◌, ◌⊎◌, ℕ, ◌≤◌, [], Some, Result, Ok, Err}
-use Rattle.pcm_base.specs.declared.limits.TheConstants.{COUNTER_LIMIT}
+use Rattle.std.specs.Prelude.{◌≡◌, ◌⊎◌, ℕ, ◌+◌, ◌*◌, ◌≤◌, [], Some, Result, Ok, Err}
 use Rattle.pcm_base.specs.declared.block.BlockRef.{BlockRef}
 use Rattle.disk_model.specs.Disk.{Files, bytes_of}
 use Rattle.sample_block.specs.Spelling.{size_of}
@@ -60,8 +59,11 @@ pub record IsFound (files : Files) (form : Form) (log : Log) (kept : Kept) (f : 
   pub rate : f.rate ≡ log.rate
   pub block_size : f.block_size ≡ log.block_size
   pub history : unnumbered_history f.history ≡ kept.history
-  -- layouts of one number are the same, and each number was drawn
-  pub layouts : f.next_layout ≤ COUNTER_LIMIT
+  -- Layouts of one number are the same, and each number was drawn. The next one is at most the journal's end: for each
+  -- number below it the journal has 9 bytes, beside its header's fields and 16 bytes for each point of the header.
+  pub layouts : f.next_layout ≤ f.journal_end
+  pub layouts_least : 1 ≤ f.next_layout
+  pub layouts_few : 9 * f.next_layout + 16 * log.base.count + form.header_size ≤ 9 + f.journal_end
   pub numbered : AreNumbered (history_tracks f.history)
   pub drawn : AreDrawn f.next_layout (history_tracks f.history)
   -- the layouts that points use are counted, and the blocks that these name, of each layout once

@@ -4,9 +4,9 @@ use Rattle.disk_model.specs.Disk.{Files}
 use Rattle.disk_model.specs.declared.store.Store.{Ghosts}
 use Rattle.project_journal.specs.Gate.{EachNow, EachSince}
 use Rattle.record_body.specs.Kept.{Opened, Keeps}
-use Rattle.editor_core.specs.Core.{Core}
-use Rattle.editor_core.specs.Studios.{IsHeld, IsStudio}
-use Rattle.editor_core.specs.Took.{Exchange, Took}
+use Rattle.editor_state.specs.Core.{Core}
+use Rattle.editor_state.specs.Studios.{IsHeld, IsStudio}
+use Rattle.editor_state.specs.Took.{Exchange, Took}
 use Rattle.editor_recovery.specs.Files.{NoForeign}
 use Rattle.editor_recovery.specs.Honest.{IsHonest}
 use Rattle.editor_recovery.specs.Standing.{HasNone}

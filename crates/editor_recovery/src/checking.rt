@@ -3,7 +3,7 @@ ghost use Rattle.std.specs.Prelude.{◌≡◌, None, Contains};
 ghost use Rattle.std.specs.List.{All};
 ghost use Rattle.project_state.specs.Meaning.{history_blocks};
 ghost use Rattle.editor_core.specs.Core.{core_of};
-ghost use Rattle.editor_core.specs.Studios.{IsStudio};
+ghost use Rattle.editor_state.specs.Studios.{IsStudio};
 ghost use Rattle.editor_recovery.specs.Checking.{ChecksStudio, ScansAll};
 
 use super::fault::OpenFault;

@@ -10,18 +10,17 @@ ghost use Rattle.project_journal.specs.Journal.{Contents, Log, HasLog, IsAt};
 ghost use Rattle.project_journal.specs.Opening.{IsOpened};
 ghost use Rattle.project_journal.specs.Reader.{IsHeading, reader_form};
 ghost use Rattle.project_state.specs.Meaning.{point_blocks, history_blocks};
-ghost use Rattle.project_state.specs.Numbers.{unnumbered_history};
-ghost use Rattle.layout_uses.specs.Layouts.{AreDrawn, AreNumbered, history_tracks};
+ghost use Rattle.layout_uses.specs.Layouts.{AreNumbered, history_tracks};
 ghost use Rattle.disk_model.specs.Frames.{Kept};
 ghost use Rattle.editor_recovery.specs.Bounds.{IsSoundParts};
 ghost use Rattle.editor_recovery.specs.Listing.{AreFiles, IsOpenRefusal};
 ghost use Rattle.editor_recovery.specs.Files.{is_foreign, NoForeign};
 ghost use Rattle.editor_recovery.specs.Found.{answer_in};
 ghost use Rattle.editor_recovery.specs.Finding.{FoldsDisk, IsFoldOf, IsSoundFolded, records_fault, TestsMeasured};
-ghost use Rattle.editor_recovery.specs.Finding.{TestsSizes, AreNumbersOf, ArePartsOf};
+ghost use Rattle.editor_recovery.specs.Finding.{TestsSizes, ArePartsOf};
 ghost use Rattle.editor_recovery.specs.Measured.{size_in};
 ghost use Rattle.editor_recovery.specs.Causes.{Causes};
-ghost use Rattle.editor_core.specs.Scans.{HaveOneLength};
+ghost use Rattle.editor_views.specs.Scans.{HaveOneLength};
 ghost use Rattle.editor_recovery.specs.Opening.{Opens};
 ghost use Rattle.editor_recovery.specs.Reading.{IsRead};
 
@@ -33,7 +32,7 @@ use super::measuring::measure;
 use super::sizes::{Sizes, wrong_block};
 use disk_model::Store;
 use editor_core::Parts;
-use layout_uses::{Numbered, number_points};
+use layout_uses::Numbered;
 use pcm_base::BlockRef;
 use project_journal::{JournalFault, Reader};
 use project_state::Point;
@@ -108,40 +107,33 @@ fn size_fault(sizes: &Sizes, block: BlockRef) -> OpenFault
     }
 }
 
-/// Whether the file of each block that a point names has its size, by sizes that were measured: then the history with
-/// numbers for its layouts.
-fn test_blocks(
-    alloc: Global,
-    history: &History<Point>,
-    sizes: &Sizes,
-) -> Result<Numbered, OpenFault>
-    requires { All (λ p. All (λ b. IsBlock b.id b.len) (point_blocks p.0)) history.now.history.points }
+/// Whether the file of each block that a point names has its size, by sizes that were measured.
+fn test_blocks(alloc: Global, history: &History<Point>, sizes: &Sizes) -> Result<(), OpenFault>
+    requires blocks { All (λ p. All (λ b. IsBlock b.id b.len) (point_blocks p.0)) history.now.history.points }
+    requires numbered { AreNumbered (history_tracks history.now.history) }
     ensures tests { TestsMeasured (size_in sizes.now) (history_blocks history.now.history) result }
     ensures no_fault { IsErrOf result OpenFault.DiskFault → ⊥ }
-    ensures numbers { IfOk result (AreNumbersOf history.now.history) }
 {
-    let numbered = number_points(alloc, history)?;
-    match wrong_block(alloc, &numbered.history, sizes) {
-        None => Ok(numbered),
+    match wrong_block(alloc, history, sizes) {
+        None => Ok(()),
         Some(block) => Err(size_fault(sizes, block)),
     }
 }
 
-/// Whether the file of each block that a point names has its size: then the history with numbers for its layouts. Such
-/// a file is among those that are listed.
+/// Whether the file of each block that a point names has its size. Such a file is among those that are listed.
 fn test_files<S: Store>(
     alloc: Global,
     store: &mut S,
     files: &[u64],
     history: &History<Point>,
-) -> Result<Numbered, OpenFault>
-    requires { All (λ p. All (λ b. IsBlock b.id b.len) (point_blocks p.0)) history.now.history.points }
+) -> Result<(), OpenFault>
+    requires blocks { All (λ p. All (λ b. IsBlock b.id b.len) (point_blocks p.0)) history.now.history.points }
+    requires numbered { AreNumbered (history_tracks history.now.history) }
     ensures tests { IsTrue (S.tells store.old) → AreFiles (S.reads store.old) files.now
         → TestsSizes (S.reads store.old) (history_blocks history.now.history) result }
     ensures one_length { OnOk result (HaveOneLength (history_blocks history.now.history)) }
     ensures named { OnOk result
         (All (λ p. All (λ b. (2 ≤ b.id) × Contains files.now b.id) (point_blocks p.0)) history.now.history.points) }
-    ensures numbers { IfOk result (AreNumbersOf history.now.history) }
     ensures opening { IfErr result IsOpenRefusal }
     ensures kept { Kept S.Store store.old store.new }
     ensures cause { Causes S.Store store.old store.new result }
@@ -152,23 +144,14 @@ fn test_files<S: Store>(
     }
 }
 
-/// The parts of a project whose blocks are all among the files, by its history with numbers for its layouts.
-fn parts_of(
-    alloc: Global,
-    files: &[u64],
-    folded: Folded,
-    numbered: Numbered,
-) -> Result<Parts, OpenFault>
+/// The parts of a project whose blocks are all among the files.
+fn parts_of(alloc: Global, files: &[u64], folded: Folded) -> Result<Parts, OpenFault>
     requires known { find is_foreign files.now ≡ None }
     requires rising { IsStrictlyIncreasing files.now }
     requires sound { IsSoundFolded folded }
     requires block { folded.project.next_block ≤ COUNTER_LIMIT }
     requires named { All (λ p. All (λ b. (2 ≤ b.id) × Contains files.now b.id) (point_blocks p.0))
-        folded.project.history.history.points }
-    requires same { unnumbered_history numbered.history.history ≡ unnumbered_history folded.project.history.history }
-    requires numbered { AreNumbered (history_tracks numbered.history.history) }
-    requires drawn { AreDrawn numbered.next (history_tracks numbered.history.history) }
-    requires most { numbered.next ≤ COUNTER_LIMIT }
+        folded.project.numbered.history.history.points }
     ensures parts { IfOk result (ArePartsOf files.now folded) }
     ensures memory { IfErr result (λ e. e ≡ OpenFault.NoMemory) }
 {
@@ -182,11 +165,11 @@ fn parts_of(
         end,
         project,
     } = folded;
-    let _points = project.history.len();
     let Numbered {
         history,
         next: next_layout,
-    } = numbered;
+    } = project.numbered;
+    let _points = history.len();
     let tally = count_layouts(alloc, files, &history)?;
     Ok(Parts {
         rate,
@@ -223,8 +206,8 @@ fn size_parts<S: Store>(
     ensures kept { Kept S.Store store.old store.new }
     ensures cause { Causes S.Store store.old store.new result }
 {
-    match test_files(alloc, store, files, &folded.project.history) {
-        Ok(numbered) => parts_of(alloc, files, folded, numbered),
+    match test_files(alloc, store, files, &folded.project.numbered.history) {
+        Ok(()) => parts_of(alloc, files, folded),
         Err(fault) => Err(fault),
     }
 }

@@ -1,10 +1,12 @@
 // The sizes of the files of a disk, and the first block whose file has not its size.
-ghost use Rattle.std.specs.Prelude.{◌≡◌, ◌≤◌, ◌==◌, ℕ, None, OnOk, if◌then◌else◌};
+ghost use Rattle.std.specs.Prelude.{◌≡◌, ◌≤◌, ◌==◌, ℕ, None, IsTrue, OnOk, if◌then◌else◌};
 ghost use Rattle.std.specs.List.{All, AllByRecursion};
 ghost use Rattle.pcm_base.specs.declared.limits.TheConstants.{MAX_BLOCK_SAMPLES};
 ghost use Rattle.sample_block.specs.Spelling.{IsBlock};
 ghost use Rattle.clip_track.specs.Clips.{layout_blocks};
 ghost use Rattle.project_state.specs.Meaning.{point_blocks, history_blocks};
+ghost use Rattle.project_state.specs.declared.track.Track.{Track};
+ghost use Rattle.layout_uses.specs.Laws.{IsAmong};
 ghost use Rattle.layout_uses.specs.Layouts.{AgreesWith, AreNumbered, history_tracks};
 ghost use Rattle.editor_recovery.specs.Measured.{size_in};
 ghost use Rattle.editor_recovery.specs.Sizes.{AreSearched, earlier, first_wrong, one_more};
@@ -95,11 +97,26 @@ fn wrong_clips(sizes: &Sizes, found: Option<BlockRef>, clips: &[Clip]) -> Option
     found
 }
 
+// Whether the track of the same id, which the point before has at the place `first` mostly, has the same number.
+fn is_as_before(before: &Point, first: usize, track: &Track) -> bool
+    ensures { IsTrue result → (t : Track) × IsAmong t before.now × (t.number ≡ track.now.number) }
+{
+    let Some(i) = before.place_of(track.id, first) else {
+        return false;
+    };
+    let old = before.track_at(i);
+    if old.number == track.number {
+        return true;
+    }
+    false
+}
+
 // The search goes on through a track. A layout that the point before has, by its number, was searched with that point.
 fn wrong_track(
     sizes: &Sizes,
     found: Option<BlockRef>,
     before: &Point,
+    first: usize,
     track: &Track,
 ) -> Option<BlockRef>
     requires blocks { All (λ b. IsBlock b.id b.len) (layout_blocks track.now.layout) }
@@ -107,10 +124,10 @@ fn wrong_track(
     requires searched { AreSearched (size_in sizes.now) found (point_blocks before.now) }
     ensures { result ≡ first_wrong (size_in sizes.now) found (layout_blocks track.now.layout) }
 {
-    match before.track(track.id) {
-        Ok(old) if old.number == track.number => found,
-        _ => wrong_clips(sizes, found, track.layout.as_slice()),
+    if is_as_before(before, first, track) {
+        return found;
     }
+    wrong_clips(sizes, found, track.layout.as_slice())
 }
 
 // The search goes on through a point, after the one before it.
@@ -127,7 +144,7 @@ fn wrong_point(
 {
     let mut found = found;
     for i in 0..point.len() {
-        found = wrong_track(sizes, found, before, point.track_at(i));
+        found = wrong_track(sizes, found, before, i, point.track_at(i));
     }
     found
 }

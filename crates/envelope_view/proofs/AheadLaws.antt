@@ -7,7 +7,7 @@ use Rattle.std.proofs.lemmas.List.{take-append-le, drop-append-le, drop-drop, ta
 use Rattle.std.proofs.lemmas.List.{take_rest, nil_from_length}
 use Rattle.std.proofs.lemmas.List.Elements.{All-take, All-drop, All-nil, Contains-append_left, Contains-append_right}
 use Rattle.std.proofs.Math.Seq.{take-add}
-use Rattle.disk_model.specs.Disk.{Files, bytes_of}
+use Rattle.disk_model.specs.Disk.{Files}
 use Rattle.pcm_base.specs.declared.block.BlockRef.{BlockRef}
 use Rattle.pcm_base.specs.declared.sound.Cell.{Cell}
 use Rattle.pcm_base.specs.declared.sound.Cell.TheVariants.{Gap, Sample}
@@ -19,8 +19,6 @@ use Rattle.sample_block.specs.Sources.{samples_on, sources_of, IsNamed}
 use Rattle.sample_block.proofs.BlockLaws.{blocks_have}
 use Rattle.block_store.specs.Scans.{samples_among}
 use Rattle.block_store.proofs.StretchLaws.{block_stretch}
-use Rattle.block_store.specs.declared.fault.BlockFault.{BlockFault}
-use Rattle.block_store.specs.Reads.{IsFault, IsFaultIn}
 use Rattle.peak_summary.specs.declared.stretch.Summary.{Summary}
 use Rattle.peak_summary.specs.Peaks.{AreSamples, summary_of}
 use Rattle.clip_track.specs.declared.rest.Stretch.{Stretch}
@@ -202,11 +200,6 @@ named_one s b from is named = subst (λ (x : Stretch). AreNamed (stretch_blocks 
 pub blocks_one : (s : Stretch) (b : BlockRef) (from : ℕ) → s ≡ Block b from → (d : BlockRef) → Contains (b ∷ []) d
     → Contains (stretch_blocks s) d
 blocks_one s b from is d has = subst (λ (x : Stretch). Contains (stretch_blocks x) d) (sym is) has
-
-pub fault_one : (files : Files) (s : Stretch) (b : BlockRef) (from : ℕ) (why : BlockFault) → s ≡ Block b from
-    → IsFault b.id b.len (bytes_of (files b.id)) why → IsFaultIn files (stretch_blocks s) why
-fault_one files s b from why is fault =
-    subst (λ (x : Stretch). IsFaultIn files (stretch_blocks x) why) (sym is) (b, one_there b, fault)
 
 pub block_read : (files : Files) (s : Stretch) (b : BlockRef) (from to n : ℕ) (sum : Summary) → s ≡ Block b from
     → from ≤ b.len → n ≤ stretch_len s → to ≡ from + n

@@ -1,6 +1,8 @@
 -- The reasons of tests and of faults.
-use Rattle.std.proofs.Common.{◌≡◌, ℕ, List, refl, sym, subst, arith}
+use Rattle.std.proofs.Common.{◌≡◌, ℕ, List, Result, Ok, Err, refl, sym, subst, arith}
+use Rattle.std.specs.Prelude.{IfErr}
 use Rattle.disk_model.specs.Disk.{Files, bytes_of}
+use Rattle.disk_model.specs.declared.store.Store.{Ghosts}
 use Rattle.pcm_base.specs.declared.block.BlockRef.{BlockRef}
 use Rattle.pcm_base.specs.declared.refusal.Refusal.{Refusal}
 use Rattle.pcm_base.specs.declared.refusal.Refusal.TheVariants as refusal
@@ -9,24 +11,18 @@ use Rattle.sample_block.specs.Sources.{AllWhole, IsWhole}
 use Rattle.block_store.specs.declared.fault.BlockFault.{BlockFault}
 use Rattle.block_store.specs.declared.fault.BlockFault.TheVariants as fault
 use Rattle.block_store.specs.Reasons.{reason_of}
-use Rattle.block_store.specs.Reads.{CountedBy, IsFault, IsFaultIn}
+use Rattle.block_store.specs.Reads.{Counted, IsFault, IsFaultIn}
 use Rattle.block_store.proofs.FaultLaws.{block_sound}
-use Rattle.envelope_view.specs.Answers.{IsOfTests, IsOfReads, IsDamagedIn, IsUndamaged, IsCountedBy}
+use Rattle.block_cache.specs.declared.reader.BlockReader.{BlockReader}
+use Rattle.block_cache.specs.Readers.{Reads}
+use Rattle.block_cache.proofs.ReaderLaws.{reads_err}
+use Rattle.envelope_view.specs.Answers.{IsOfTests, IsOfReads, IsDamagedIn, IsUndamaged, IsCountedBy, read_part}
 use Rattle.envelope_view.proofs.NamedLaws.{each_of}
 
 pub tests_undamaged : (e : Refusal) → IsOfTests e → IsUndamaged e
 tests_undamaged refusal.BadRange own = tt
 tests_undamaged refusal.BadColumns own = tt
 tests_undamaged _ own = absurd own
-
-pub undamaged_in : (files : Files) (bs : List BlockRef) (e : Refusal) → IsUndamaged e → IsDamagedIn files bs e
-undamaged_in files bs (refusal.Damaged file at want have) none = absurd none
-undamaged_in files bs _ none = tt
-
-pub tests_counted : (n : ℕ) (e : Refusal) → IsOfTests e → IsCountedBy e n n
-tests_counted n refusal.BadRange own = refl
-tests_counted n refusal.BadColumns own = refl
-tests_counted n _ own = absurd own
 
 pub reason_reads : (why : BlockFault) → IsOfReads (reason_of why)
 reason_reads fault.DiskFault = tt
@@ -37,13 +33,42 @@ pub reason_damaged : (files : Files) (bs : List BlockRef) (why : BlockFault) →
 reason_damaged files bs fault.DiskFault is = tt
 reason_damaged files bs (fault.Damaged file found) is = is
 
-counted_by : (old new : ℕ) (why : BlockFault) → CountedBy why old new → IsCountedBy (reason_of why) old new
-counted_by old new fault.DiskFault is = is
-counted_by old new (fault.Damaged file found) is = is
+-- ---- what reads say
 
-pub reason_counted : (old now new : ℕ) (why : BlockFault) → now ≡ old → CountedBy why now new
-    → IsCountedBy (reason_of why) old new
-reason_counted old now new why same is = counted_by old new why (subst (λ (n : ℕ). CountedBy why n new) same is)
+-- a test that refuses reads nothing
+tests_part : (e : Refusal) → IsOfTests e → read_part e ≡ Ok tt
+tests_part refusal.BadRange own = refl
+tests_part refusal.BadColumns own = refl
+tests_part _ own = absurd own
+
+-- the reason of a fault of a block says that fault
+reason_part : (why : BlockFault) → read_part (reason_of why) ≡ Err why
+reason_part fault.DiskFault = refl
+reason_part (fault.Damaged file found) = refl
+
+module _ {D : Type 0} {disk : Ghosts D} where
+  pub reads_tests : (bs : List BlockRef) (a b : BlockReader D disk) (e : Refusal) → IsOfTests e
+      → Reads {T = Unit {0}} bs a b (Ok tt) → Reads bs a b (read_part e)
+  reads_tests bs a b e own f =
+      subst (λ (r : Result (Unit {0}) BlockFault). Reads bs a b r) (sym (tests_part e own)) f
+
+  pub reads_reason : {T : Type 0} (bs : List BlockRef) (a b : BlockReader D disk) (why : BlockFault)
+      → Reads {T = T} bs a b (Err why) → Reads bs a b (read_part (reason_of why))
+  reads_reason bs a b why f =
+      subst (λ (r : Result (Unit {0}) BlockFault). Reads bs a b r) (sym (reason_part why)) (reads_err bs a b why f)
+
+-- the same by reasons of lines, for the crates above
+pub counted_of : (why : Refusal) (old new : ℕ) → Counted (read_part why) old new → IsCountedBy why old new
+counted_of refusal.DiskFault old new is = is
+counted_of (refusal.Damaged file at want have) old new is = is
+counted_of _ old new is = is
+
+pub damaged_of : (files : Files) (bs : List BlockRef) (why : Refusal)
+    → IfErr (read_part why) (λ e. IsFaultIn files bs e) → IsDamagedIn files bs why
+damaged_of files bs (refusal.Damaged file at want have) is = is
+damaged_of files bs _ is = tt
+
+-- ---- damage
 
 abbrev IsOfDisk : BlockFault → Type 0
 IsOfDisk fault.DiskFault = Unit {0}

@@ -5,4 +5,3 @@ pub mod HalvesLaws
 pub mod NamedLaws
 pub mod Running
 pub mod SumLaws
-mod PageFaults

@@ -1,11 +1,7 @@
--- Facts on the blocks of a list, and faults of some of them.
+-- Facts on the blocks of a list.
 use Rattle.std.proofs.Common.{◌≡◌, ℕ, zero, suc, ◌<◌, List, [], ◌∷◌, length, get_or, refl, subst, arith}
 use Rattle.std.specs.Prelude.{Contains}
 use Rattle.std.specs.List.{AllByRecursion}
-use Rattle.disk_model.specs.Disk.{Files}
-use Rattle.pcm_base.specs.declared.block.BlockRef.{BlockRef}
-use Rattle.block_store.specs.declared.fault.BlockFault.{BlockFault}
-use Rattle.block_store.specs.Reads.{IsFaultIn}
 
 each_at : {X : Type 0} (P : X → Type 0) (xs : List X) → AllByRecursion P xs → (k : ℕ) (x : X) → k < length xs
     → get_or xs k x ≡ x → P x
@@ -15,14 +11,6 @@ each_at P (y ∷ ys) all (suc k) x lt e = each_at P ys all.1 k x (omega (arith, 
 
 pub each_of : {X : Type 0} (P : X → Type 0) (xs : List X) → AllByRecursion P xs → (x : X) → Contains xs x → P x
 each_of P xs all x there = each_at P xs all there.0 x there.1 there.2
-
--- a fault of one of some blocks is one of those of a longer list, on a disk that reads the same
-pub fault_wider : (files now : Files) (bs cs : List BlockRef) (why : BlockFault) → now ≡ files
-    → ((b : BlockRef) → Contains bs b → Contains cs b)
-    → IsFaultIn now bs why → IsFaultIn files cs why
-fault_wider files now bs cs why same all is =
-    let here = subst (λ (f : Files). IsFaultIn f bs why) same is in
-    (here.0, all here.0 here.1, here.2)
 
 pub one_there : {X : Type 0} (x : X) → Contains (x ∷ []) x
 one_there x = (0, omega arith, refl)

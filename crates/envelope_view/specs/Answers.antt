@@ -1,11 +1,12 @@
 -- When the columns of a layout are refused.
-use Rattle.std.specs.Prelude.{◌≡◌, ◌⊎◌, ◌≤◌, ℕ, ◌-◌, List, Option, Some, None, Result, MatchResult}
+use Rattle.std.specs.Prelude.{◌≡◌, ◌⊎◌, ◌≤◌, ℕ, ◌-◌, List, Option, Some, None, Result, Ok, Err, MatchResult}
 use Rattle.disk_model.specs.Disk.{Files}
 use Rattle.pcm_base.specs.declared.block.BlockRef.{BlockRef}
 use Rattle.pcm_base.specs.declared.refusal.Refusal.{Refusal}
 use Rattle.pcm_base.specs.declared.refusal.Refusal.TheVariants as refusal
 use Rattle.pcm_base.specs.Causes.{Rose}
 use Rattle.pcm_base.specs.Refusals.{◌otherwise◌, bad_range, bad_columns}
+use Rattle.block_store.specs.declared.fault.BlockFault.{BlockFault}
 use Rattle.block_store.specs.declared.fault.BlockFault.TheVariants as fault
 use Rattle.block_store.specs.Reads.{IsFaultIn}
 
@@ -53,3 +54,14 @@ IsCountedBy _ old new = new ≡ old
 
 abbrev pub ReasonCounted : {A : Type 0} → Result A Refusal → ℕ → ℕ → Type 0
 ReasonCounted result old new = MatchResult result (λ _. new ≡ old) (λ reason. IsCountedBy reason old new)
+
+-- what reads say: nothing is read where a test refuses, and where memory is wanting each read was answered
+abbrev pub read_part : Refusal → Result (Unit {0}) BlockFault
+read_part refusal.DiskFault = Err fault.DiskFault
+read_part (refusal.Damaged file at want have) =
+    Err (fault.Damaged file (record { at = at; want = want; have = have }))
+read_part _ = Ok tt
+
+abbrev pub disk_part : {A : Type 0} → Result A Refusal → Result (Unit {0}) BlockFault
+disk_part (Ok x) = Ok tt
+disk_part (Err why) = read_part why

@@ -1,11 +1,8 @@
 // The two sides of an edge inside a long frame: the shorter side is read, and the frame's own summary tells the other.
-ghost use Rattle.std.specs.Prelude.{◌≡◌, ◌≤◌, ◌<◌, ◌+◌, ◌*◌, [], ◌∷◌, length, List, ℤ, Some, IsTrue, IfErr, IfSome};
-ghost use Rattle.disk_model.specs.Disk.{bytes_of};
-ghost use Rattle.disk_model.specs.Frames.{Kept};
+ghost use Rattle.std.specs.Prelude.{◌≡◌, ◌≤◌, ◌<◌, ◌+◌, ◌*◌, [], ◌∷◌, length, List, ℤ, Some, IsTrue, IfSome};
 ghost use Rattle.sample_block.specs.Blocks.{blocks};
 ghost use Rattle.sample_block.specs.Spelling.{IsBlock};
-ghost use Rattle.block_store.specs.Reads.{Counted, IsFault};
-ghost use Rattle.block_cache.specs.Caches.{IsCacheOf, KeepsCache};
+ghost use Rattle.block_cache.specs.Readers.{Reads};
 ghost use Rattle.pcm_base.specs.Edits.{part as part_of};
 ghost use Rattle.peak_summary.specs.Peaks.{frame_count, summary_of};
 ghost use Rattle.peak_summary.specs.declared.stretch.Summary.{Summary as Sum};
@@ -14,7 +11,7 @@ ghost use Rattle.envelope_view.specs.Halves.{AreHalves, IsRest};
 
 use super::parts::{by_short, join_all, summarize};
 use super::reads::read_samples;
-use block_cache::{Cache, read_frames_cached};
+use block_cache::BlockReader;
 use block_store::{BlockFault, Level};
 use disk_model::Store;
 use pcm_base::BlockRef;
@@ -49,8 +46,7 @@ fn rest_of(whole: Summary, part: Summary) -> Option<Summary>
 
 /// The summary of the side of an edge that was not read: what is left of the whole, else it is read too.
 fn other_side<S: Store>(
-    store: &mut S,
-    cache: &mut Cache,
+    reader: &mut BlockReader<S>,
     block: BlockRef,
     reach: u64,
     from: u32,
@@ -59,29 +55,24 @@ fn other_side<S: Store>(
     side: Summary,
 ) -> Result<Summary, BlockFault>
     requires block { IsBlock block.id block.len }
-    requires cached { IsTrue (S.tells store.old) → IsCacheOf (S.reads store.old) cache.old }
     requires rising { from ≤ to }
     requires within { to ≤ block.len }
     requires few { to ≤ from + LONG_FRAME }
-    requires rest { IsTrue (S.tells store.old) → (xs : List ℤ) → blocks (S.reads store.old) block.id ≡ Some xs
-        → length xs ≡ block.len → IsRest whole side (summary_of (part_of from to xs)) }
-    ensures cache { KeepsCache (S.tells store.old) (S.reads store.old) (block ∷ []) cache.old cache.new }
-    ensures read { IsTrue (S.tells store.old) → Summarizes (S.reads store.old) block from to result }
-    ensures damaged { IsTrue (S.tells store.old)
-        → IfErr result (λ e. IsFault block.id block.len (bytes_of (S.reads store.old block.id)) e) }
-    ensures kept { Kept S.Store store.old store.new }
-    ensures faults { Counted result (S.read_fault_count store.old) (S.read_fault_count store.new) }
+    requires rest { IsTrue (S.tells reader.old.store) → (xs : List ℤ)
+        → blocks (S.reads reader.old.store) block.id ≡ Some xs → length xs ≡ block.len
+        → IsRest whole side (summary_of (part_of from to xs)) }
+    ensures reads { Reads (block ∷ []) reader.old reader.new result }
+    ensures read { IsTrue (S.tells reader.old.store) → Summarizes (S.reads reader.old.store) block from to result }
 {
     match rest_of(whole, side) {
         Some(rest) => Ok(rest),
-        None => by_short(store, cache, block, reach, from, to),
+        None => by_short(reader, block, reach, from, to),
     }
 }
 
-/// The summaries of both sides of an edge in a whole whose summary is known: the shorter side is read first.
-fn sides<S: Store>(
-    store: &mut S,
-    cache: &mut Cache,
+/// The summaries of both sides of an edge in a whole whose summary is known: the side before it is read first.
+fn before_first<S: Store>(
+    reader: &mut BlockReader<S>,
     block: BlockRef,
     reach: u64,
     from: u32,
@@ -90,66 +81,105 @@ fn sides<S: Store>(
     whole: Summary,
 ) -> Result<Halves, BlockFault>
     requires block { IsBlock block.id block.len }
-    requires cached { IsTrue (S.tells store.old) → IsCacheOf (S.reads store.old) cache.old }
     requires before { from < edge }
     requires behind { edge < to }
     requires within { to ≤ block.len }
     requires few { to ≤ from + LONG_FRAME }
-    requires whole { IsTrue (S.tells store.old) → (xs : List ℤ) → blocks (S.reads store.old) block.id ≡ Some xs
-        → length xs ≡ block.len → whole ≡ summary_of (part_of from to xs) }
-    ensures cache { KeepsCache (S.tells store.old) (S.reads store.old) (block ∷ []) cache.old cache.new }
-    ensures read { IsTrue (S.tells store.old)
-        → AreHalves (S.reads store.old) block (record { from = from; edge = edge; to = to }) result }
-    ensures damaged { IsTrue (S.tells store.old)
-        → IfErr result (λ e. IsFault block.id block.len (bytes_of (S.reads store.old block.id)) e) }
-    ensures kept { Kept S.Store store.old store.new }
-    ensures faults { Counted result (S.read_fault_count store.old) (S.read_fault_count store.new) }
+    requires whole { IsTrue (S.tells reader.old.store) → (xs : List ℤ)
+        → blocks (S.reads reader.old.store) block.id ≡ Some xs → length xs ≡ block.len
+        → whole ≡ summary_of (part_of from to xs) }
+    ensures reads { Reads (block ∷ []) reader.old reader.new result }
+    ensures read { IsTrue (S.tells reader.old.store)
+        → AreHalves (S.reads reader.old.store) block (record { from = from; edge = edge; to = to }) result }
+{
+    let before = by_short(reader, block, reach, from, edge)?;
+    let after = other_side(reader, block, reach, edge, to, whole, before)?;
+    Ok(Halves { before, after })
+}
+
+/// The same, and the side after the edge is read first.
+fn after_first<S: Store>(
+    reader: &mut BlockReader<S>,
+    block: BlockRef,
+    reach: u64,
+    from: u32,
+    edge: u32,
+    to: u32,
+    whole: Summary,
+) -> Result<Halves, BlockFault>
+    requires block { IsBlock block.id block.len }
+    requires before { from < edge }
+    requires behind { edge < to }
+    requires within { to ≤ block.len }
+    requires few { to ≤ from + LONG_FRAME }
+    requires whole { IsTrue (S.tells reader.old.store) → (xs : List ℤ)
+        → blocks (S.reads reader.old.store) block.id ≡ Some xs → length xs ≡ block.len
+        → whole ≡ summary_of (part_of from to xs) }
+    ensures reads { Reads (block ∷ []) reader.old reader.new result }
+    ensures read { IsTrue (S.tells reader.old.store)
+        → AreHalves (S.reads reader.old.store) block (record { from = from; edge = edge; to = to }) result }
+{
+    let after = by_short(reader, block, reach, edge, to)?;
+    let before = other_side(reader, block, reach, from, edge, whole, after)?;
+    Ok(Halves { before, after })
+}
+
+/// The same, and the shorter side is read first.
+fn sides<S: Store>(
+    reader: &mut BlockReader<S>,
+    block: BlockRef,
+    reach: u64,
+    from: u32,
+    edge: u32,
+    to: u32,
+    whole: Summary,
+) -> Result<Halves, BlockFault>
+    requires block { IsBlock block.id block.len }
+    requires before { from < edge }
+    requires behind { edge < to }
+    requires within { to ≤ block.len }
+    requires few { to ≤ from + LONG_FRAME }
+    requires whole { IsTrue (S.tells reader.old.store) → (xs : List ℤ)
+        → blocks (S.reads reader.old.store) block.id ≡ Some xs → length xs ≡ block.len
+        → whole ≡ summary_of (part_of from to xs) }
+    ensures reads { Reads (block ∷ []) reader.old reader.new result }
+    ensures read { IsTrue (S.tells reader.old.store)
+        → AreHalves (S.reads reader.old.store) block (record { from = from; edge = edge; to = to }) result }
 {
     if edge - from <= to - edge {
-        let before = by_short(store, cache, block, reach, from, edge)?;
-        let after = other_side(store, cache, block, reach, edge, to, whole, before)?;
-        return Ok(Halves { before, after });
+        return before_first(reader, block, reach, from, edge, to, whole);
     }
-    let after = by_short(store, cache, block, reach, edge, to)?;
-    let before = other_side(store, cache, block, reach, from, edge, whole, after)?;
-    Ok(Halves { before, after })
+    after_first(reader, block, reach, from, edge, to, whole)
 }
 
 /// From the long frames from number `first` up to `last`, and that one by itself, in one read.
 fn long_frames<S: Store>(
-    store: &mut S,
-    cache: &mut Cache,
+    reader: &mut BlockReader<S>,
     block: BlockRef,
     first: u32,
     last: u32,
 ) -> Result<Halves, BlockFault>
     requires block { IsBlock block.id block.len }
-    requires cached { IsTrue (S.tells store.old) → IsCacheOf (S.reads store.old) cache.old }
     requires rising { first ≤ last }
     requires within { last < frame_count LONG_FRAME block.len }
-    ensures cache { KeepsCache (S.tells store.old) (S.reads store.old) (block ∷ []) cache.old cache.new }
-    ensures read { IsTrue (S.tells store.old)
-        → AreHalves (S.reads store.old) block
+    ensures reads { Reads (block ∷ []) reader.old reader.new result }
+    ensures read { IsTrue (S.tells reader.old.store)
+        → AreHalves (S.reads reader.old.store) block
         (record { from = LONG_FRAME * first; edge = LONG_FRAME * last; to = LONG_FRAME * last + LONG_FRAME }) result }
-    ensures damaged { IsTrue (S.tells store.old)
-        → IfErr result (λ e. IsFault block.id block.len (bytes_of (S.reads store.old block.id)) e) }
-    ensures kept { Kept S.Store store.old store.new }
-    ensures faults { Counted result (S.read_fault_count store.old) (S.read_fault_count store.new) }
 {
     let mut buf = [NOTHING; MOST];
     let count = (last - first) as usize;
-    let frames = &mut buf[..count + 1];
-    read_frames_cached(store, cache, block, Level::Long, first, frames)?;
-    let before = join_all(&frames[..count]);
-    let after = join_all(&frames[count..]);
+    let page = &mut buf[..count + 1];
+    reader.frames(block, Level::Long, first, page)?;
+    let before = join_all(&page[..count]);
+    let after = join_all(&page[count..]);
     Ok(Halves { before, after })
 }
 
 /// The summaries of a part that ends at an edge inside a long frame, and of what is after the edge up to `to`, where
 /// the frame ends: from the frames before it, the frame's own, and one of its sides.
 pub(crate) fn up_to_edge<S: Store>(
-    store: &mut S,
-    cache: &mut Cache,
+    reader: &mut BlockReader<S>,
     block: BlockRef,
     reach: u64,
     from: u32,
@@ -158,27 +188,21 @@ pub(crate) fn up_to_edge<S: Store>(
     to: u32,
 ) -> Result<Halves, BlockFault>
     requires block { IsBlock block.id block.len }
-    requires cached { IsTrue (S.tells store.old) → IsCacheOf (S.reads store.old) cache.old }
     requires rising { from ≤ LONG_FRAME * frame }
     requires before { LONG_FRAME * frame < edge }
     requires behind { edge < to }
     requires within { to ≤ block.len }
     requires few { to ≤ LONG_FRAME * frame + LONG_FRAME }
     requires last { to < LONG_FRAME * frame + LONG_FRAME → to ≡ block.len }
-    ensures cache { KeepsCache (S.tells store.old) (S.reads store.old) (block ∷ []) cache.old cache.new }
-    ensures read { IsTrue (S.tells store.old)
-        → AreHalves (S.reads store.old) block (record { from = from; edge = edge; to = to }) result }
-    ensures damaged { IsTrue (S.tells store.old)
-        → IfErr result (λ e. IsFault block.id block.len (bytes_of (S.reads store.old block.id)) e) }
-    ensures kept { Kept S.Store store.old store.new }
-    ensures faults { Counted result (S.read_fault_count store.old) (S.read_fault_count store.new) }
+    ensures reads { Reads (block ∷ []) reader.old reader.new result }
+    ensures read { IsTrue (S.tells reader.old.store)
+        → AreHalves (S.reads reader.old.store) block (record { from = from; edge = edge; to = to }) result }
 {
     let first = from.div_ceil(LONG_FRAME);
-    let front = by_short(store, cache, block, reach, from, LONG_FRAME * first)?;
-    let long = long_frames(store, cache, block, first, frame)?;
+    let front = by_short(reader, block, reach, from, LONG_FRAME * first)?;
+    let long = long_frames(reader, block, first, frame)?;
     let halves = sides(
-        store,
-        cache,
+        reader,
         block,
         reach,
         LONG_FRAME * frame,
@@ -196,8 +220,7 @@ pub(crate) fn up_to_edge<S: Store>(
 /// The summaries of a part that ends at an edge inside a short frame, and of what is after the edge up to `stop`, where
 /// the frame ends: from what is before the frame, and the frame's samples, in one read.
 pub(crate) fn up_to_short_edge<S: Store>(
-    store: &mut S,
-    cache: &mut Cache,
+    reader: &mut BlockReader<S>,
     block: BlockRef,
     reach: u64,
     from: u32,
@@ -206,24 +229,19 @@ pub(crate) fn up_to_short_edge<S: Store>(
     stop: u32,
 ) -> Result<Halves, BlockFault>
     requires block { IsBlock block.id block.len }
-    requires cached { IsTrue (S.tells store.old) → IsCacheOf (S.reads store.old) cache.old }
     requires rising { from ≤ start }
     requires before { start < edge }
     requires behind { edge < stop }
     requires within { stop ≤ block.len }
     requires few { stop ≤ start + 256 }
-    ensures cache { KeepsCache (S.tells store.old) (S.reads store.old) (block ∷ []) cache.old cache.new }
-    ensures read { IsTrue (S.tells store.old)
-        → AreHalves (S.reads store.old) block (record { from = from; edge = edge; to = stop }) result }
-    ensures damaged { IsTrue (S.tells store.old)
-        → IfErr result (λ e. IsFault block.id block.len (bytes_of (S.reads store.old block.id)) e) }
-    ensures kept { Kept S.Store store.old store.new }
-    ensures faults { Counted result (S.read_fault_count store.old) (S.read_fault_count store.new) }
+    ensures reads { Reads (block ∷ []) reader.old reader.new result }
+    ensures read { IsTrue (S.tells reader.old.store)
+        → AreHalves (S.reads reader.old.store) block (record { from = from; edge = edge; to = stop }) result }
 {
-    let front = summarize(store, cache, block, reach, from, start)?;
+    let front = summarize(reader, block, reach, from, start)?;
     let mut buf = [0i16; 256];
     let samples = &mut buf[..(stop - start) as usize];
-    read_samples(store, cache, block, reach, start, samples)?;
+    read_samples(reader, block, reach, start, samples)?;
     let split = (edge - start) as usize;
     let before = join(front, of(&samples[..split]));
     let after = of(&samples[split..]);

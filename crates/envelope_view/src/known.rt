@@ -1,17 +1,15 @@
 // What is known of a block after the part that was summarized last.
-ghost use Rattle.std.specs.Prelude.{◌≡◌, ◌≤◌, ◌<◌, ◌+◌, ◌*◌, [], ◌∷◌, IsTrue, IfErr, IfSome, Some};
+ghost use Rattle.std.specs.Prelude.{◌≡◌, ◌≤◌, ◌<◌, ◌+◌, ◌*◌, [], ◌∷◌, IsTrue, IfSome, Some};
 ghost use Rattle.pcm_base.specs.declared.limits.TheConstants.{MAX_BLOCK_SAMPLES};
-ghost use Rattle.disk_model.specs.Disk.{Files, bytes_of};
-ghost use Rattle.disk_model.specs.Frames.{Kept};
+ghost use Rattle.disk_model.specs.Disk.{Files};
 ghost use Rattle.sample_block.specs.Spelling.{IsBlock};
-ghost use Rattle.block_store.specs.Reads.{Counted, IsFault};
-ghost use Rattle.block_cache.specs.Caches.{IsCacheOf, KeepsCache};
+ghost use Rattle.block_cache.specs.Readers.{Reads};
 ghost use Rattle.envelope_view.specs.Halves.{IsEdgeIn, IsKnown, IsShortEdge};
 ghost use Rattle.envelope_view.specs.Parts.{Summarizes};
 
 use super::halves::{up_to_edge, up_to_short_edge};
 use super::parts::summarize;
-use block_cache::Cache;
+use block_cache::BlockReader;
 use block_store::BlockFault;
 use disk_model::Store;
 use pcm_base::BlockRef;
@@ -104,8 +102,7 @@ fn short_stop(len: u32, start: u32) -> u32
 /// The same where the part ends inside no long frame of which all is asked for: where it ends inside a short one, the
 /// frame's samples are read once for both sides.
 fn summarize_narrow<S: Store>(
-    store: &mut S,
-    cache: &mut Cache,
+    reader: &mut BlockReader<S>,
     known: &mut Option<Known>,
     block: BlockRef,
     from: u32,
@@ -113,23 +110,18 @@ fn summarize_narrow<S: Store>(
     reach: u64,
 ) -> Result<Summary, BlockFault>
     requires block { IsBlock block.id block.len }
-    requires cached { IsTrue (S.tells store.old) → IsCacheOf (S.reads store.old) cache.old }
     requires rising { from ≤ to }
     requires within { to ≤ block.len }
-    requires known { IsTrue (S.tells store.old) → IsKnown (S.reads store.old) known.old }
-    ensures cache { KeepsCache (S.tells store.old) (S.reads store.old) (block ∷ []) cache.old cache.new }
-    ensures known { IsTrue (S.tells store.old) → IsKnown (S.reads store.old) known.new }
-    ensures read { IsTrue (S.tells store.old) → Summarizes (S.reads store.old) block from to result }
-    ensures damaged { IsTrue (S.tells store.old)
-        → IfErr result (λ e. IsFault block.id block.len (bytes_of (S.reads store.old block.id)) e) }
-    ensures kept { Kept S.Store store.old store.new }
-    ensures faults { Counted result (S.read_fault_count store.old) (S.read_fault_count store.new) }
+    requires known { IsTrue (S.tells reader.old.store) → IsKnown (S.reads reader.old.store) known.old }
+    ensures reads { Reads (block ∷ []) reader.old reader.new result }
+    ensures known { IsTrue (S.tells reader.old.store) → IsKnown (S.reads reader.old.store) known.new }
+    ensures read { IsTrue (S.tells reader.old.store) → Summarizes (S.reads reader.old.store) block from to result }
 {
     let Some(start) = short_start(block.len, from, to, reach) else {
-        return summarize(store, cache, block, reach, from, to);
+        return summarize(reader, block, reach, from, to);
     };
     let stop = short_stop(block.len, start);
-    let halves = up_to_short_edge(store, cache, block, reach, from, start, to, stop)?;
+    let halves = up_to_short_edge(reader, block, reach, from, start, to, stop)?;
     *known = Some(Known {
         block,
         from: to,
@@ -142,8 +134,7 @@ fn summarize_narrow<S: Store>(
 /// The summary of a part of a block, after which at least `reach` cells more are asked for next. Where the part ends
 /// inside a long frame, what comes after it is known from then on.
 pub(crate) fn summarize_on<S: Store>(
-    store: &mut S,
-    cache: &mut Cache,
+    reader: &mut BlockReader<S>,
     known: &mut Option<Known>,
     block: BlockRef,
     from: u32,
@@ -151,23 +142,18 @@ pub(crate) fn summarize_on<S: Store>(
     reach: u64,
 ) -> Result<Summary, BlockFault>
     requires block { IsBlock block.id block.len }
-    requires cached { IsTrue (S.tells store.old) → IsCacheOf (S.reads store.old) cache.old }
     requires rising { from ≤ to }
     requires within { to ≤ block.len }
-    requires known { IsTrue (S.tells store.old) → IsKnown (S.reads store.old) known.old }
-    ensures cache { KeepsCache (S.tells store.old) (S.reads store.old) (block ∷ []) cache.old cache.new }
-    ensures known { IsTrue (S.tells store.old) → IsKnown (S.reads store.old) known.new }
-    ensures read { IsTrue (S.tells store.old) → Summarizes (S.reads store.old) block from to result }
-    ensures damaged { IsTrue (S.tells store.old)
-        → IfErr result (λ e. IsFault block.id block.len (bytes_of (S.reads store.old block.id)) e) }
-    ensures kept { Kept S.Store store.old store.new }
-    ensures faults { Counted result (S.read_fault_count store.old) (S.read_fault_count store.new) }
+    requires known { IsTrue (S.tells reader.old.store) → IsKnown (S.reads reader.old.store) known.old }
+    ensures reads { Reads (block ∷ []) reader.old reader.new result }
+    ensures known { IsTrue (S.tells reader.old.store) → IsKnown (S.reads reader.old.store) known.new }
+    ensures read { IsTrue (S.tells reader.old.store) → Summarizes (S.reads reader.old.store) block from to result }
 {
     let Some(frame) = frame_at(block.len, from, to, reach) else {
-        return summarize_narrow(store, cache, known, block, from, to, reach);
+        return summarize_narrow(reader, known, block, from, to, reach);
     };
     let stop = frame_stop(block.len, frame);
-    let halves = up_to_edge(store, cache, block, reach, from, frame, to, stop)?;
+    let halves = up_to_edge(reader, block, reach, from, frame, to, stop)?;
     *known = Some(Known {
         block,
         from: to,

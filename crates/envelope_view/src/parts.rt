@@ -1,17 +1,15 @@
 // The summary of a part of a block, from whole frames and the samples at its edges.
-ghost use Rattle.std.specs.Prelude.{◌≡◌, ◌≤◌, ◌<◌, ◌+◌, ◌-◌, ◌*◌, [], ◌∷◌, length, fold, IsTrue, IfErr};
+ghost use Rattle.std.specs.Prelude.{◌≡◌, ◌≤◌, ◌<◌, ◌+◌, ◌-◌, ◌*◌, [], ◌∷◌, length, fold, IsTrue};
 ghost use Rattle.pcm_base.specs.declared.limits.TheConstants.{MAX_BLOCK_SAMPLES};
-ghost use Rattle.disk_model.specs.Disk.{bytes_of};
-ghost use Rattle.disk_model.specs.Frames.{Kept};
 ghost use Rattle.sample_block.specs.Spelling.{IsBlock};
-ghost use Rattle.block_store.specs.Reads.{Counted, IsFault, frame_len};
+ghost use Rattle.block_store.specs.Reads.{frame_len};
 ghost use Rattle.block_store.specs.declared.frames.Level.TheVariants.{Short, Long};
-ghost use Rattle.block_cache.specs.Caches.{IsCacheOf, KeepsCache};
+ghost use Rattle.block_cache.specs.Readers.{Reads};
 ghost use Rattle.peak_summary.specs.Peaks.{joined, nothing, frame_count};
 ghost use Rattle.envelope_view.specs.Parts.{Summarizes};
 
 use super::reads::{read_frames, read_samples};
-use block_cache::Cache;
+use block_cache::BlockReader;
 use block_store::{BlockFault, Level};
 use disk_model::Store;
 use pcm_base::BlockRef;
@@ -68,39 +66,32 @@ fn long_end(len: u32, to: u32) -> u32
 
 /// From the samples alone.
 fn by_samples<S: Store>(
-    store: &mut S,
-    cache: &mut Cache,
+    reader: &mut BlockReader<S>,
     block: BlockRef,
     reach: u64,
     from: u32,
     to: u32,
 ) -> Result<Summary, BlockFault>
     requires block { IsBlock block.id block.len }
-    requires cached { IsTrue (S.tells store.old) → IsCacheOf (S.reads store.old) cache.old }
     requires rising { from ≤ to }
     requires within { to ≤ block.len }
     requires few { to ≤ from + 512 }
-    ensures cache { KeepsCache (S.tells store.old) (S.reads store.old) (block ∷ []) cache.old cache.new }
-    ensures read { IsTrue (S.tells store.old) → Summarizes (S.reads store.old) block from to result }
-    ensures damaged { IsTrue (S.tells store.old)
-        → IfErr result (λ e. IsFault block.id block.len (bytes_of (S.reads store.old block.id)) e) }
-    ensures kept { Kept S.Store store.old store.new }
-    ensures faults { Counted result (S.read_fault_count store.old) (S.read_fault_count store.new) }
+    ensures reads { Reads (block ∷ []) reader.old reader.new result }
+    ensures read { IsTrue (S.tells reader.old.store) → Summarizes (S.reads reader.old.store) block from to result }
 {
     if from == to {
         return Ok(NOTHING);
     }
     let mut buf = [0i16; PIECE];
     let samples = &mut buf[..(to - from) as usize];
-    read_samples(store, cache, block, reach, from, samples)?;
+    read_samples(reader, block, reach, from, samples)?;
     Ok(of(samples))
 }
 
 /// From whole frames that are few: a small buffer is made sooner.
 #[inline(never)]
 fn by_few_frames<S: Store>(
-    store: &mut S,
-    cache: &mut Cache,
+    reader: &mut BlockReader<S>,
     block: BlockRef,
     reach: u64,
     level: Level,
@@ -108,21 +99,16 @@ fn by_few_frames<S: Store>(
     end: u32,
 ) -> Result<Summary, BlockFault>
     requires block { IsBlock block.id block.len }
-    requires cached { IsTrue (S.tells store.old) → IsCacheOf (S.reads store.old) cache.old }
     requires rising { first ≤ end }
     requires within { end ≤ frame_count (frame_len level) block.len }
     requires few { end ≤ first + 128 }
-    ensures cache { KeepsCache (S.tells store.old) (S.reads store.old) (block ∷ []) cache.old cache.new }
-    ensures read { IsTrue (S.tells store.old)
-        → Summarizes (S.reads store.old) block (frame_len level * first) (frame_len level * end) result }
-    ensures damaged { IsTrue (S.tells store.old)
-        → IfErr result (λ e. IsFault block.id block.len (bytes_of (S.reads store.old block.id)) e) }
-    ensures kept { Kept S.Store store.old store.new }
-    ensures faults { Counted result (S.read_fault_count store.old) (S.read_fault_count store.new) }
+    ensures reads { Reads (block ∷ []) reader.old reader.new result }
+    ensures read { IsTrue (S.tells reader.old.store)
+        → Summarizes (S.reads reader.old.store) block (frame_len level * first) (frame_len level * end) result }
 {
     let mut buf = [NOTHING; FEW];
     let frames = &mut buf[..(end - first) as usize];
-    read_frames(store, cache, block, reach, level, first, frames)?;
+    read_frames(reader, block, reach, level, first, frames)?;
     Ok(join_all(frames))
 }
 
@@ -130,8 +116,7 @@ fn by_few_frames<S: Store>(
 /// where its buffer stands beside theirs.
 #[inline(never)]
 fn by_frames<S: Store>(
-    store: &mut S,
-    cache: &mut Cache,
+    reader: &mut BlockReader<S>,
     block: BlockRef,
     reach: u64,
     level: Level,
@@ -139,31 +124,25 @@ fn by_frames<S: Store>(
     end: u32,
 ) -> Result<Summary, BlockFault>
     requires block { IsBlock block.id block.len }
-    requires cached { IsTrue (S.tells store.old) → IsCacheOf (S.reads store.old) cache.old }
     requires rising { first ≤ end }
     requires within { end ≤ frame_count (frame_len level) block.len }
     requires few { end ≤ first + 512 }
-    ensures cache { KeepsCache (S.tells store.old) (S.reads store.old) (block ∷ []) cache.old cache.new }
-    ensures read { IsTrue (S.tells store.old)
-        → Summarizes (S.reads store.old) block (frame_len level * first) (frame_len level * end) result }
-    ensures damaged { IsTrue (S.tells store.old)
-        → IfErr result (λ e. IsFault block.id block.len (bytes_of (S.reads store.old block.id)) e) }
-    ensures kept { Kept S.Store store.old store.new }
-    ensures faults { Counted result (S.read_fault_count store.old) (S.read_fault_count store.new) }
+    ensures reads { Reads (block ∷ []) reader.old reader.new result }
+    ensures read { IsTrue (S.tells reader.old.store)
+        → Summarizes (S.reads reader.old.store) block (frame_len level * first) (frame_len level * end) result }
 {
     if end - first <= FEW as u32 {
-        return by_few_frames(store, cache, block, reach, level, first, end);
+        return by_few_frames(reader, block, reach, level, first, end);
     }
     let mut buf = [NOTHING; PIECE];
     let frames = &mut buf[..(end - first) as usize];
-    read_frames(store, cache, block, reach, level, first, frames)?;
+    read_frames(reader, block, reach, level, first, frames)?;
     Ok(join_all(frames))
 }
 
 /// From whole short frames, from number `first` up to `end`, and the samples after them up to `to`.
 fn short_then_samples<S: Store>(
-    store: &mut S,
-    cache: &mut Cache,
+    reader: &mut BlockReader<S>,
     block: BlockRef,
     reach: u64,
     first: u32,
@@ -171,7 +150,6 @@ fn short_then_samples<S: Store>(
     to: u32,
 ) -> Result<Summary, BlockFault>
     requires block { IsBlock block.id block.len }
-    requires cached { IsTrue (S.tells store.old) → IsCacheOf (S.reads store.old) cache.old }
     requires rising { first < end }
     requires within { to ≤ block.len }
     requires frames { end ≤ frame_count 256 block.len }
@@ -179,54 +157,44 @@ fn short_then_samples<S: Store>(
     requires behind { 256 * end < to + 256 }
     requires rest { to < 256 * end + 256 }
     requires last { to < 256 * end → to ≡ block.len }
-    ensures cache { KeepsCache (S.tells store.old) (S.reads store.old) (block ∷ []) cache.old cache.new }
-    ensures read { IsTrue (S.tells store.old) → Summarizes (S.reads store.old) block (256 * first) to result }
-    ensures damaged { IsTrue (S.tells store.old)
-        → IfErr result (λ e. IsFault block.id block.len (bytes_of (S.reads store.old block.id)) e) }
-    ensures kept { Kept S.Store store.old store.new }
-    ensures faults { Counted result (S.read_fault_count store.old) (S.read_fault_count store.new) }
+    ensures reads { Reads (block ∷ []) reader.old reader.new result }
+    ensures read { IsTrue (S.tells reader.old.store)
+        → Summarizes (S.reads reader.old.store) block (256 * first) to result }
 {
-    let front = by_frames(store, cache, block, reach, Level::Short, first, end)?;
+    let front = by_frames(reader, block, reach, Level::Short, first, end)?;
     let from = to.min(256 * end);
-    let back = by_samples(store, cache, block, reach, from, to)?;
+    let back = by_samples(reader, block, reach, from, to)?;
     Ok(join(front, back))
 }
 
 /// From whole short frames, and the samples at the edges.
 pub(crate) fn by_short<S: Store>(
-    store: &mut S,
-    cache: &mut Cache,
+    reader: &mut BlockReader<S>,
     block: BlockRef,
     reach: u64,
     from: u32,
     to: u32,
 ) -> Result<Summary, BlockFault>
     requires block { IsBlock block.id block.len }
-    requires cached { IsTrue (S.tells store.old) → IsCacheOf (S.reads store.old) cache.old }
     requires rising { from ≤ to }
     requires within { to ≤ block.len }
     requires few { to ≤ from + 131072 }
-    ensures cache { KeepsCache (S.tells store.old) (S.reads store.old) (block ∷ []) cache.old cache.new }
-    ensures read { IsTrue (S.tells store.old) → Summarizes (S.reads store.old) block from to result }
-    ensures damaged { IsTrue (S.tells store.old)
-        → IfErr result (λ e. IsFault block.id block.len (bytes_of (S.reads store.old block.id)) e) }
-    ensures kept { Kept S.Store store.old store.new }
-    ensures faults { Counted result (S.read_fault_count store.old) (S.read_fault_count store.new) }
+    ensures reads { Reads (block ∷ []) reader.old reader.new result }
+    ensures read { IsTrue (S.tells reader.old.store) → Summarizes (S.reads reader.old.store) block from to result }
 {
     let first = from.div_ceil(256);
     let end = short_end(block.len, to);
     if first >= end {
-        return by_samples(store, cache, block, reach, from, to);
+        return by_samples(reader, block, reach, from, to);
     }
-    let front = by_samples(store, cache, block, reach, from, 256 * first)?;
-    let back = short_then_samples(store, cache, block, reach, first, end, to)?;
+    let front = by_samples(reader, block, reach, from, 256 * first)?;
+    let back = short_then_samples(reader, block, reach, first, end, to)?;
     Ok(join(front, back))
 }
 
 /// From whole long frames, from number `first` up to `end`, and what is after them up to `to`.
 fn long_then_short<S: Store>(
-    store: &mut S,
-    cache: &mut Cache,
+    reader: &mut BlockReader<S>,
     block: BlockRef,
     reach: u64,
     first: u32,
@@ -234,53 +202,43 @@ fn long_then_short<S: Store>(
     to: u32,
 ) -> Result<Summary, BlockFault>
     requires block { IsBlock block.id block.len }
-    requires cached { IsTrue (S.tells store.old) → IsCacheOf (S.reads store.old) cache.old }
     requires rising { first < end }
     requires within { to ≤ block.len }
     requires frames { end ≤ frame_count LONG_FRAME block.len }
     requires behind { LONG_FRAME * end < to + LONG_FRAME }
     requires rest { to < LONG_FRAME * end + LONG_FRAME }
     requires last { to < LONG_FRAME * end → to ≡ block.len }
-    ensures cache { KeepsCache (S.tells store.old) (S.reads store.old) (block ∷ []) cache.old cache.new }
-    ensures read { IsTrue (S.tells store.old) → Summarizes (S.reads store.old) block (LONG_FRAME * first) to result }
-    ensures damaged { IsTrue (S.tells store.old)
-        → IfErr result (λ e. IsFault block.id block.len (bytes_of (S.reads store.old block.id)) e) }
-    ensures kept { Kept S.Store store.old store.new }
-    ensures faults { Counted result (S.read_fault_count store.old) (S.read_fault_count store.new) }
+    ensures reads { Reads (block ∷ []) reader.old reader.new result }
+    ensures read { IsTrue (S.tells reader.old.store)
+        → Summarizes (S.reads reader.old.store) block (LONG_FRAME * first) to result }
 {
-    let front = by_frames(store, cache, block, reach, Level::Long, first, end)?;
+    let front = by_frames(reader, block, reach, Level::Long, first, end)?;
     let from = to.min(LONG_FRAME * end);
-    let back = by_short(store, cache, block, reach, from, to)?;
+    let back = by_short(reader, block, reach, from, to)?;
     Ok(join(front, back))
 }
 
 /// The summary of a part of a block: from whole long frames, whole short frames beside them, and the samples
 /// at the edges.
 pub(crate) fn summarize<S: Store>(
-    store: &mut S,
-    cache: &mut Cache,
+    reader: &mut BlockReader<S>,
     block: BlockRef,
     reach: u64,
     from: u32,
     to: u32,
 ) -> Result<Summary, BlockFault>
     requires block { IsBlock block.id block.len }
-    requires cached { IsTrue (S.tells store.old) → IsCacheOf (S.reads store.old) cache.old }
     requires rising { from ≤ to }
     requires within { to ≤ block.len }
-    ensures cache { KeepsCache (S.tells store.old) (S.reads store.old) (block ∷ []) cache.old cache.new }
-    ensures read { IsTrue (S.tells store.old) → Summarizes (S.reads store.old) block from to result }
-    ensures damaged { IsTrue (S.tells store.old)
-        → IfErr result (λ e. IsFault block.id block.len (bytes_of (S.reads store.old block.id)) e) }
-    ensures kept { Kept S.Store store.old store.new }
-    ensures faults { Counted result (S.read_fault_count store.old) (S.read_fault_count store.new) }
+    ensures reads { Reads (block ∷ []) reader.old reader.new result }
+    ensures read { IsTrue (S.tells reader.old.store) → Summarizes (S.reads reader.old.store) block from to result }
 {
     let first = from.div_ceil(LONG_FRAME);
     let end = long_end(block.len, to);
     if first >= end {
-        return by_short(store, cache, block, reach, from, to);
+        return by_short(reader, block, reach, from, to);
     }
-    let front = by_short(store, cache, block, reach, from, LONG_FRAME * first)?;
-    let back = long_then_short(store, cache, block, reach, first, end, to)?;
+    let front = by_short(reader, block, reach, from, LONG_FRAME * first)?;
+    let back = long_then_short(reader, block, reach, first, end, to)?;
     Ok(join(front, back))
 }

@@ -1,18 +1,16 @@
 // The columns of a layout, in one pass over what stands in its range.
 ghost use Rattle.std.specs.Prelude.{◌≡◌, ◌≤◌, ◌<◌, IsTrue, IfOk, IfErr};
 ghost use Rattle.pcm_base.specs.declared.limits.TheConstants.{MAX_CELLS, MAX_VIEW};
-ghost use Rattle.disk_model.specs.Frames.{Kept};
 ghost use Rattle.sample_block.specs.Sources.{AllNamed, AllWhole, sources_of};
-ghost use Rattle.block_cache.specs.Caches.{IsCacheOf, KeepsCache};
+ghost use Rattle.block_cache.specs.Readers.{Reads};
 ghost use Rattle.pcm_base.specs.Envelope.{columns_of};
 ghost use Rattle.clip_track.specs.Clips.{end_of, layout_blocks, layout_cells};
-ghost use Rattle.envelope_view.specs.Answers.{AnswersTest, IsDamagedIn, IsOfReads, IsUndamaged, ReasonCounted};
-ghost use Rattle.envelope_view.specs.Answers.{column_tests};
+ghost use Rattle.envelope_view.specs.Answers.{AnswersTest, IsOfReads, IsUndamaged, column_tests, disk_part};
 
 use super::ahead::Ahead;
 use super::edges::{edge, test_columns};
 use super::sweep::sweep;
-use block_cache::Cache;
+use block_cache::BlockReader;
 use block_store::scan;
 use clip_track::{Layout, Stretch};
 use disk_model::Store;
@@ -22,8 +20,7 @@ use std::alloc::Global;
 /// The columns, where the tests are passed.
 fn scan_columns<S: Store>(
     alloc: Global,
-    store: &mut S,
-    cache: &mut Cache,
+    reader: &mut BlockReader<S>,
     layout: &Layout,
     from: u64,
     to: u64,
@@ -34,16 +31,11 @@ fn scan_columns<S: Store>(
     requires small { to ≤ MAX_CELLS }
     requires some { 0 < columns }
     requires few { columns ≤ MAX_VIEW }
-    requires cached { IsTrue (S.tells store.old) → IsCacheOf (S.reads store.old) cache.old }
-    ensures cache { KeepsCache (S.tells store.old) (S.reads store.old) (layout_blocks layout.now) cache.old cache.new }
-    ensures read { IsTrue (S.tells store.old) → AllWhole (S.reads store.old) (layout_blocks layout.now)
+    ensures reads { Reads (layout_blocks layout.now) reader.old reader.new (disk_part result) }
+    ensures read { IsTrue (S.tells reader.old.store) → AllWhole (S.reads reader.old.store) (layout_blocks layout.now)
         → IfOk result
-        (λ v. v.items ≡ columns_of from to columns (layout_cells (sources_of (S.reads store.old)) layout.now)) }
-    ensures reads { IfErr result IsOfReads }
-    ensures damaged { IsTrue (S.tells store.old)
-        → IfErr result (λ e. IsDamagedIn (S.reads store.old) (layout_blocks layout.now) e) }
-    ensures kept { Kept S.Store store.old store.new }
-    ensures faults { ReasonCounted result (S.read_fault_count store.old) (S.read_fault_count store.new) }
+        (λ v. v.items ≡ columns_of from to columns (layout_cells (sources_of (S.reads reader.old.store)) layout.now)) }
+    ensures reasons { IfErr result IsOfReads }
 {
     let mut scans = Vec::with_capacity(alloc, columns as usize)?;
     let mut ahead = Ahead {
@@ -56,15 +48,15 @@ fn scan_columns<S: Store>(
         let end = edge(from, to, columns, i + 1);
         let count = end - begin;
         let reach = count.saturating_sub(1).min(to - end);
-        let summary = sweep(store, cache, &mut known, &mut ahead, count, reach)?;
+        let summary = sweep(reader, &mut known, &mut ahead, count, reach)?;
         scans.push(scan(summary))?;
     }
     Ok(scans)
 }
 
 /// What a fresh scan finds of the cells of each of some columns of a range of a layout. It reads frames of blocks,
-/// and samples at the edges of columns alone, but for those that the cache has. Where columns are narrower than a page it
-/// reads the whole page and keeps it. It takes memory for the columns.
+/// and samples at the edges of columns alone, but for those that the reader has kept. Where columns are narrower than a
+/// page it reads the whole page and keeps it. It takes memory for the columns.
 ///
 /// # Errors
 ///
@@ -72,8 +64,7 @@ fn scan_columns<S: Store>(
 /// than the range has cells; else `NoMemory`, or a fault of the disk or of a block that is read.
 pub fn columns<S: Store>(
     alloc: Global,
-    store: &mut S,
-    cache: &mut Cache,
+    reader: &mut BlockReader<S>,
     layout: &Layout,
     from: u64,
     to: u64,
@@ -81,23 +72,18 @@ pub fn columns<S: Store>(
 ) -> Result<Vec<Option<Scan>>, Refusal>
     // Each block that the layout names is one that a disk may have.
     requires named { AllNamed (layout_blocks layout.now) }
-    // Each page that is kept is what a read of it gives of the files as they stand. It stays so.
-    requires cached { IsTrue (S.tells store.old) → IsCacheOf (S.reads store.old) cache.old }
-    ensures cache { KeepsCache (S.tells store.old) (S.reads store.old) (layout_blocks layout.now) cache.old cache.new }
-    ensures read { IsTrue (S.tells store.old) → AllWhole (S.reads store.old) (layout_blocks layout.now)
+    // Nothing of the disk changes. Only damage of a block of the layout is reported, as it stands in its file.
+    ensures reads { Reads (layout_blocks layout.now) reader.old reader.new (disk_part result) }
+    ensures read { IsTrue (S.tells reader.old.store) → AllWhole (S.reads reader.old.store) (layout_blocks layout.now)
         → IfOk result
-        (λ v. v.items ≡ columns_of from to columns (layout_cells (sources_of (S.reads store.old)) layout.now)) }
+        (λ v. v.items ≡ columns_of from to columns (layout_cells (sources_of (S.reads reader.old.store)) layout.now)) }
     // The tests refuse exactly as the model's do; where they are passed only a read or want of memory refuses.
     ensures tests { AnswersTest (column_tests from to columns (end_of 0 layout.now)) result }
-    // Only damage of a block of the layout is reported, as it stands in its file, and none where all of them are whole.
-    ensures damaged { IsTrue (S.tells store.old)
-        → IfErr result (λ e. IsDamagedIn (S.reads store.old) (layout_blocks layout.now) e) }
-    ensures sound { IsTrue (S.tells store.old) → AllWhole (S.reads store.old) (layout_blocks layout.now)
+    // No damage is reported where all blocks of the layout are whole.
+    ensures sound { IsTrue (S.tells reader.old.store) → AllWhole (S.reads reader.old.store) (layout_blocks layout.now)
         → IfErr result IsUndamaged }
-    ensures kept { Kept S.Store store.old store.new }
-    ensures faults { ReasonCounted result (S.read_fault_count store.old) (S.read_fault_count store.new) }
 {
     test_columns(from, to, columns, layout.len())?;
-    let scans = scan_columns(alloc, store, cache, layout, from, to, columns)?;
+    let scans = scan_columns(alloc, reader, layout, from, to, columns)?;
     Ok(scans)
 }

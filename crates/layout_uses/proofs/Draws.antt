@@ -6,7 +6,7 @@ use Rattle.std.proofs.lemmas.Bool.{cases_eq, eq-eqb, ne_eqb}
 use Rattle.std.proofs.lemmas.List.{length-map}
 use Rattle.project_state.specs.declared.track.Track.{Track}
 use Rattle.project_state.specs.Tracks.{AllBelow, track_of}
-use Rattle.project_state.specs.Numbers.{unnumbered}
+use Rattle.project_state.specs.Numbers.{AreNewOrCurrent, unnumbered}
 use Rattle.layout_uses.specs.Drawing.{Draws, HasNumbers}
 use Rattle.layout_uses.specs.Laws.{AreAmong, IsAmong}
 use Rattle.layout_uses.specs.Layouts.{Agree, AgreesWith, AreDrawn, AreNumbered}
@@ -29,6 +29,18 @@ pub at_among : (ts : List Track) (i : ℕ) (t : Track) → slice_get ts i ≡ So
 at_among [] i t here = absurd cc
 at_among (u ∷ us) zero t here = let same : u ≡ t = cc in inl same
 at_among (u ∷ us) (suc i) t here = inr (at_among us i t here)
+
+-- one that has a number is a current one
+pub kept_among : (current ts : List Track) (i : ℕ) (t : Track) → slice_get ts i ≡ Some t → AreNewOrCurrent current ts
+    → 0 < t.number → IsAmong t current
+kept_among current [] i t here kept some = absurd cc
+kept_among current (u ∷ us) zero t here kept some =
+    let same : u ≡ t = cc in
+    ⊎_elim
+    (λ none. absurd (omega (arith, none, some, ap (λ (x : Track). x.number) same)))
+    (λ found. subst (λ (x : Track). IsAmong x current) same (found_among u.id current u found))
+    kept.0
+kept_among current (u ∷ us) (suc i) t here kept some = kept_among current us i t here kept.1 some
 
 -- ---- a track more at the end
 

@@ -1,18 +1,18 @@
--- Points that get their numbers one after another.
-use Rattle.std.proofs.Common.{◌≡◌, inl, inr, refl, sym, ap, ◌∙◌, subst, ℕ, zero, suc, ◌+◌, ◌^◌, ◌≤◌, List, []}
-use Rattle.std.proofs.Common.{◌∷◌, ◌++◌}
-use Rattle.std.proofs.Common.{length, map, take, slice_get, Some, arith, length-append, ⊎_elim}
-use Rattle.std.specs.Prelude.{slice_index}
-use Rattle.std.proofs.lemmas.List.{append-nil, map-append}
-use Rattle.pcm_base.specs.History.{History, point_of, points_of, tag_of}
+-- Histories whose layouts get their numbers as points come.
+use Rattle.std.proofs.Common.{◌≡◌, inl, inr, sym, ap, ◌∙◌, subst, ℕ, zero, suc, Bool, true, false, List, []}
+use Rattle.std.proofs.Common.{◌∷◌, ◌++◌, if◌then◌else◌}
+use Rattle.std.proofs.Common.{map, take, drop, slice_get, Some, ⊎_elim, arith}
+use Rattle.std.proofs.lemmas.List.{append-nil, drop-map, map-append}
+use Rattle.pcm_base.specs.History.{History, IsHistory, amended, edited, history_of_one, is_of_recording, point_of}
+use Rattle.pcm_base.specs.History.{points_of}
+use Rattle.pcm_base.specs.History.{purged, recorded}
 use Rattle.project_state.specs.declared.track.Track.{Track}
-use Rattle.project_state.specs.Numbers.{unnumbered}
-use Rattle.project_state.proofs.Points.{take_some}
-use Rattle.layout_uses.specs.Drawing.{DrawsPoint}
+use Rattle.project_state.specs.Numbers.{unnumbered, unnumbered_history}
+use Rattle.layout_uses.specs.Drawing.{DrawsPoint, IsNumbered}
 use Rattle.layout_uses.specs.Laws.{AreAmong, IsAmong}
 use Rattle.layout_uses.specs.Layouts.{AreDrawn, AreNumbered, history_tracks, points_tracks}
-use Rattle.layout_uses.proofs.Histories.{tracks_append}
-use Rattle.layout_uses.proofs.Moves.{drawn_swapped, numbered_swapped}
+use Rattle.layout_uses.proofs.Histories.{points_split, so_amended, so_edited, tracks_append}
+use Rattle.layout_uses.proofs.Moves.{drawn_swapped, drawn_without, numbered_swapped, numbered_without}
 use Rattle.layout_uses.proofs.Putting.{among_self}
 
 -- ---- a point among all
@@ -45,28 +45,30 @@ point_among (q ∷ qs) zero p here =
     (all_left q q (points_tracks qs) (among_self q))
 point_among (q ∷ qs) (suc i) p here = all_right p q (points_tracks qs) (point_among qs i p here)
 
--- ---- a point with its tag
+-- ---- one point
 
-pub tagged_at : (ps : List Tagged) (i : ℕ) (p : List Track) → slice_get (map point_of ps) i ≡ Some p
-    → slice_get ps i ≡ Some (p, slice_index (map tag_of ps) i)
-tagged_at [] i p here = absurd cc
-tagged_at (q ∷ qs) zero p here =
-    let same : q.0 ≡ p = cc in
-    ap (λ (ts : List Track). Some (ts, q.1)) same
-tagged_at (q ∷ qs) (suc i) p here = tagged_at qs i p here
+pub first_numbers : (tag depth : ℕ) (tracks point : List Track) (after : ℕ) → DrawsPoint tracks [] 1 point after
+    → IsNumbered (history_of_one point tag depth) after
+first_numbers tag depth tracks point after draws = record {
+  numbered = draws.numbered [] tt tt tt;
+  drawn = draws.drawn [] tt tt;
+  least = draws.least;
+}
 
--- ---- the points so far
+-- ---- a point after all others
 
-abbrev pub plain : Tagged → Tagged
+abbrev plain : Tagged → Tagged
 plain p = (map unnumbered p.0, p.1)
 
-pub record SoFar (h now : History (List Track)) (i next : ℕ) : Type 0 where
-  pub same : map plain now.points ≡ map plain (take i h.points)
-  pub depth : now.depth ≡ h.depth
-  pub numbered : AreNumbered (history_tracks now)
-  pub drawn : AreDrawn next (history_tracks now)
-  pub count : length now.points ≡ i
-  pub most : next ≤ 2 ^ 62
+-- without numbers it is the one that was said
+pub plain_last : (h : History (List Track)) (point tracks : List Track) (tag : ℕ) → map unnumbered point ≡ tracks
+    → unnumbered_history (record h { points = h.points ++ (point, tag) ∷ [] })
+    ≡ record (unnumbered_history h) { points = (unnumbered_history h).points ++ (tracks, tag) ∷ [] }
+plain_last h point tracks tag same =
+    let points : map plain (h.points ++ (point, tag) ∷ []) ≡ map plain h.points ++ (tracks, tag) ∷ [] =
+    map-append plain h.points ((point, tag) ∷ [])
+    ∙ ap (λ (ts : List Track). map plain h.points ++ (ts, tag) ∷ []) same in
+    λ i. record { points = points i; cursor = h.cursor; depth = h.depth }
 
 tracks_then : (ps : List Tagged) (p : Tagged)
     → points_tracks (map point_of (ps ++ p ∷ [])) ≡ points_tracks (map point_of ps) ++ p.0
@@ -74,52 +76,66 @@ tracks_then ps p = ap points_tracks (map-append point_of ps (p ∷ []))
     ∙ tracks_append (map point_of ps) (p.0 ∷ [])
     ∙ ap (λ (ts : List Track). points_tracks (map point_of ps) ++ ts) (append-nil p.0)
 
-module _ (h now : History (List Track)) (i next after : ℕ) (so : SoFar h now i next) (tracks current point : List Track)
-    (here : slice_get (points_of h) i ≡ Some tracks) (draws : DrawsPoint tracks current next point after)
-    (among : AreAmong current (history_tracks now)) (few : after ≤ 2 ^ 62) where
-  abbrev tag : ℕ
-  tag = slice_index (map tag_of h.points) i
-
+module _ (h : History (List Track)) (next after tag : ℕ) (tracks current point : List Track) (is : IsNumbered h next)
+    (among : AreAmong current (history_tracks h)) (draws : DrawsPoint tracks current next point after) where
   abbrev old : List Track
-  old = history_tracks now
+  old = history_tracks h
 
-  all_are : old ++ (point ++ []) ≡ points_tracks (map point_of (now.points ++ (point, tag) ∷ []))
-  all_are = ap (λ (ts : List Track). old ++ ts) (append-nil point) ∙ sym (tracks_then now.points (point, tag))
+  numbered_so : AreNumbered (point ++ old)
+  numbered_so = draws.numbered old is.numbered is.drawn among
 
-  pub one_more : SoFar h (record now { points = now.points ++ (point, tag) ∷ [] }) (i + 1) after
-  one_more = record {
-    same = map-append plain now.points ((point, tag) ∷ [])
-        ∙ ap (λ (ps : List Tagged). ps ++ (map unnumbered point, tag) ∷ []) so.same
-        ∙ ap (λ (ts : List Track). map plain (take i h.points) ++ (ts, tag) ∷ []) draws.same
-        ∙ sym (map-append plain (take i h.points) ((tracks, tag) ∷ []))
-        ∙ ap (map plain) (sym (take_some h.points i (tracks, tag) (tagged_at h.points i tracks here)));
-    depth = so.depth;
+  drawn_so : AreDrawn after (point ++ old)
+  drawn_so = draws.drawn old is.drawn among
+
+  all_are : old ++ (point ++ []) ≡ points_tracks (map point_of (h.points ++ (point, tag) ∷ []))
+  all_are = ap (λ (ts : List Track). old ++ ts) (append-nil point) ∙ sym (tracks_then h.points (point, tag))
+
+  pub last_numbers : IsNumbered (record h { points = h.points ++ (point, tag) ∷ [] }) after
+  last_numbers = record {
     numbered = subst AreNumbered all_are
         (numbered_swapped point old [] (subst (λ (ts : List Track). AreNumbered (point ++ ts)) (sym (append-nil old))
-        (draws.numbered old so.numbered so.drawn among)));
+        numbered_so));
     drawn = subst (AreDrawn after) all_are
         (drawn_swapped after point old [] (subst (λ (ts : List Track). AreDrawn after (point ++ ts))
-        (sym (append-nil old)) (draws.drawn old so.drawn among)));
-    count = omega (arith, length-append now.points ((point, tag) ∷ []), so.count);
-    most = few;
+        (sym (append-nil old)) drawn_so));
+    least = omega (arith, is.least, draws.least);
   }
 
--- the first one
-pub first_one : (h : History (List Track)) (next after : ℕ) (tracks point : List Track)
-    → slice_get (points_of h) 0 ≡ Some tracks → DrawsPoint tracks [] next point after → after ≤ 2 ^ 62
-    → SoFar h (record {
-      points = (point, slice_index (map tag_of h.points) 0) ∷ [];
-      cursor = 0;
-      depth = h.depth;
-    }) 1 after
-first_one h next after tracks point here draws few =
-    let tag = slice_index (map tag_of h.points) 0 in
-    record {
-      same = ap (λ (ts : List Track). (ts, tag) ∷ []) draws.same
-          ∙ ap (map plain) (sym (take_some h.points 0 (tracks, tag) (tagged_at h.points 0 tracks here)));
-      depth = refl;
-      numbered = draws.numbered [] tt tt tt;
-      drawn = draws.drawn [] tt tt;
-      count = refl;
-      most = few;
-    }
+-- ---- a point that is recorded, and points that go
+
+module _ (P : List Track → Type 0) (less : (xs ys zs : List Track) → P (xs ++ (ys ++ zs)) → P (xs ++ zs))
+    (h : History (List Track)) where
+  recorded_all : ((xs ys zs : List Track) → P (xs ++ (ys ++ zs)) → P (ys ++ (xs ++ zs))) → IsHistory h
+      → (p : List Track) (tag : ℕ) → P (p ++ history_tracks h) → P (history_tracks (recorded h p tag))
+  recorded_all moved is p tag so = by (is_of_recording h tag)
+    where
+      all : P (p ++ (history_tracks h ++ []))
+      all = subst (λ (ts : List Track). P (p ++ ts)) (sym (append-nil (history_tracks h))) so
+
+      by : (again : Bool) → P (history_tracks (if again then amended h p else edited h p tag))
+      by true = subst P (append-nil (history_tracks (amended h p))) (so_amended h is p P less moved [] all)
+      by false = subst P (append-nil (history_tracks (edited h p tag))) (so_edited h is p P less moved [] all tag)
+
+  purged_all : (n : ℕ) → P (history_tracks h) → P (history_tracks (purged h n))
+  purged_all n so =
+      let ps = points_of h in
+      subst (λ (qs : List (List Track)). P (points_tracks qs)) (drop-map point_of n h.points)
+      (less [] (points_tracks (take n ps)) (points_tracks (drop n ps)) (subst P (points_split n ps) so))
+
+pub recorded_numbers : (h : History (List Track)) (next after tag : ℕ) (tracks current point : List Track) → IsHistory h
+    → IsNumbered h next → AreAmong current (history_tracks h) → DrawsPoint tracks current next point after
+    → IsNumbered (recorded h point tag) after
+recorded_numbers h next after tag tracks current point whole is among draws = record {
+  numbered = recorded_all AreNumbered numbered_without h numbered_swapped whole point tag
+      (numbered_so h next after tag tracks current point is among draws);
+  drawn = recorded_all (AreDrawn after) (drawn_without after) h (drawn_swapped after) whole point tag
+      (drawn_so h next after tag tracks current point is among draws);
+  least = omega (arith, is.least, draws.least);
+}
+
+pub purged_numbers : (h : History (List Track)) (next n : ℕ) → IsNumbered h next → IsNumbered (purged h n) next
+purged_numbers h next n is = record {
+  numbered = purged_all AreNumbered numbered_without h n is.numbered;
+  drawn = purged_all (AreDrawn next) (drawn_without next) h n is.drawn;
+  least = is.least;
+}

@@ -13,10 +13,10 @@ mod points;
 mod tally;
 
 pub use blocks::{drop_blocks, hold_blocks};
-pub use drawing::{Drawn, draw_numbers};
+pub use drawing::Drawn;
 pub use laws::{
     counts_of_layouts_name_the_same, new_numbers_agree, order_does_not_matter, shared_tracks_agree,
 };
-pub use numbering::{Numbered, number_points};
+pub use numbering::Numbered;
 pub use points::{count_amend, count_edit, count_points, count_purge};
 pub use tally::Tally;

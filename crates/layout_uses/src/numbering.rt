@@ -1,14 +1,13 @@
-// The layouts of a whole history that is taken over from a journal get their numbers.
-ghost use Rattle.std.specs.Prelude.{◌≡◌, ◌+◌, ◌≤◌, ◌<◌, ◌*◌, ◌++◌, ◌∷◌, [], ℕ, List, IfOk, OnOk, Some, length, map};
-ghost use Rattle.std.specs.Prelude.{slice_get, take};
+// A history whose layouts get their numbers as its points come.
+ghost use Rattle.std.specs.Prelude.{◌≡◌, ◌+◌, ◌≤◌, ◌<◌, ◌++◌, ◌∷◌, [], List, IfOk, OnOk, Some, length, map, slice_get};
 ghost use Rattle.pcm_base.specs.declared.limits.TheConstants.{COUNTER_LIMIT};
-ghost use Rattle.project_state.specs.Numbers.{unnumbered, unnumbered_history};
+ghost use Rattle.pcm_base.specs.History.{history_of_one, points_of, recorded};
+ghost use Rattle.project_state.specs.Numbers.{AreNewOrCurrent, AreUnnumbered, unnumbered, unnumbered_history};
 ghost use Rattle.project_state.specs.declared.track.Track.{Track};
-ghost use Rattle.layout_uses.specs.Drawing.{DrawsPoint};
-ghost use Rattle.layout_uses.specs.Layouts.{AreDrawn, AreNumbered, history_tracks};
+ghost use Rattle.layout_uses.specs.Drawing.{IsNumbered};
 
 use super::drawing::{Drawn, draw_numbers};
-use pcm_base::{COUNTER_LIMIT, MAX_TRACKS, NoMemory};
+use pcm_base::NoMemory;
 use project_state::Point;
 use std::alloc::Global;
 use undo_history::History;
@@ -20,75 +19,83 @@ pub struct Numbered {
     pub next: u64,
 }
 
-// A point by the one before it, where numbers are left for its tracks.
-fn draw_next(alloc: Global, tracks: &Point, current: &Point, next: u64) -> Result<Drawn, NoMemory>
-    requires { next ≤ COUNTER_LIMIT }
-    ensures draws { IfOk result (λ d. DrawsPoint tracks.now current.now next d.point d.next) }
-    ensures most { IfOk result (λ d. d.next ≤ COUNTER_LIMIT) }
-{
-    if next > COUNTER_LIMIT - MAX_TRACKS as u64 {
-        return Err(NoMemory);
+impl Numbered {
+    /// A history of one point, whose layouts get the numbers from 1 on.
+    ///
+    /// # Errors
+    ///
+    /// There is no memory for the point.
+    pub fn new(alloc: Global, point: &Point, tag: u64, depth: u32) -> Result<Numbered, NoMemory>
+        requires depth { 1 ≤ depth }
+        requires plain { AreUnnumbered point.now }
+        ensures same { IfOk result (λ n. unnumbered_history n.history.history ≡ history_of_one point.now tag depth) }
+        ensures numbered { IfOk result (λ n. IsNumbered n.history.history n.next) }
+        ensures most { IfOk result (λ n. n.next ≤ 1 + length point.now) }
+    {
+        let none = Point::new(alloc);
+        let Drawn { point, next } = draw_numbers(alloc, point, &none, 1)?;
+        match History::new(alloc, point, tag, depth) {
+            Ok(history) => Ok(Numbered { history, next }),
+            Err(_) => Err(NoMemory),
+        }
     }
-    let _few = tracks.len();
-    draw_numbers(alloc, tracks, current, next)
-}
 
-// A history of one point.
-fn first_point(
-    alloc: Global,
-    point: Point,
-    tag: u64,
-    depth: u32,
-) -> Result<History<Point>, NoMemory>
-    requires { 1 ≤ depth }
-    ensures { IfOk result (λ h. h.history ≡ record { points = (point, tag) ∷ []; cursor = 0; depth = depth }) }
-{
-    match History::new(alloc, point, tag, depth) {
-        Ok(history) => Ok(history),
-        Err(_) => Err(NoMemory),
+    /// Adds a point after all others, of which there are fewer than the depth. Its layouts get their numbers by the
+    /// point before it, as [`draw_numbers`] does. The current point stays.
+    ///
+    /// # Errors
+    ///
+    /// There is no memory for the point.
+    pub fn add_last(&mut self, alloc: Global, point: &Point, tag: u64) -> Result<(), NoMemory>
+        requires room { length self.old.history.history.points < self.old.history.history.depth }
+        requires next { self.old.next ≤ COUNTER_LIMIT }
+        requires numbered { IsNumbered self.old.history.history self.old.next }
+        requires plain { AreUnnumbered point.now }
+        ensures same { OnOk result (unnumbered_history self.new.history.history
+            ≡ record (unnumbered_history self.old.history.history) {
+              points = (unnumbered_history self.old.history.history).points ++ (point.now, tag) ∷ [];
+            }) }
+        ensures numbered { OnOk result (IsNumbered self.new.history.history self.new.next) }
+        ensures most { OnOk result (self.new.next ≤ self.old.next + length point.now) }
+    {
+        let last = self.history.len() - 1;
+        let before = self.history.point(last);
+        let Drawn { point, next } = draw_numbers(alloc, point, before, self.next)?;
+        match self.history.add_last(point, tag) {
+            Ok(()) => {
+                self.next = next;
+                Ok(())
+            }
+            Err(_) => Err(NoMemory),
+        }
     }
-}
 
-// Adds a point after all others.
-fn add_point(history: &mut History<Point>, point: Point, tag: u64) -> Result<(), NoMemory>
-    requires { length history.old.history.points < history.old.history.depth }
-    ensures { OnOk result (history.new.history
-        ≡ record history.old.history { points = history.old.history.points ++ (point, tag) ∷ [] }) }
-{
-    match history.add_last(point, tag) {
-        Ok(()) => Ok(()),
-        Err(_) => Err(NoMemory),
+    /// Records a point, as [`History::record`] does. Its layouts get their numbers by the current point, as
+    /// [`draw_numbers`] does. A track that has a number is the current one of its id.
+    ///
+    /// # Errors
+    ///
+    /// There is no memory for the point.
+    pub fn record(&mut self, alloc: Global, point: &Point, tag: u64) -> Result<(), NoMemory>
+        requires next { self.old.next ≤ COUNTER_LIMIT }
+        requires numbered { IsNumbered self.old.history.history self.old.next }
+        requires kept { (current : List Track)
+            → slice_get (points_of self.old.history.history) self.old.history.history.cursor ≡ Some current
+            → AreNewOrCurrent current point.now }
+        ensures same { OnOk result (unnumbered_history self.new.history.history
+            ≡ recorded (unnumbered_history self.old.history.history) (map unnumbered point.now) tag) }
+        ensures numbered { OnOk result (IsNumbered self.new.history.history self.new.next) }
+        ensures most { OnOk result (self.new.next ≤ self.old.next + length point.now) }
+    {
+        let cursor = self.history.cursor();
+        let current = self.history.point(cursor);
+        let Drawn { point, next } = draw_numbers(alloc, point, current, self.next)?;
+        match self.history.record(point, tag) {
+            Ok(()) => {
+                self.next = next;
+                Ok(())
+            }
+            Err(_) => Err(NoMemory),
+        }
     }
-}
-
-/// The history with numbers for its layouts: each point is numbered by the one before it, as [`draw_numbers`] does.
-///
-/// # Errors
-///
-/// There is no memory for the points, or no number is left for them.
-pub fn number_points(alloc: Global, history: &History<Point>) -> Result<Numbered, NoMemory>
-    ensures same { IfOk result (λ n. unnumbered_history n.history.history ≡ unnumbered_history history.now.history) }
-    ensures numbered { IfOk result (λ n. AreNumbered (history_tracks n.history.history)) }
-    ensures drawn { IfOk result (λ n. AreDrawn n.next (history_tracks n.history.history)) }
-    ensures most { IfOk result (λ n. n.next ≤ COUNTER_LIMIT) }
-{
-    let len = history.len();
-    let Drawn { point, next } = draw_next(alloc, history.point(0), &Point::new(alloc), 1)?;
-    let mut numbered = first_point(alloc, point, history.tag(0), history.depth())?;
-    let mut after = next;
-    for i in 1..len {
-        let Drawn { point, next } = draw_next(
-            alloc,
-            history.point(i),
-            numbered.point(i - 1),
-            after,
-        )?;
-        add_point(&mut numbered, point, history.tag(i))?;
-        after = next;
-    }
-    numbered.go_to(history.cursor());
-    Ok(Numbered {
-        history: numbered,
-        next: after,
-    })
 }

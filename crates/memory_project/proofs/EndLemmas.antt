@@ -14,8 +14,8 @@ use Rattle.pcm_base.specs.declared.refusal.Refusal.{Refusal}
 use Rattle.pcm_base.specs.Run.{Answers, CarriesOut, Step, followed, outside, result_of}
 use Rattle.pcm_base.specs.State.{State, new_state}
 use Rattle.pcm_base.specs.Studio.{Studio}
-use Rattle.editor_core.specs.Took.{silent}
-use Rattle.editor_core.proofs.Entries.{plain, plain_result}
+use Rattle.editor_state.specs.Took.{silent}
+use Rattle.editor_state.proofs.Calls.RunEntries.{plain, plain_result}
 use Rattle.model_laws.proofs.Answered.{answered_same}
 use Rattle.script_gen.specs.declared.kind.Kind.{Kind}
 use Rattle.script_gen.specs.declared.kind.Kind.TheVariants as kind
@@ -132,7 +132,7 @@ next_behind : (P Q : State → Type 0) (c : Command) (t mid : Studio) (r : Reply
 next_behind P Q c t mid r b goes done =
     subst (Behind Q)
     (sym (done.is ∙ answered_same (outside t silent) t.state (Line c) r done.answers goes.still
-    (followed (outside t silent) t (Line c) done.blocks done.len)))
+    (followed (outside t silent) t (Line c) done.blocks done.len done.layout)))
     (record { going = b.going; state = goes.next (outside t silent) t.state b.state })
 
 pub record IsAtEnd (t : Studio) : Type 0 where

@@ -20,15 +20,15 @@ use Rattle.disk_model.specs.Frames.{asked}
 use Rattle.disk_model.specs.Room.{Room, files_made, together}
 use Rattle.disk_model.specs.declared.store.Store.{Ghosts}
 use Rattle.envelope_view.specs.Answers.{IsUndamaged}
-use Rattle.editor_core.specs.Applied.{EndsAlike}
-use Rattle.editor_core.specs.Core.{Core}
-use Rattle.editor_core.specs.Left.{LeavesOthers, MayRemove}
-use Rattle.editor_core.specs.Packing.{packed_by, packs}
-use Rattle.editor_core.specs.Studios.{studio_of}
-use Rattle.editor_core.specs.Exchanges.{begun_in_vain, is_broken_off}
-use Rattle.editor_core.specs.Took.{Exchange, Took, asks, quietly, silent, told_by}
+use Rattle.editor_state.specs.Applied.{EndsAlike}
+use Rattle.editor_state.specs.Core.{Core}
+use Rattle.editor_state.specs.Left.{LeavesOthers, MayRemove}
+use Rattle.editor_state.specs.Packing.{packed_by, packs}
+use Rattle.editor_state.specs.Studios.{studio_of}
+use Rattle.editor_state.specs.Exchanges.{begun_in_vain, is_broken_off}
+use Rattle.editor_state.specs.Took.{Exchange, Took, asks, quietly, silent, told_by}
 use Rattle.model_laws.proofs.Answered.{carried_is}
-use Rattle.editor_core.proofs.Applying.{names_none as none_named}
+use Rattle.editor_state.proofs.Calls.VaultCalls.{names_none as none_named}
 use Rattle.memory_project.specs.Lines.{Asked, IsOfScript, MayCome, Went, line_room}
 use Rattle.memory_project.specs.Memory.{HasAsked, HasRoom, no_room}
 use Rattle.memory_project.proofs.FreshLemmas.{absent}

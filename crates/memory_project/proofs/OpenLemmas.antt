@@ -18,8 +18,8 @@ use Rattle.project_journal.proofs.Kept.{is_project}
 use Rattle.project_journal.proofs.Parses.{form_known}
 use Rattle.record_body.specs.Kept.{Keeps, Kept, new_project}
 use Rattle.record_body.proofs.KeptOnce.{keeps_once}
-use Rattle.editor_core.specs.Core.{Core, form_at}
-use Rattle.editor_core.specs.Studios.{IsDurable, IsHeld, IsStudio, clip_cells, pin_at, shown, studio_of}
+use Rattle.editor_state.specs.Core.{Core, form_at}
+use Rattle.editor_state.specs.Studios.{IsDurable, IsHeld, IsStudio, clip_cells, pin_at, shown, studio_of}
 use Rattle.sample_block.specs.Sources.{sources_of}
 use Rattle.editor_recovery.specs.declared.fault.OpenFault.{OpenFault}
 use Rattle.editor_recovery.specs.declared.fault.OpenFault.TheVariants as fault
@@ -29,7 +29,7 @@ use Rattle.editor_recovery.specs.Found.{Found, IsNew, found_by}
 use Rattle.editor_recovery.specs.Honest.{IsHonest, OpensHonest}
 use Rattle.editor_recovery.specs.Opening.{Finds, Opens}
 use Rattle.editor_recovery.proofs.Created.{new_stands}
-use Rattle.editor_recovery.proofs.Honest.{same_kept}
+use Rattle.editor_recovery.proofs.Honest.{same_kept, stands_once}
 use Rattle.memory_project.specs.declared.fresh.FreshProject.{FreshProject}
 use Rattle.memory_project.specs.Fresh.{CanBeMade, IsFresh, IsMade, found_of, left_behind, made_room}
 use Rattle.memory_project.specs.Memory.{HasAsked, HasRoom}
@@ -118,6 +118,16 @@ module _ {D : Type 0} (disk : Ghosts D) (p : FreshProject) (can : CanBeMade p) (
         made.there in
         sym at.place ∙ header_alone at.front p.rate p.block_size p.depth at.spelled
 
+    -- the journal has no place for a track, so no number of a layout was drawn
+    layout_is : start.next_layout ≡ 1
+    layout_is =
+        let one = stands_once (disk.reads store) finds.form (form_3 0) finds.log
+        (fresh p.rate p.block_size p.depth) finds.kept (new_project p.depth) finds.project.stands
+        (new_stands p.rate p.block_size p.depth (disk.reads store) made.there) in
+        let count : finds.log.base.count ≡ 1 = ap (λ (l : Log). l.base.count) one.log in
+        let header : finds.form.header_size ≡ 64 = ap (λ (f : Form). f.header_size) one.form in
+        omega (arith, finds.found.layouts_least, finds.found.layouts_few, end_is, count, header)
+
     -- the journal is that of version 3 in file 0, of no generation
     durable : IsDurable disk start
     durable = (to.held made.honest).durable to.new.stopped
@@ -169,6 +179,7 @@ module _ {D : Type 0} (disk : Ghosts D) (p : FreshProject) (can : CanBeMade p) (
       version = version_is i;
       generation = generation_is i;
       journal_end = end_is i;
+      next_layout = layout_is i;
       read_faults = room_is.reads i;
       change_faults = room_is.changes i;
     }

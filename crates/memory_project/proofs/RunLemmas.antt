@@ -5,8 +5,8 @@ use Rattle.pcm_base.specs.declared.command.Command.{Command}
 use Rattle.pcm_base.specs.declared.failed.NoMemory.{NoMemory}
 use Rattle.pcm_base.specs.Studio as model
 use Rattle.disk_model.specs.declared.store.Store.{Ghosts}
-use Rattle.editor_core.specs.Core.{Core}
-use Rattle.editor_core.specs.Studios.{studio_of}
+use Rattle.editor_state.specs.Core.{Core}
+use Rattle.editor_state.specs.Studios.{studio_of}
 use Rattle.script_gen.specs.Room.{EachNeedsAtMost, script_project}
 use Rattle.script_gen.specs.Script.{script_of}
 use Rattle.script_gen.specs.Validity.{AreAlwaysValid, AreValid}

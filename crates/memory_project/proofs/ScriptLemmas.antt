@@ -6,9 +6,9 @@ use Rattle.pcm_base.specs.Studio.{Studio}
 use Rattle.disk_model.specs.Frames.{asked}
 use Rattle.disk_model.specs.Room.{IsWithin, together}
 use Rattle.disk_model.specs.declared.store.Store.{Ghosts}
-use Rattle.editor_core.specs.Core.{Core}
-use Rattle.editor_core.specs.Studios.{studio_of}
-use Rattle.editor_core.specs.Took.{silent}
+use Rattle.editor_state.specs.Core.{Core}
+use Rattle.editor_state.specs.Studios.{studio_of}
+use Rattle.editor_state.specs.Took.{silent}
 use Rattle.model_laws.proofs.Answered.{carried_is}
 use Rattle.memory_project.specs.Lines.{AreCarriedOut, MayCome, MayRun, RanLines, Went, line_room, room_for}
 use Rattle.memory_project.specs.Memory.{no_room}

@@ -21,16 +21,16 @@ use Rattle.pcm_base.specs.Refusals.{◌otherwise◌, bad_columns, bad_range, cal
 use Rattle.pcm_base.specs.Refusals.{refused_if}
 use Rattle.pcm_base.specs.Run.{Answers, followed, name_in_line, outside, refusal_of, stop_of, stop_test}
 use Rattle.pcm_base.specs.Counters.{Needs, commits_needed, commits_of, counter_tests, generations_of, no_room}
-use Rattle.pcm_base.specs.Counters.{places_of, record_test, tracks_needed, tracks_of}
+use Rattle.pcm_base.specs.Counters.{places_of, record_test, tracks_needed, layouts_of, tracks_of}
 use Rattle.pcm_base.specs.State.{current}
 use Rattle.pcm_base.specs.Step.{line_of_track}
 use Rattle.pcm_base.specs.Studio.{Studio}
 use Rattle.disk_model.specs.declared.store.Store.{Ghosts}
 use Rattle.envelope_view.specs.Answers.{IsUndamaged}
-use Rattle.editor_core.specs.Core.{Core}
-use Rattle.editor_core.specs.Reads.{Looks}
-use Rattle.editor_core.specs.Studios.{studio_of}
-use Rattle.editor_core.specs.Took.{silent}
+use Rattle.editor_state.specs.Core.{Core}
+use Rattle.editor_state.specs.Reads.{Looks}
+use Rattle.editor_state.specs.Studios.{studio_of}
+use Rattle.editor_state.specs.Took.{silent}
 use Rattle.script_gen.proofs.Passing.{both-pass}
 use Rattle.model_laws.proofs.Answered.{answered_same, moves_of, no_generation}
 use Rattle.memory_project.specs.Sums.{HasOneTrack, Looked, MaySum, first_column, first_len, track_cells}
@@ -84,7 +84,7 @@ abbrev range_tests_in : ℕ → ℕ → Project → Option Refusal
 range_tests_in from to p =
     (refused_if (is_empty (tracks_from 1 p)) (refusal.NoTrack 1)) otherwise (bad_range from to (length (cells_at 1 p)))
 
--- a line that needs no block, no record and no number
+-- a line that needs no block, no record and no number, not of a layout either
 pub record IsLook (t : Studio) (c : Command) : Type 0 where
   pub names : name_in_line c ≡ None
   pub own : own_tests (outside t silent) t.state c ≡ None
@@ -92,6 +92,7 @@ pub record IsLook (t : Studio) (c : Command) : Type 0 where
   pub commits : commits_needed c ≡ 0
   pub places : places_of (Line c) 0 ≡ 0
   pub still : moves_of (Line c) ≡ 0
+  pub layouts : layouts_of (outside t silent) t.state (Line c) ≡ 0
   pub needs : (blocks len : ℕ) → Needs (outside t silent) t (Line c) blocks len → (blocks ≡ 0) × (len ≡ 0)
 
 module _ {D : Type 0} (disk : Ghosts D) (s : Core D) (may : MaySum disk s) where
@@ -107,24 +108,30 @@ module _ {D : Type 0} (disk : Ghosts D) (s : Core D) (may : MaySum disk s) where
         let commits = all.commit_most in
         let pins = all.pin_most in
         let end = all.end_most in
-        let last = may.studio.journal.generation_most in
+        let later = may.studio.journal.generation_most in
+        let last = may.studio.layouts in
         let tracks_none = look.tracks in
         let commits_none = look.commits in
         let places_none = look.places in
         let still = no_generation (Line c) look.still in
+        let layouts_none = look.layouts in
         let a = no_room t.next_block 0 in
         let b = no_room t.state.next_track (tracks_of (outside t silent) (Line c)) in
         let d = no_room t.state.commit (commits_of (Line c)) in
         let e = no_room t.state.next_pin 0 in
         let f = no_room t.journal_end (places_of (Line c) 0) in
         let g = no_room t.generation (generations_of (Line c)) in
-        both-pass a (b otherwise d otherwise e otherwise f otherwise g) (room_passes t.next_block 0 (omega arith))
-        (both-pass b (d otherwise e otherwise f otherwise g)
+        let h = no_room t.next_layout (layouts_of (outside t silent) t.state (Line c)) in
+        both-pass a (b otherwise d otherwise e otherwise f otherwise g otherwise h)
+        (room_passes t.next_block 0 (omega arith))
+        (both-pass b (d otherwise e otherwise f otherwise g otherwise h)
         (room_passes t.state.next_track (tracks_of (outside t silent) (Line c)) (omega arith))
-        (both-pass d (e otherwise f otherwise g) (room_passes t.state.commit (commits_of (Line c)) (omega arith))
-        (both-pass e (f otherwise g) (room_passes t.state.next_pin 0 (omega arith))
-        (both-pass f g (room_passes t.journal_end (places_of (Line c) 0) (omega arith))
-        (room_passes t.generation (generations_of (Line c)) (omega arith))))))
+        (both-pass d (e otherwise f otherwise g otherwise h)
+        (room_passes t.state.commit (commits_of (Line c)) (omega arith))
+        (both-pass e (f otherwise g otherwise h) (room_passes t.state.next_pin 0 (omega arith))
+        (both-pass f (g otherwise h) (room_passes t.journal_end (places_of (Line c) 0) (omega arith))
+        (both-pass g h (room_passes t.generation (generations_of (Line c)) (omega arith))
+        (room_passes t.next_layout (layouts_of (outside t silent) t.state (Line c)) (omega arith)))))))
 
     none_passes : refusal_of (outside t silent) t (Line c) 0 0 ≡ None
     none_passes =
@@ -160,6 +167,7 @@ module _ {D : Type 0} (disk : Ghosts D) (s : Core D) (may : MaySum disk s) where
     commits = refl;
     places = refl;
     still = refl;
+    layouts = refl;
     needs = λ blocks len needs. needs;
   }
 
@@ -191,6 +199,7 @@ module _ {D : Type 0} (disk : Ghosts D) (s : Core D) (may : MaySum disk s) where
       commits = refl;
       places = refl;
       still = refl;
+      layouts = refl;
       needs = λ blocks len needs. needs;
     }
 
@@ -204,13 +213,14 @@ module _ {D : Type 0} (disk : Ghosts D) (s : Core D) (may : MaySum disk s) where
         let step = looks.took.step may.held in
         let block : t.next_block + step.blocks ≡ t.next_block = let none = step.needs.0 in omega (arith, none) in
         let end : t.journal_end + 0 ≡ t.journal_end = omega arith in
+        let layout : step.layout ≡ t.next_layout = omega (arith, step.draws.0, step.draws.1) in
         record {
           studio = looks.took.studio;
           held = looks.took.held may.held;
           same = step.is
               ∙ answered_same (outside t silent) t.state (Line line) r step.answers refl
-              (followed (outside t silent) t (Line line) step.blocks step.len)
-              ∙ (λ i. record t { next_block = block i; journal_end = end i });
+              (followed (outside t silent) t (Line line) step.blocks step.len step.layout)
+              ∙ (λ i. record t { next_block = block i; journal_end = end i; next_layout = layout i });
           room = room_kept disk s.store new.store nothing_more looks.kept may.room;
           asked_none = asked_kept disk s.store new.store looks.kept;
         }

@@ -8,8 +8,8 @@ use Rattle.project_journal.specs.Gate.{EachNow}
 use Rattle.project_journal.specs.Header.{IsFormat, form_3}
 use Rattle.project_journal.specs.Journal as journal
 use Rattle.record_body.specs.Kept.{Keeps, Opened}
-use Rattle.editor_core.specs.Core.{Core}
-use Rattle.editor_core.specs.Studios.{IsHeld, IsStudio, studio_of}
+use Rattle.editor_state.specs.Core.{Core}
+use Rattle.editor_state.specs.Studios.{IsHeld, IsStudio, studio_of}
 use Rattle.editor_recovery.specs.Creating.{new_opened}
 use Rattle.editor_recovery.specs.Honest.{IsHonest}
 use Rattle.memory_project.specs.declared.fresh.FreshProject.{FreshProject}

@@ -14,10 +14,10 @@ use Rattle.disk_model.specs.Room.{Room, together}
 use Rattle.disk_model.specs.declared.store.Store.{Ghosts}
 use Rattle.sample_block.specs.Spelling.{size_of}
 use Rattle.envelope_view.specs.Answers.{IsUndamaged}
-use Rattle.editor_core.specs.Applied.{EndsAlike}
-use Rattle.editor_core.specs.Core.{Core}
-use Rattle.editor_core.specs.Studios.{IsHeld, IsStudio, studio_of}
-use Rattle.editor_core.specs.Took.{Took, quietly, silent}
+use Rattle.editor_state.specs.Applied.{EndsAlike}
+use Rattle.editor_state.specs.Core.{Core}
+use Rattle.editor_state.specs.Studios.{IsHeld, IsStudio, studio_of}
+use Rattle.editor_state.specs.Took.{Took, quietly, silent}
 use Rattle.script_gen.specs.Room.{EachNeedsAtMost, NeedsAtMost}
 use Rattle.script_gen.specs.Validity.{AreValid, IsValid}
 use Rattle.memory_project.specs.Memory.{HasAsked, HasRoom, no_room}

@@ -10,9 +10,9 @@ use Rattle.pcm_base.specs.Step.{new_track}
 use Rattle.pcm_base.specs.Studio.{Studio}
 use Rattle.disk_model.specs.Frames.{asked}
 use Rattle.disk_model.specs.declared.store.Store.{Ghosts}
-use Rattle.editor_core.specs.Core.{Core}
+use Rattle.editor_state.specs.Core.{Core}
 use Rattle.editor_core.specs.Facts.{AreBlocksOf}
-use Rattle.editor_core.specs.Studios.{IsHeld, IsStudio, studio_of}
+use Rattle.editor_state.specs.Studios.{IsHeld, IsStudio, studio_of}
 use Rattle.script_gen.specs.Room.{script_project}
 use Rattle.script_gen.specs.Script.{script_of}
 use Rattle.script_gen.specs.Validity.{HasRun}

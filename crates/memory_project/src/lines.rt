@@ -2,9 +2,9 @@
 ghost use Rattle.std.specs.Prelude.{◌≡◌, OnErr, OnOk};
 ghost use Rattle.pcm_base.specs.declared.command.Command.TheVariants.{Ramp};
 ghost use Rattle.pcm_base.specs.Form.{IsInForm, IsNumber};
-ghost use Rattle.editor_core.specs.Applied.{EndsAlike};
+ghost use Rattle.editor_state.specs.Applied.{EndsAlike};
 ghost use Rattle.editor_core.specs.Core.{core_of};
-ghost use Rattle.editor_core.specs.Studios.{IsStudio, studio_of};
+ghost use Rattle.editor_state.specs.Studios.{IsStudio, studio_of};
 ghost use Rattle.memory_project.specs.Lines.{Asked, IsOfScript, MayCome, Went};
 
 use disk_model::Store;

@@ -2,7 +2,7 @@
 ghost use Rattle.std.specs.Prelude.{◌≡◌, IfOk, OnOk, length};
 ghost use Rattle.pcm_base.specs.Envelope.{scan_of};
 ghost use Rattle.editor_core.specs.Core.{core_of};
-ghost use Rattle.editor_core.specs.Studios.{studio_of};
+ghost use Rattle.editor_state.specs.Studios.{studio_of};
 ghost use Rattle.memory_project.specs.Sums.{IsSumOf, Looked, MaySum, first_column, first_len, track_cells};
 
 use super::lines::want_of_memory;

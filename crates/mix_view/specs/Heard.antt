@@ -1,12 +1,10 @@
 -- Tracks of a point that are heard, in memory.
-use Rattle.std.specs.Prelude.{◌≡◌, ◌+◌, ℕ, List, [], ◌∷◌, if◌then◌else◌, Result, MatchResult}
-use Rattle.disk_model.specs.Disk.{Files}
-use Rattle.pcm_base.specs.declared.block.BlockRef.{BlockRef}
+use Rattle.std.specs.Prelude.{◌≡◌, ◌+◌, ℕ, List, [], ◌∷◌, if◌then◌else◌, Result, Ok, Err}
 use Rattle.pcm_base.specs.declared.refusal.Refusal.{Refusal}
 use Rattle.pcm_base.specs.declared.refusal.Refusal.TheVariants as refusal
 use Rattle.pcm_base.specs.declared.sound.Side.{Side}
+use Rattle.block_store.specs.declared.fault.BlockFault.{BlockFault}
 use Rattle.block_store.specs.declared.fault.BlockFault.TheVariants as block
-use Rattle.block_store.specs.Reads.{CountedBy, IsFaultIn}
 use Rattle.block_store.specs.Reasons.{reason_of}
 use Rattle.project_state.specs.declared.track.Track.{Track}
 use Rattle.mix_view.specs.declared.loads.LoadFault.{LoadFault}
@@ -27,10 +25,11 @@ heard_sides (t ∷ ts) = if t.mute then heard_sides ts else t.side ∷ heard_sid
 
 -- ---- why tracks are not loaded
 
--- a fault of a file is of one of some blocks
-abbrev pub IsLoadFault : Files → List BlockRef → LoadFault → Type 0
-IsLoadFault files bs (Block why) = IsFaultIn files bs why
-IsLoadFault files bs NoMemory = Unit {0}
+-- what the disk had to say: nothing is asked of it where there is no memory
+abbrev pub disk_part : {T : Type 0} → Result T LoadFault → Result (Unit {0}) BlockFault
+disk_part (Ok x) = Ok tt
+disk_part (Err (Block why)) = Err why
+disk_part (Err NoMemory) = Ok tt
 
 -- no file is at fault
 abbrev pub IsNoDamage : LoadFault → Type 0
@@ -41,11 +40,3 @@ IsNoDamage NoMemory = Unit {0}
 abbrev pub refusal_of : LoadFault → Refusal
 refusal_of (Block why) = reason_of why
 refusal_of NoMemory = refusal.NoMemory
-
--- the count of failed reads rises where the disk failed, and stays elsewhere
-abbrev pub LoadCountedBy : LoadFault → ℕ → ℕ → Type 0
-LoadCountedBy (Block why) old new = CountedBy why old new
-LoadCountedBy NoMemory old new = new ≡ old
-
-abbrev pub LoadCounted : {T : Type 0} → Result T LoadFault → ℕ → ℕ → Type 0
-LoadCounted result old new = MatchResult result (λ _. new ≡ old) (λ why. LoadCountedBy why old new)

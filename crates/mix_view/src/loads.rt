@@ -1,8 +1,6 @@
 // Stretches of the tracks of a point that are heard, loaded from any store.
 ghost use Rattle.std.specs.Prelude.{◌≡◌, ◌≤◌, ◌<◌, ◌+◌, ◌-◌, ◌*◌, ◌^◌, ◌++◌, ℕ, List, [], ◌∷◌, length, take, drop, min};
 ghost use Rattle.std.specs.Prelude.{Err, IsTrue, OnOk, IfOk, IfErr, false, if◌then◌else◌};
-ghost use Rattle.disk_model.specs.Frames.{Kept};
-ghost use Rattle.block_store.specs.Reads.{Counted, IsFaultIn};
 ghost use Rattle.clip_track.specs.Clips.{layout_blocks};
 ghost use Rattle.pcm_base.specs.declared.limits.TheConstants.{MAX_LOADED, MAX_TRACKS};
 ghost use Rattle.pcm_base.specs.Cells.{Project};
@@ -10,18 +8,17 @@ ghost use Rattle.pcm_base.specs.Mix.{mix_length, unmuted};
 ghost use Rattle.pcm_base.specs.Pieces.{Sources};
 ghost use Rattle.project_state.specs.Meaning.{meant, meant_track, point_blocks};
 ghost use Rattle.sample_block.specs.Sources.{sources_of, AllNamed, AllWhole};
-ghost use Rattle.block_cache.specs.Caches.{IsCacheOf, KeepsCache};
+ghost use Rattle.block_cache.specs.Readers.{Reads};
 ghost use Rattle.cell_view.specs.Stored.{stored_of};
 ghost use Rattle.mixdown.specs.Stretches.{AreStretches, IsStretch};
 ghost use Rattle.mixdown.specs.Loads.{IsLoaded, Shows};
 ghost use Rattle.mix_view.specs.declared.loads.LoadFault.TheVariants as fault;
-ghost use Rattle.mix_view.specs.Heard.{heard_count, heard_gains, heard_sides, refusal_of, IsLoadFault, IsNoDamage};
-ghost use Rattle.mix_view.specs.Heard.{LoadCounted};
+ghost use Rattle.mix_view.specs.Heard.{heard_count, heard_gains, heard_sides, refusal_of, disk_part, IsNoDamage};
 ghost use Rattle.mix_view.specs.Tracks.{mix_length_of};
 
 use super::passes::{TrackPass, read_track};
 use super::tracks::mix_len;
-use block_cache::Cache;
+use block_cache::BlockReader;
 use block_store::BlockFault;
 use cell_view::rest_at;
 use disk_model::Store;
@@ -67,8 +64,7 @@ impl From<LoadFault> for Refusal {
 
 /// Reads the cells of a track that is heard, from a place on, by a pass of its own.
 fn read_once<S: Store>(
-    store: &mut S,
-    cache: &mut Cache,
+    reader: &mut BlockReader<S>,
     track: &Track,
     from: u64,
     out: &mut [Cell],
@@ -76,25 +72,18 @@ fn read_once<S: Store>(
     requires heard { track.now.mute ≡ false }
     requires named { AllNamed (layout_blocks track.now.layout) }
     requires few { from + length out.old < 2 ^ 64 }
-    requires cached { IsTrue (S.tells store.old) → IsCacheOf (S.reads store.old) cache.old }
-    ensures cache { KeepsCache (S.tells store.old) (S.reads store.old) (layout_blocks track.now.layout) cache.old
-        cache.new }
-    ensures stored { IsTrue (S.tells store.old) → OnOk result
-        (IsStretch from (length out.old) (meant_track (stored_of (S.reads store.old)) track.now) out.new) }
-    ensures damaged { IsTrue (S.tells store.old)
-        → IfErr result (λ e. IsFaultIn (S.reads store.old) (layout_blocks track.now.layout) e) }
-    ensures kept { Kept S.Store store.old store.new }
-    ensures faults { Counted result (S.read_fault_count store.old) (S.read_fault_count store.new) }
+    ensures reads { Reads (layout_blocks track.now.layout) reader.old reader.new result }
+    ensures stored { IsTrue (S.tells reader.old.store) → OnOk result
+        (IsStretch from (length out.old) (meant_track (stored_of (S.reads reader.old.store)) track.now) out.new) }
 {
     let rest = rest_at(&track.layout, from);
     let mut left = TrackPass { rest };
-    read_track(store, cache, &mut left, track, from, out)
+    read_track(reader, &mut left, track, from, out)
 }
 
 /// Reads a track before those that stand from `end` on, unless it is muted, and answers where the tracks begin then.
 fn read_before<S: Store>(
-    store: &mut S,
-    cache: &mut Cache,
+    reader: &mut BlockReader<S>,
     track: &Track,
     from: u64,
     len: usize,
@@ -105,31 +94,24 @@ fn read_before<S: Store>(
     requires room { (if track.now.mute then 0 else 1) * len ≤ end }
     requires within { end ≤ length cells.old }
     requires few { from + len < 2 ^ 64 }
-    requires cached { IsTrue (S.tells store.old) → IsCacheOf (S.reads store.old) cache.old }
-    ensures cache { KeepsCache (S.tells store.old) (S.reads store.old) (layout_blocks track.now.layout) cache.old
-        cache.new }
+    ensures reads { Reads (layout_blocks track.now.layout) reader.old reader.new result }
     ensures place { IfOk result (λ at. at + (if track.now.mute then 0 else 1) * len ≡ end) }
-    ensures stored { IsTrue (S.tells store.old) → (ts : Project)
+    ensures stored { IsTrue (S.tells reader.old.store) → (ts : Project)
         → AreStretches from len (unmuted ts) (drop end cells.old)
         → IfOk result (λ at. AreStretches from len
-        (unmuted (meant_track (stored_of (S.reads store.old)) track.now ∷ ts)) (drop at cells.new)) }
-    ensures damaged { IsTrue (S.tells store.old)
-        → IfErr result (λ e. IsFaultIn (S.reads store.old) (layout_blocks track.now.layout) e) }
-    ensures kept { Kept S.Store store.old store.new }
-    ensures faults { Counted result (S.read_fault_count store.old) (S.read_fault_count store.new) }
+        (unmuted (meant_track (stored_of (S.reads reader.old.store)) track.now ∷ ts)) (drop at cells.new)) }
 {
     if track.mute {
         return Ok(end);
     }
     let at = end - len;
-    read_once(store, cache, track, from, &mut cells[at..end])?;
+    read_once(reader, track, from, &mut cells[at..end])?;
     Ok(at)
 }
 
 /// Reads a stretch of `len` cells of each track that is heard from a place on, one after the other.
 fn read_heard<S: Store>(
-    store: &mut S,
-    cache: &mut Cache,
+    reader: &mut BlockReader<S>,
     point: &Point,
     from: u64,
     len: usize,
@@ -138,21 +120,16 @@ fn read_heard<S: Store>(
     requires named { AllNamed (point_blocks point.now) }
     requires room { length cells.old ≡ heard_count point.now * len }
     requires few { from + len < 2 ^ 64 }
-    requires cached { IsTrue (S.tells store.old) → IsCacheOf (S.reads store.old) cache.old }
-    ensures cache { KeepsCache (S.tells store.old) (S.reads store.old) (point_blocks point.now) cache.old cache.new }
-    ensures stored { IsTrue (S.tells store.old) → OnOk result
-        (AreStretches from len (unmuted (meant (stored_of (S.reads store.old)) point.now)) cells.new) }
-    ensures damaged { IsTrue (S.tells store.old)
-        → IfErr result (λ e. IsFaultIn (S.reads store.old) (point_blocks point.now) e) }
-    ensures kept { Kept S.Store store.old store.new }
-    ensures faults { Counted result (S.read_fault_count store.old) (S.read_fault_count store.new) }
+    ensures reads { Reads (point_blocks point.now) reader.old reader.new result }
+    ensures stored { IsTrue (S.tells reader.old.store) → OnOk result
+        (AreStretches from len (unmuted (meant (stored_of (S.reads reader.old.store)) point.now)) cells.new) }
 {
     let mut end = cells.len();
     let mut i = point.len();
     'rows: while 0 < i {
         i -= 1;
         let track = point.track_at(i);
-        match read_before(store, cache, track, from, len, end, cells) {
+        match read_before(reader, track, from, len, end, cells) {
             Ok(at) => end = at,
             Err(fault) => return Err(fault),
         }
@@ -162,8 +139,7 @@ fn read_heard<S: Store>(
 
 /// The same into the first cells of a buffer.
 fn read_front<S: Store>(
-    store: &mut S,
-    cache: &mut Cache,
+    reader: &mut BlockReader<S>,
     point: &Point,
     from: u64,
     len: usize,
@@ -174,16 +150,11 @@ fn read_front<S: Store>(
     requires room { room ≡ heard_count point.now * len }
     requires within { room ≤ length cells.old }
     requires few { from + len < 2 ^ 64 }
-    requires cached { IsTrue (S.tells store.old) → IsCacheOf (S.reads store.old) cache.old }
-    ensures cache { KeepsCache (S.tells store.old) (S.reads store.old) (point_blocks point.now) cache.old cache.new }
-    ensures stored { IsTrue (S.tells store.old) → OnOk result
-        (AreStretches from len (unmuted (meant (stored_of (S.reads store.old)) point.now)) (take room cells.new)) }
-    ensures damaged { IsTrue (S.tells store.old)
-        → IfErr result (λ e. IsFaultIn (S.reads store.old) (point_blocks point.now) e) }
-    ensures kept { Kept S.Store store.old store.new }
-    ensures faults { Counted result (S.read_fault_count store.old) (S.read_fault_count store.new) }
+    ensures reads { Reads (point_blocks point.now) reader.old reader.new result }
+    ensures stored { IsTrue (S.tells reader.old.store) → OnOk result (AreStretches from len
+        (unmuted (meant (stored_of (S.reads reader.old.store)) point.now)) (take room cells.new)) }
 {
-    read_heard(store, cache, point, from, len, &mut cells[..room])
+    read_heard(reader, point, from, len, &mut cells[..room])
 }
 
 /// Puts the gain and the side of a track after others, unless it is muted.
@@ -239,8 +210,7 @@ fn make_ready(point: &Point, count: usize, loaded: &mut Loaded) -> Result<(), No
 
 /// Reads the cells of the tracks that are listed, from a place on.
 fn fill<S: Store>(
-    store: &mut S,
-    cache: &mut Cache,
+    reader: &mut BlockReader<S>,
     point: &Point,
     from: u64,
     loaded: &mut Loaded,
@@ -250,37 +220,23 @@ fn fill<S: Store>(
     requires loaded { IsLoaded loaded.old }
     requires gains { loaded.old.gains.items ≡ heard_gains point.now }
     requires sides { loaded.old.sides.items ≡ heard_sides point.now }
-    requires cached { IsTrue (S.tells store.old) → IsCacheOf (S.reads store.old) cache.old }
-    ensures cache { KeepsCache (S.tells store.old) (S.reads store.old) (point_blocks point.now) cache.old cache.new }
+    ensures reads { Reads (point_blocks point.now) reader.old reader.new result }
     ensures loaded { IsLoaded loaded.new }
     ensures len { loaded.new.len ≡ loaded.old.len }
     ensures gains { loaded.new.gains.items ≡ loaded.old.gains.items }
-    ensures stored { IsTrue (S.tells store.old) → OnOk result
-        (Shows from (meant (stored_of (S.reads store.old)) point.now) loaded.new) }
-    ensures damaged { IsTrue (S.tells store.old)
-        → IfErr result (λ e. IsFaultIn (S.reads store.old) (point_blocks point.now) e) }
-    ensures kept { Kept S.Store store.old store.new }
-    ensures faults { Counted result (S.read_fault_count store.old) (S.read_fault_count store.new) }
+    ensures stored { IsTrue (S.tells reader.old.store) → OnOk result
+        (Shows from (meant (stored_of (S.reads reader.old.store)) point.now) loaded.new) }
 {
     let room = loaded.gains.len() * loaded.len;
     let len = loaded.len;
-    read_front(
-        store,
-        cache,
-        point,
-        from,
-        len,
-        room,
-        loaded.cells.as_mut_slice(),
-    )
+    read_front(reader, point, from, len, room, loaded.cells.as_mut_slice())
 }
 
 /// Loads the cells of the tracks that are heard, with their gains and sides, from a place on: as many frames as there
 /// are, up to `n`. It answers how many. All memory is asked for before the disk is. After an error what is loaded may
 /// have been replaced in part.
 pub fn load_stretch<S: Store>(
-    store: &mut S,
-    cache: &mut Cache,
+    reader: &mut BlockReader<S>,
     point: &Point,
     from: u64,
     n: usize,
@@ -289,31 +245,27 @@ pub fn load_stretch<S: Store>(
     requires named { AllNamed (point_blocks point.now) }
     requires most { n ≤ MAX_LOADED }
     requires few { from + n < 2 ^ 64 }
-    requires cached { IsTrue (S.tells store.old) → IsCacheOf (S.reads store.old) cache.old }
-    ensures cache { KeepsCache (S.tells store.old) (S.reads store.old) (point_blocks point.now) cache.old cache.new }
+    ensures reads { Reads (point_blocks point.now) reader.old reader.new (disk_part result) }
     ensures count { IfOk result (λ k. k ≡ min n (mix_length_of point.now - from)) }
     ensures length { (src : Sources) → mix_length (meant src point.now) ≡ mix_length_of point.now }
     ensures len { IfOk result (λ k. loaded.new.len ≡ k) }
     ensures loaded { OnOk result (IsLoaded loaded.new) }
     ensures gains { OnOk result (loaded.new.gains.items ≡ heard_gains point.now) }
     // It shows what stands in the files of the blocks, and where the disk has all blocks what the tracks mean.
-    ensures stored { IsTrue (S.tells store.old) → OnOk result
-        (Shows from (meant (stored_of (S.reads store.old)) point.now) loaded.new) }
-    ensures read { IsTrue (S.tells store.old) → AllWhole (S.reads store.old) (point_blocks point.now)
-        → OnOk result (Shows from (meant (sources_of (S.reads store.old)) point.now) loaded.new) }
-    // Where the disk has all blocks no file is at fault; a fault of a file is of one of them.
-    ensures sound { IsTrue (S.tells store.old) → AllWhole (S.reads store.old) (point_blocks point.now)
+    ensures stored { IsTrue (S.tells reader.old.store) → OnOk result
+        (Shows from (meant (stored_of (S.reads reader.old.store)) point.now) loaded.new) }
+    ensures read { IsTrue (S.tells reader.old.store) → AllWhole (S.reads reader.old.store) (point_blocks point.now)
+        → OnOk result (Shows from (meant (sources_of (S.reads reader.old.store)) point.now) loaded.new) }
+    // Where the disk has all blocks no file is at fault.
+    ensures sound { IsTrue (S.tells reader.old.store) → AllWhole (S.reads reader.old.store) (point_blocks point.now)
         → IfErr result (λ e. IsNoDamage e) }
-    ensures damaged { IsTrue (S.tells store.old)
-        → IfErr result (λ e. IsLoadFault (S.reads store.old) (point_blocks point.now) e) }
     // Memory is asked for before the disk is.
-    ensures memory { result ≡ Err fault.NoMemory → (store.new ≡ store.old) × (cache.new ≡ cache.old) }
-    ensures kept { Kept S.Store store.old store.new }
-    ensures faults { LoadCounted result (S.read_fault_count store.old) (S.read_fault_count store.new) }
+    ensures memory { result ≡ Err fault.NoMemory
+        → (reader.new.store ≡ reader.old.store) × (reader.new.cache ≡ reader.old.cache) }
 {
     let left = mix_len(point).saturating_sub(from);
     let count = (n as u64).min(left) as usize;
     make_ready(point, count, loaded)?;
-    fill(store, cache, point, from, loaded)?;
+    fill(reader, point, from, loaded)?;
     Ok(count)
 }

@@ -1,17 +1,15 @@
 // A pass over one track, a stretch at a time.
-ghost use Rattle.std.specs.Prelude.{◌≡◌, ◌<◌, ◌+◌, ◌^◌, false, length, IsTrue, OnOk, IfErr};
-ghost use Rattle.disk_model.specs.Frames.{Kept};
-ghost use Rattle.block_store.specs.Reads.{Counted, IsFaultIn};
+ghost use Rattle.std.specs.Prelude.{◌≡◌, ◌<◌, ◌+◌, ◌^◌, false, length, IsTrue, OnOk};
 ghost use Rattle.clip_track.specs.Clips.{layout_blocks};
 ghost use Rattle.project_state.specs.Meaning.{meant_track, point_blocks};
 ghost use Rattle.sample_block.specs.Sources.{AllNamed};
-ghost use Rattle.block_cache.specs.Caches.{IsCacheOf, KeepsCache};
+ghost use Rattle.block_cache.specs.Readers.{Reads};
 ghost use Rattle.cell_view.specs.Rests.{IsRestOf};
 ghost use Rattle.cell_view.specs.Stored.{stored_of};
 ghost use Rattle.mixdown.specs.Stretches.{IsStretch};
 ghost use Rattle.mix_view.specs.Readers.{AreRestsOf};
 
-use block_cache::Cache;
+use block_cache::BlockReader;
 use block_store::BlockFault;
 use cell_view::{TrackRest, no_rest, pass, read_ahead, rest_at};
 use disk_model::Store;
@@ -42,8 +40,7 @@ pub(crate) fn passes_from<'a>(point: &'a Point, from: u64) -> [TrackPass<'a>; MA
 
 /// Reads the cells of a track that is heard, from a place on.
 pub(crate) fn read_track<'a, S: Store>(
-    store: &mut S,
-    cache: &mut Cache,
+    reader: &mut BlockReader<S>,
     left: &mut TrackPass<'a>,
     track: &Track,
     from: u64,
@@ -51,19 +48,13 @@ pub(crate) fn read_track<'a, S: Store>(
 ) -> Result<(), BlockFault>
     requires heard { track.now.mute ≡ false }
     requires rest { IsRestOf from track.now.layout left.old.rest }
-    requires cached { IsTrue (S.tells store.old) → IsCacheOf (S.reads store.old) cache.old }
     requires few { from + length out.old < 2 ^ 64 }
     ensures rest { IsRestOf from track.now.layout left.new.rest }
-    ensures cache { KeepsCache (S.tells store.old) (S.reads store.old) (layout_blocks track.now.layout) cache.old
-        cache.new }
-    ensures stored { IsTrue (S.tells store.old) → OnOk result
-        (IsStretch from (length out.old) (meant_track (stored_of (S.reads store.old)) track.now) out.new) }
-    ensures damaged { IsTrue (S.tells store.old)
-        → IfErr result (λ e. IsFaultIn (S.reads store.old) (layout_blocks track.now.layout) e) }
-    ensures kept { Kept S.Store store.old store.new }
-    ensures faults { Counted result (S.read_fault_count store.old) (S.read_fault_count store.new) }
+    ensures reads { Reads (layout_blocks track.now.layout) reader.old reader.new result }
+    ensures stored { IsTrue (S.tells reader.old.store) → OnOk result
+        (IsStretch from (length out.old) (meant_track (stored_of (S.reads reader.old.store)) track.now) out.new) }
 {
     let rest = pass(left.rest, from);
     left.rest = rest;
-    read_ahead(store, cache, &track.layout, &rest, from, out)
+    read_ahead(reader, &track.layout, &rest, from, out)
 }

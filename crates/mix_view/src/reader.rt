@@ -1,20 +1,17 @@
 // A reader of a mix, which lasts over several calls.
 ghost use Rattle.std.specs.Prelude.{◌≡◌, ◌≤◌, ◌<◌, ◌+◌, ◌-◌, ◌^◌, length, take, drop, min, IsTrue, IsOkUnless, IfOk};
-ghost use Rattle.std.specs.Prelude.{IfErr};
 ghost use Rattle.block_store.specs.declared.fault.BlockFault.TheVariants as fault;
-ghost use Rattle.disk_model.specs.Frames.{Kept};
-ghost use Rattle.block_store.specs.Reads.{Counted, IsFaultIn};
 ghost use Rattle.pcm_base.specs.Mix.{mix_of};
 ghost use Rattle.project_state.specs.Meaning.{meant, point_blocks};
 ghost use Rattle.sample_block.specs.Sources.{sources_of, AllNamed, AllWhole};
-ghost use Rattle.block_cache.specs.Caches.{IsCacheOf, KeepsCache};
+ghost use Rattle.block_cache.specs.Readers.{Reads};
 ghost use Rattle.mix_view.specs.Readers.{IsReader};
 ghost use Rattle.mix_view.specs.Tracks.{mix_length_of, stored_mix};
 
 use super::frames::mix_stretches;
 use super::passes::{TrackPass, passes_from};
 use super::tracks::{Heard, heard_of, mix_len};
-use block_cache::Cache;
+use block_cache::BlockReader;
 use block_store::BlockFault;
 use disk_model::Store;
 use pcm_base::{Cell, Frame, MAX_TRACKS};
@@ -56,13 +53,11 @@ impl<'a> MixReader<'a> {
     /// written in part, and the reader may have gone on over a part of the frames.
     pub fn read<S: Store>(
         &mut self,
-        store: &mut S,
-        cache: &mut Cache,
+        reader: &mut BlockReader<S>,
         cells: &mut [Cell],
         out: &mut [Frame],
     ) -> Result<usize, BlockFault>
         requires reader { IsReader self.old }
-        requires cached { IsTrue (S.tells store.old) → IsCacheOf (S.reads store.old) cache.old }
         requires room { MAX_TRACKS ≤ length cells.old }
         requires few { self.old.at + length out.old < 2 ^ 64 }
         ensures count { IfOk result (λ n. n ≡ min (length out.old) (mix_length_of self.old.point.now - self.old.at)) }
@@ -71,27 +66,24 @@ impl<'a> MixReader<'a> {
         ensures reader { IsReader self.new }
         ensures point { self.new.point.now ≡ self.old.point.now }
         ensures later { self.old.at ≤ self.new.at }
-        ensures cache { KeepsCache (S.tells store.old) (S.reads store.old) (point_blocks self.old.point.now) cache.old
-            cache.new }
+        ensures reads { Reads (point_blocks self.old.point.now) reader.old reader.new result }
         // They are the mix of what stands in the files of the blocks, and where the disk has all blocks that of the
         // model.
-        ensures stored { IsTrue (S.tells store.old) → IfOk result (λ n. take n out.new
-            ≡ take n (drop self.old.at (stored_mix (S.reads store.old) self.old.point.now))) }
-        ensures read { IsTrue (S.tells store.old) → AllWhole (S.reads store.old) (point_blocks self.old.point.now)
+        ensures stored { IsTrue (S.tells reader.old.store) → IfOk result (λ n. take n out.new
+            ≡ take n (drop self.old.at (stored_mix (S.reads reader.old.store) self.old.point.now))) }
+        ensures read { IsTrue (S.tells reader.old.store)
+            → AllWhole (S.reads reader.old.store) (point_blocks self.old.point.now)
             → IfOk result (λ n. take n out.new
-            ≡ take n (drop self.old.at (mix_of (meant (sources_of (S.reads store.old)) self.old.point.now)))) }
+            ≡ take n (drop self.old.at (mix_of (meant (sources_of (S.reads reader.old.store)) self.old.point.now)))) }
         ensures rest { IfOk result (λ n. drop n out.new ≡ drop n out.old) }
-        // Where the disk has all blocks nothing but the disk refuses; a fault of a file is of one of them.
-        ensures sound { IsTrue (S.tells store.old) → AllWhole (S.reads store.old) (point_blocks self.old.point.now)
+        // Where the disk has all blocks nothing but the disk refuses.
+        ensures sound { IsTrue (S.tells reader.old.store)
+            → AllWhole (S.reads reader.old.store) (point_blocks self.old.point.now)
             → IsOkUnless result fault.DiskFault }
-        ensures damaged { IsTrue (S.tells store.old)
-            → IfErr result (λ e. IsFaultIn (S.reads store.old) (point_blocks self.old.point.now) e) }
-        ensures kept { Kept S.Store store.old store.new }
-        ensures faults { Counted result (S.read_fault_count store.old) (S.read_fault_count store.new) }
     {
         let left = mix_len(self.point).saturating_sub(self.at);
         let count = (out.len() as u64).min(left) as usize;
-        mix_stretches(store, cache, self, cells, &mut out[..count])?;
+        mix_stretches(reader, self, cells, &mut out[..count])?;
         Ok(count)
     }
 }

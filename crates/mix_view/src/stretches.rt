@@ -1,12 +1,10 @@
 // Stretches of a point's tracks, and their mix.
-ghost use Rattle.std.specs.Prelude.{◌≡◌, ◌≤◌, ◌<◌, ◌+◌, ◌*◌, ◌^◌, ℕ, length, take, map, IsTrue, OnOk, IfErr};
-ghost use Rattle.disk_model.specs.Frames.{Kept};
-ghost use Rattle.block_store.specs.Reads.{Counted, IsFaultIn};
+ghost use Rattle.std.specs.Prelude.{◌≡◌, ◌≤◌, ◌<◌, ◌+◌, ◌*◌, ◌^◌, ℕ, length, take, map, IsTrue, OnOk};
 ghost use Rattle.pcm_base.specs.Arithmetic.{counted_from};
 ghost use Rattle.pcm_base.specs.Mix.{frame_at, unmuted};
 ghost use Rattle.pcm_base.specs.Pieces.{Sources};
 ghost use Rattle.project_state.specs.Meaning.{meant, point_blocks};
-ghost use Rattle.block_cache.specs.Caches.{IsCacheOf, KeepsCache};
+ghost use Rattle.block_cache.specs.Readers.{Reads};
 ghost use Rattle.cell_view.specs.Stored.{stored_of};
 ghost use Rattle.mixdown.specs.Stretches.{AreStretches};
 ghost use Rattle.mix_view.specs.Readers.{AreHeard, AreRestsOf, IsReader};
@@ -14,7 +12,7 @@ ghost use Rattle.mix_view.specs.Tracks.{heard_tracks};
 
 use super::passes::{TrackPass, read_track};
 use super::reader::MixReader;
-use block_cache::Cache;
+use block_cache::BlockReader;
 use block_store::BlockFault;
 use disk_model::Store;
 use mixdown::mix_into;
@@ -23,8 +21,7 @@ use project_state::Point;
 
 /// Reads a stretch of `len` cells of each track that is heard, from a place on, one after the other.
 fn read_stretches<'a, S: Store>(
-    store: &mut S,
-    cache: &mut Cache,
+    reader: &mut BlockReader<S>,
     point: &Point,
     passes: &mut [TrackPass<'a>],
     from: u64,
@@ -32,18 +29,13 @@ fn read_stretches<'a, S: Store>(
     cells: &mut [Cell],
 ) -> Result<(), BlockFault>
     requires rests { AreRestsOf from point.now passes.old }
-    requires cached { IsTrue (S.tells store.old) → IsCacheOf (S.reads store.old) cache.old }
     requires tracks { length point.now ≤ length passes.old }
     requires room { length cells.old ≡ length (heard_tracks point.now) * len }
     requires few { from + len < 2 ^ 64 }
     ensures rests { AreRestsOf from point.now passes.new }
-    ensures cache { KeepsCache (S.tells store.old) (S.reads store.old) (point_blocks point.now) cache.old cache.new }
-    ensures stored { IsTrue (S.tells store.old)
-        → OnOk result (AreStretches from len (unmuted (meant (stored_of (S.reads store.old)) point.now)) cells.new) }
-    ensures damaged { IsTrue (S.tells store.old)
-        → IfErr result (λ e. IsFaultIn (S.reads store.old) (point_blocks point.now) e) }
-    ensures kept { Kept S.Store store.old store.new }
-    ensures faults { Counted result (S.read_fault_count store.old) (S.read_fault_count store.new) }
+    ensures reads { Reads (point_blocks point.now) reader.old reader.new result }
+    ensures stored { IsTrue (S.tells reader.old.store) → OnOk result (AreStretches from len
+        (unmuted (meant (stored_of (S.reads reader.old.store)) point.now)) cells.new) }
 {
     let mut i = point.len();
     let mut at = cells.len();
@@ -55,8 +47,7 @@ fn read_stretches<'a, S: Store>(
         }
         at -= len;
         if let Err(fault) = read_track(
-            store,
-            cache,
+            reader,
             &mut passes[i],
             track,
             from,
@@ -69,14 +60,14 @@ fn read_stretches<'a, S: Store>(
 }
 
 /// Mixes stretches of a reader's tracks, under their gains and on their sides.
-fn mix_cells(reader: &MixReader<'_>, cells: &[Cell], out: &mut [Frame])
-    requires heard { AreHeard reader.now.point.now reader.now.heard }
-    requires room { length cells.now ≡ length (heard_tracks reader.now.point.now) * length out.old }
+fn mix_cells(mix: &MixReader<'_>, cells: &[Cell], out: &mut [Frame])
+    requires heard { AreHeard mix.now.point.now mix.now.heard }
+    requires room { length cells.now ≡ length (heard_tracks mix.now.point.now) * length out.old }
     ensures { (src : Sources) (from : ℕ)
-        → AreStretches from (length out.old) (unmuted (meant src reader.now.point.now)) cells.now
-        → out.new ≡ map (frame_at (meant src reader.now.point.now)) (counted_from from (length out.old)) }
+        → AreStretches from (length out.old) (unmuted (meant src mix.now.point.now)) cells.now
+        → out.new ≡ map (frame_at (meant src mix.now.point.now)) (counted_from from (length out.old)) }
 {
-    let heard = &reader.heard;
+    let heard = &mix.heard;
     mix_into(
         cells,
         &heard.gains[..heard.count],
@@ -87,41 +78,26 @@ fn mix_cells(reader: &MixReader<'_>, cells: &[Cell], out: &mut [Frame])
 
 /// Mixes the next frames of a reader. The buffer has a stretch for each track that is heard, as long as the frames.
 pub(crate) fn mix_stretch<'a, S: Store>(
-    store: &mut S,
-    cache: &mut Cache,
-    reader: &mut MixReader<'a>,
+    reader: &mut BlockReader<S>,
+    mix: &mut MixReader<'a>,
     cells: &mut [Cell],
     out: &mut [Frame],
 ) -> Result<(), BlockFault>
-    requires reader { IsReader reader.old }
-    requires cached { IsTrue (S.tells store.old) → IsCacheOf (S.reads store.old) cache.old }
-    requires room { length cells.old ≡ length (heard_tracks reader.old.point.now) * length out.old }
-    requires few { reader.old.at + length out.old < 2 ^ 64 }
-    ensures reader { IsReader reader.new }
-    ensures cache { KeepsCache (S.tells store.old) (S.reads store.old) (point_blocks reader.old.point.now) cache.old
-        cache.new }
-    ensures point { reader.new.point.now ≡ reader.old.point.now }
-    ensures place { OnOk result (reader.new.at ≡ reader.old.at + length out.old) }
-    ensures later { reader.old.at ≤ reader.new.at }
-    ensures stored { IsTrue (S.tells store.old)
-        → OnOk result (out.new ≡ map (frame_at (meant (stored_of (S.reads store.old)) reader.old.point.now))
-        (counted_from reader.old.at (length out.old))) }
-    ensures damaged { IsTrue (S.tells store.old)
-        → IfErr result (λ e. IsFaultIn (S.reads store.old) (point_blocks reader.old.point.now) e) }
-    ensures kept { Kept S.Store store.old store.new }
-    ensures faults { Counted result (S.read_fault_count store.old) (S.read_fault_count store.new) }
+    requires reader { IsReader mix.old }
+    requires room { length cells.old ≡ length (heard_tracks mix.old.point.now) * length out.old }
+    requires few { mix.old.at + length out.old < 2 ^ 64 }
+    ensures reader { IsReader mix.new }
+    ensures reads { Reads (point_blocks mix.old.point.now) reader.old reader.new result }
+    ensures point { mix.new.point.now ≡ mix.old.point.now }
+    ensures place { OnOk result (mix.new.at ≡ mix.old.at + length out.old) }
+    ensures later { mix.old.at ≤ mix.new.at }
+    ensures stored { IsTrue (S.tells reader.old.store)
+        → OnOk result (out.new ≡ map (frame_at (meant (stored_of (S.reads reader.old.store)) mix.old.point.now))
+        (counted_from mix.old.at (length out.old))) }
 {
-    let at = reader.at;
-    read_stretches(
-        store,
-        cache,
-        reader.point,
-        &mut reader.passes,
-        at,
-        out.len(),
-        cells,
-    )?;
-    mix_cells(reader, cells, out);
-    reader.at = at + out.len() as u64;
+    let at = mix.at;
+    read_stretches(reader, mix.point, &mut mix.passes, at, out.len(), cells)?;
+    mix_cells(mix, cells, out);
+    mix.at = at + out.len() as u64;
     Ok(())
 }

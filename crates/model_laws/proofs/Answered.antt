@@ -78,14 +78,14 @@ answered_is (reply.Refused why) t = refl
 
 -- so a call that is carried out leaves what it leads to, but for the history and the journal
 pub carried_is : (t u : Studio) (c : Call) (sound : SoundMove) (r : Reply) (h : CarriesOut t c sound r u) →
-    u ≡ record (followed (outside t sound) t c h.blocks h.len) {
-      state = (answered r (followed (outside t sound) t c h.blocks h.len)).state;
-      file = (answered r (followed (outside t sound) t c h.blocks h.len)).file;
-      version = (answered r (followed (outside t sound) t c h.blocks h.len)).version;
-      generation = (answered r (followed (outside t sound) t c h.blocks h.len)).generation;
-      journal_end = (answered r (followed (outside t sound) t c h.blocks h.len)).journal_end;
+    u ≡ record (followed (outside t sound) t c h.blocks h.len h.layout) {
+      state = (answered r (followed (outside t sound) t c h.blocks h.len h.layout)).state;
+      file = (answered r (followed (outside t sound) t c h.blocks h.len h.layout)).file;
+      version = (answered r (followed (outside t sound) t c h.blocks h.len h.layout)).version;
+      generation = (answered r (followed (outside t sound) t c h.blocks h.len h.layout)).generation;
+      journal_end = (answered r (followed (outside t sound) t c h.blocks h.len h.layout)).journal_end;
     }
-carried_is t u c sound r h = h.is ∙ answered_is r (followed (outside t sound) t c h.blocks h.len)
+carried_is t u c sound r h = h.is ∙ answered_is r (followed (outside t sound) t c h.blocks h.len h.layout)
 
 -- whether the answer of a line says what changes: 1 for a compact, and for a purge to a size
 abbrev pub moves_by : Shape → ℕ
@@ -311,6 +311,7 @@ answered_bounded out t c (reply.Packed bytes) u may room led b =
       version = (omega arith, omega arith);
       generation = (omega arith, omega (arith, is.one, room));
       journal_end = (omega (arith, is.least), omega (arith, is.most));
+      next_layout = b.next_layout;
     }
 answered_bounded out t c (reply.Purged n) u may room led b =
     let is = purges out t.state c n may in
@@ -331,6 +332,7 @@ answered_bounded out t c (reply.Purged n) u may room led b =
       version = b.version;
       generation = b.generation;
       journal_end = b.journal_end;
+      next_layout = b.next_layout;
     }
 answered_bounded out t c (reply.Wrote bytes) u may room led b = b
 answered_bounded out t c (reply.Pinned pin) u may room led b = b

@@ -6,7 +6,7 @@ use Rattle.pcm_base.specs.declared.command.Call.{Call}
 use Rattle.pcm_base.specs.declared.command.Call.TheVariants as call
 use Rattle.pcm_base.specs.Cells.{trimmed, cells_at, edited_at}
 use Rattle.pcm_base.specs.Counters.{no_room, commits_of, tracks_of, pins_of, record_bytes, places_of, counter_tests}
-use Rattle.pcm_base.specs.Counters.{generations_of, record_test}
+use Rattle.pcm_base.specs.Counters.{MayDraw, generations_of, layouts_of, record_test}
 use Rattle.pcm_base.specs.Edits.{as_cells}
 use Rattle.pcm_base.specs.Form.{IsCallInForm}
 use Rattle.pcm_base.specs.History.{recorded}
@@ -60,28 +60,35 @@ pub record HasRoom (out : Outside) (t : Studio) (c : Call) (blocks len : ℕ) : 
   pub pins : t.state.next_pin + pins_of c ≤ 2 ^ 62
   pub places : t.journal_end + places_of c len ≤ 2 ^ 62
   pub generations : t.generation + generations_of c ≤ 2 ^ 62
+  pub layouts : t.next_layout + layouts_of out t.state c ≤ 2 ^ 62
 
 counters_passed : (out : Outside) (t : Studio) (c : Call) (blocks len : ℕ) → counter_tests out t c blocks len ≡ None →
     HasRoom out t c blocks len
 counters_passed out t c blocks len e =
+    let layouts = no_room t.next_layout (layouts_of out t.state c) in
     let generations = no_room t.generation (generations_of c) in
     let places = no_room t.journal_end (places_of c len) in
     let pins = no_room t.state.next_pin (pins_of c) in
     let commits = no_room t.state.commit (commits_of c) in
     let tracks = no_room t.state.next_track (tracks_of out c) in
     let ids = no_room t.next_block blocks in
-    let first = both_passed ids (tracks otherwise commits otherwise pins otherwise places otherwise generations) e in
-    let second = both_passed tracks (commits otherwise pins otherwise places otherwise generations) first.1 in
-    let third = both_passed commits (pins otherwise places otherwise generations) second.1 in
-    let fourth = both_passed pins (places otherwise generations) third.1 in
-    let fifth = both_passed places generations fourth.1 in
+    let first =
+    both_passed ids (tracks otherwise commits otherwise pins otherwise places otherwise generations otherwise layouts)
+    e in
+    let second =
+    both_passed tracks (commits otherwise pins otherwise places otherwise generations otherwise layouts) first.1 in
+    let third = both_passed commits (pins otherwise places otherwise generations otherwise layouts) second.1 in
+    let fourth = both_passed pins (places otherwise generations otherwise layouts) third.1 in
+    let fifth = both_passed places (generations otherwise layouts) fourth.1 in
+    let sixth = both_passed generations layouts fifth.1 in
     record {
       ids = has_room t.next_block blocks first.0;
       tracks = has_room t.state.next_track (tracks_of out c) second.0;
       commits = has_room t.state.commit (commits_of c) third.0;
       pins = has_room t.state.next_pin (pins_of c) fourth.0;
       places = has_room t.journal_end (places_of c len) fifth.0;
-      generations = has_room t.generation (generations_of c) fifth.1;
+      generations = has_room t.generation (generations_of c) sixth.0;
+      layouts = has_room t.next_layout (layouts_of out t.state c) sixth.1;
     }
 
 bytes_within : (c : Call) (len : ℕ) → record_bytes c len ≤ places_of c len
@@ -105,10 +112,10 @@ pub next_generation : (out : Outside) (t : Studio) (c : Call) (blocks len : ℕ)
 next_generation out t c blocks len e = (room_passed out t c blocks len e).generations
 
 -- all that refuses a call let it through
-pub followed_bounded : (out : Outside) (t : Studio) (c : Call) (blocks len : ℕ) → IsBoundedStudio t →
-    IsCallInForm t.state.commit c → refusal_of out t c blocks len ≡ None →
-    IsBoundedStudio (followed out t c blocks len)
-followed_bounded out t c blocks len b form e =
+pub followed_bounded : (out : Outside) (t : Studio) (c : Call) (blocks len layout : ℕ) → IsBoundedStudio t →
+    IsCallInForm t.state.commit c → refusal_of out t c blocks len ≡ None → MayDraw out t c layout →
+    IsBoundedStudio (followed out t c blocks len layout)
+followed_bounded out t c blocks len layout b form e draws =
     let own = call_tests out t.state c in
     let counters = counter_tests out t c blocks len in
     let going = both_passed (stop_test t.stopped c) (own otherwise counters otherwise record_test len) e in
@@ -126,4 +133,5 @@ followed_bounded out t c blocks len b form e =
       version = b.version;
       generation = b.generation;
       journal_end = (omega (arith, start), omega (arith, places, bytes_within c len));
+      next_layout = (omega arith, omega (arith, draws.1, room.layouts));
     }

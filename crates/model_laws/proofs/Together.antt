@@ -16,7 +16,7 @@ use Rattle.pcm_base.specs.declared.answer.Reply.{Reply}
 use Rattle.pcm_base.specs.declared.entry.SoundMove.{SoundMove}
 use Rattle.pcm_base.specs.Cells.{Project, cells_at, cells_of_first, edited_at, tracks_from, trimmed}
 use Rattle.pcm_base.specs.Counters.{Needs, commits_of, counter_tests, generations_of, no_room, pins_of, places_of}
-use Rattle.pcm_base.specs.Counters.{record_bytes, record_test, tracks_of}
+use Rattle.pcm_base.specs.Counters.{layouts_of, record_bytes, record_test, tracks_of}
 use Rattle.pcm_base.specs.Edits.{as_cells}
 use Rattle.pcm_base.specs.History.{History, recorded}
 use Rattle.pcm_base.specs.declared.limits.TheConstants.{LONGEST_BODY}
@@ -87,15 +87,19 @@ passes out t c blocks len p =
     let e = no_room t.state.next_pin (pins_of c) in
     let f = no_room t.journal_end (places_of c len) in
     let g = no_room t.generation (generations_of c) in
+    let h = no_room t.next_layout (layouts_of out t.state c) in
     let own = call_tests out t.state c in
     let counters = counter_tests out t c blocks len in
     let rooms : counters ≡ None =
-    both_pass a (b otherwise d otherwise e otherwise f otherwise g) (room_passes t.next_block blocks p.room.ids)
-    (both_pass b (d otherwise e otherwise f otherwise g) (room_passes t.state.next_track (tracks_of out c) p.room.tracks)
-    (both_pass d (e otherwise f otherwise g) (room_passes t.state.commit (commits_of c) p.room.commits)
-    (both_pass e (f otherwise g) (room_passes t.state.next_pin (pins_of c) p.room.pins)
-    (both_pass f g (room_passes t.journal_end (places_of c len) p.room.places)
-    (room_passes t.generation (generations_of c) p.room.generations))))) in
+    both_pass a (b otherwise d otherwise e otherwise f otherwise g otherwise h)
+    (room_passes t.next_block blocks p.room.ids)
+    (both_pass b (d otherwise e otherwise f otherwise g otherwise h)
+    (room_passes t.state.next_track (tracks_of out c) p.room.tracks)
+    (both_pass d (e otherwise f otherwise g otherwise h) (room_passes t.state.commit (commits_of c) p.room.commits)
+    (both_pass e (f otherwise g otherwise h) (room_passes t.state.next_pin (pins_of c) p.room.pins)
+    (both_pass f (g otherwise h) (room_passes t.journal_end (places_of c len) p.room.places)
+    (both_pass g h (room_passes t.generation (generations_of c) p.room.generations)
+    (room_passes t.next_layout (layouts_of out t.state c) p.room.layouts)))))) in
     both_pass (stop_test t.stopped c) (own otherwise counters otherwise record_test len) p.going
     (both_pass own (counters otherwise record_test len) p.own
     (both_pass counters (record_test len) rooms
@@ -241,7 +245,7 @@ rest_within len k low high last order least most =
     let fives : k * 5 ≤ k * (5 + high) = mul-le-mul_left k (omega arith) in
     (omega (arith, least), omega (arith, grows, fives, least, most, order, add-mul 1 k (5 + low)))
 
-module _ (t : Studio) (track tag : ℕ) (sound : SoundMove) (x y : List ℤ) (blocks len : ℕ)
+module _ (t : Studio) (track tag : ℕ) (sound : SoundMove) (x y : List ℤ) (blocks len layout : ℕ)
     (depth : 1 ≤ t.state.history.depth) (numbered : 1 ≤ tag) (size : 0 < t.block_size)
     (ended : trimmed (cells_at track (current t.state)) ≡ cells_at track (current t.state))
     (whole : length x ≡ 256) (some : 1 ≤ length y)
@@ -276,7 +280,7 @@ module _ (t : Studio) (track tag : ℕ) (sound : SoundMove) (x y : List ℤ) (bl
   l = first_len len k (project_body_most m (current next))
 
   abbrev mid : Studio
-  mid = followed out t first b l
+  mid = followed out t first b l t.next_layout
 
   lengths : length (x ++ y) ≡ length x + length y
   lengths = length-append x y
@@ -348,6 +352,7 @@ module _ (t : Studio) (track tag : ℕ) (sound : SoundMove) (x y : List ℤ) (bl
       pins = all.room.pins;
       places = omega (arith, places, some_places first l (omega arith));
       generations = all.room.generations;
+      layouts = all.room.layouts;
     };
     short = omega (arith, all.short);
   })
@@ -373,11 +378,12 @@ module _ (t : Studio) (track tag : ℕ) (sound : SoundMove) (x y : List ℤ) (bl
             some_bytes first l (omega arith),
           );
           generations = all.room.generations;
+          layouts = all.room.layouts;
         };
         short = omega (arith, all.short);
       })
 
-  both_are : followed out t both blocks len ≡ followed out mid rest (blocks - b) (len - 5 - l)
+  both_are : followed out t both blocks len layout ≡ followed out mid rest (blocks - b) (len - 5 - l) layout
   both_are =
       let ids : t.next_block + blocks ≡ t.next_block + b + (blocks - b) = omega arith in
       let commit : t.state.commit + pieces_in (length (x ++ y)) ≡ next.commit + pieces_in (length y) =
@@ -398,6 +404,7 @@ module _ (t : Studio) (track tag : ℕ) (sound : SoundMove) (x y : List ℤ) (bl
         };
         next_block = ids i;
         journal_end = end i;
+        next_layout = layout;
       }
 
 -- ---- all of them
@@ -414,11 +421,13 @@ pieces_run zero t u actor track tag xs sound r count depth numbered size ended d
       record {
         blocks = done.blocks;
         len = done.len;
+        layout = done.layout;
         needs = done.needs;
         passed = done.passed;
+        draws = done.draws;
         answers = refl;
         is = done.is ∙ ap (λ (a : Reply). answered a
-            (followed (outside t sound) t (Piece track tag xs) done.blocks done.len)) done.answers;
+            (followed (outside t sound) t (Piece track tag xs) done.blocks done.len done.layout)) done.answers;
         heard = done.heard;
       },
       refl,
@@ -438,13 +447,17 @@ pieces_run (suc k) t u actor track tag xs sound r count depth numbered size ende
     let b = min done.blocks (blocks_of_samples t.block_size (length x)) in
     let next = with_piece t.state track tag x in
     let l = first_len done.len ((length y - 1) / 256) (project_body_most t.block_size (current next)) in
-    let middle = followed out t (Piece track tag x) b l in (
+    let middle = followed out t (Piece track tag x) b l t.next_layout in (
       middle,
       record {
         blocks = b;
         len = l;
-        needs = first_needs t track tag sound x y done.blocks done.len depth numbered size ended whole some needs all;
-        passed = first_passed t track tag sound x y done.blocks done.len depth numbered size ended whole some needs all;
+        layout = t.next_layout;
+        needs = first_needs t track tag sound x y done.blocks done.len done.layout depth numbered size ended whole some
+            needs all;
+        passed = first_passed t track tag sound x y done.blocks done.len done.layout depth numbered size ended whole
+            some needs all;
+        draws = (omega arith, omega arith);
         answers = refl;
         is = refl;
         heard = done.heard;
@@ -456,12 +469,16 @@ pieces_run (suc k) t u actor track tag xs sound r count depth numbered size ende
           (record {
             blocks = done.blocks - b;
             len = done.len - 5 - l;
-            needs = rest_needs t track tag sound x y done.blocks done.len depth numbered size ended whole some needs all;
-            passed =
-                rest_passed t track tag sound x y done.blocks done.len depth numbered size ended whole some needs all;
+            layout = done.layout;
+            needs = rest_needs t track tag sound x y done.blocks done.len done.layout depth numbered size ended whole
+                some needs all;
+            passed = rest_passed t track tag sound x y done.blocks done.len done.layout depth numbered size ended whole
+                some needs all;
+            draws = done.draws;
             answers = done.answers;
-            is = done.is ∙ ap (answered r) (ap (λ (zs : List ℤ). followed out t (Piece track tag zs) done.blocks done.len)
-                (sym joined) ∙ both_are t track tag sound x y done.blocks done.len depth numbered size ended whole some
+            is = done.is ∙ ap (answered r)
+                (ap (λ (zs : List ℤ). followed out t (Piece track tag zs) done.blocks done.len done.layout) (sym joined)
+                ∙ both_are t track tag sound x y done.blocks done.len done.layout depth numbered size ended whole some
                 needs all);
             heard = done.heard;
           }),

@@ -54,7 +54,7 @@ pieces_done actor track tag sound (samples ∷ more) = record {
 } ∷ pieces_done actor track tag sound more
 
 -- Samples of a recording that come at once are their pieces, one after another: from the same studio to the same one,
--- its next block and the end of its journal too.
+-- its next block, the end of its journal and its next layout too.
 abbrev pub BatchesArePieces : Type 0
 BatchesArePieces =
     (t u : Studio) (actor track tag : ℕ) (samples : List ℤ) (sound : SoundMove) (r : Reply) → IsBoundedStudio t →

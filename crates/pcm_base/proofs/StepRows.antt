@@ -54,7 +54,14 @@ spent : counter_tests nowhere
     (call.Line command.Track) 0 0 ≡ Some (SpaceSpent 4611686018427387904 1)
 spent = refl
 
--- the generation is the last number that can be spent
+-- the number of the next layout is the last that can be spent: a cut of two tracks needs two, and a gain none
+no_layouts : (counter_tests nowhere (record (fresh 8000 4 256) { next_layout = 4611686018427387903 })
+    (call.Line (command.Cut 1 2 0 1)) 0 1 ≡ Some (SpaceSpent 4611686018427387903 2))
+    × (counter_tests nowhere (record (fresh 8000 4 256) { next_layout = 4611686018427387904 })
+    (call.Line (command.Level 1 0)) 0 1 ≡ None)
+no_layouts = (refl, refl)
+
+-- the generation comes before it
 no_generation : counter_tests nowhere (record (fresh 8000 4 256) { generation = 4611686018427387904 })
     (call.Line command.Compact) 0 0 ≡ Some (SpaceSpent 4611686018427387904 1)
 no_generation = refl

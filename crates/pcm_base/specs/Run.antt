@@ -13,7 +13,7 @@ use Rattle.pcm_base.specs.declared.entry.SoundMove.{SoundMove}
 use Rattle.pcm_base.specs.declared.entry.Entry.{Entry}
 use Rattle.pcm_base.specs.declared.limits.TheConstants.{COUNTER_LIMIT}
 use Rattle.pcm_base.specs.Causes.{Rose, Cause, Test, Damage, Disk, Vault, Memory, cause_of}
-use Rattle.pcm_base.specs.Counters.{Needs, counter_tests, record_test, record_bytes}
+use Rattle.pcm_base.specs.Counters.{MayDraw, Needs, counter_tests, record_test, record_bytes}
 use Rattle.pcm_base.specs.History.{History, purged}
 use Rattle.pcm_base.specs.Outside.{Outside, Sounds, SameElsewhere}
 pub use Rattle.pcm_base.specs.Reach.{may_change_line, may_change, name_in_line, name_in}
@@ -50,13 +50,14 @@ refusal_of out t c blocks len =
     (stop_test t.stopped c) otherwise (call_tests out t.state c) otherwise (counter_tests out t c blocks len) otherwise
     (record_test len)
 
--- the studio after a call that nothing refuses, but for the journal of one that is packed, and for the points that a
--- purge to a size drops
-abbrev pub followed : Outside → Studio → Call → ℕ → ℕ → Studio
-followed out t c blocks len = record t {
+-- the studio after a call that nothing refuses and that leaves this next layout, but for the journal of one that is
+-- packed, and for the points that a purge to a size drops
+abbrev pub followed : Outside → Studio → Call → (blocks len layout : ℕ) → Studio
+followed out t c blocks len layout = record t {
   state = after out t.state c;
   next_block = t.next_block + blocks;
   journal_end = t.journal_end + record_bytes c len;
+  next_layout = layout;
 }
 
 -- The journal stands in the other file from then on, in version 3, in the next generation and at its end: the last of
@@ -97,14 +98,16 @@ answered (reply.Length frames) t = t
 answered (reply.Loaded tracks) t = t
 answered (reply.Refused why) t = t
 
--- a call was carried out, with this many new blocks and a record of this length
+-- a call was carried out, with this many new blocks, a record of this length and this next layout after it
 pub record CarriesOut (t : Studio) (c : Call) (sound : SoundMove) (r : Reply) (u : Studio) : Type 0 where
   pub blocks : ℕ
   pub len : ℕ
+  pub layout : ℕ
   pub needs : Needs (outside t sound) t c blocks len
   pub passed : refusal_of (outside t sound) t c blocks len ≡ None
+  pub draws : MayDraw (outside t sound) t c layout
   pub answers : MayAnswer (outside t sound) t.state c r
-  pub is : u ≡ answered r (followed (outside t sound) t c blocks len)
+  pub is : u ≡ answered r (followed (outside t sound) t c blocks len layout)
   pub heard : sound.after ≡ sound_after (outside t sound) t.state c
 
 -- a test refuses a call, and nothing changes

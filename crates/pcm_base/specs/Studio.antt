@@ -4,8 +4,8 @@ use Rattle.pcm_base.specs.declared.limits.TheConstants.{FIRST_BLOCK, FIRST_RECOR
 use Rattle.pcm_base.specs.State.{State, new_state}
 
 -- Whether it has stopped, and at which count of faults; the frames in a second, and the most samples of a block; the id
--- of the next block; the journal's file, version and generation, and the place where it ends; and how many reads and how
--- many changes of the disk failed.
+-- of the next block; the journal's file, version and generation, and the place where it ends; the number of the next
+-- layout; and how many reads and how many changes of the disk failed.
 pub record Studio : Type 0 where
   pub state : State
   pub stopped : Option ℕ
@@ -16,6 +16,7 @@ pub record Studio : Type 0 where
   pub version : ℕ
   pub generation : ℕ
   pub journal_end : ℕ
+  pub next_layout : ℕ
   pub read_faults : ℕ
   pub change_faults : ℕ
 
@@ -35,6 +36,7 @@ fresh rate block_size depth = record {
   version = 3;
   generation = 0;
   journal_end = FIRST_RECORD;
+  next_layout = 1;
   read_faults = 0;
   change_faults = 0;
 }

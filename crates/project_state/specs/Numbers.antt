@@ -1,5 +1,6 @@
 -- Tracks without the numbers of their layouts, as records and headers say them, and tracks that agree by these numbers.
-use Rattle.std.specs.Prelude.{◌≡◌, ◌<◌, ◌==◌, ◌&&◌, nat_lt, Bool, List, [], ◌∷◌, map, Option, Some, None}
+use Rattle.std.specs.Prelude.{◌≡◌, ◌⊎◌, ◌<◌, ◌==◌, ◌&&◌, nat_lt, Bool, List, [], ◌∷◌, map, Option, Some, None}
+use Rattle.std.specs.List.{AllByRecursion}
 use Rattle.pcm_base.specs.History.{History}
 use Rattle.project_state.specs.declared.track.Track.{Track}
 use Rattle.project_state.specs.Tracks.{track_of}
@@ -17,6 +18,15 @@ AreUnnumbered (t ∷ ts) = (t.number ≡ 0) × AreUnnumbered ts
 abbrev pub unnumbered_history : History (List Track) → History (List Track)
 unnumbered_history h =
     record { points = map (λ p. (map unnumbered p.0, p.1)) h.points; cursor = h.cursor; depth = h.depth }
+
+-- ---- tracks that are to get numbers
+
+-- a track without a number, or the current one of its id
+abbrev pub IsNewOrCurrent : List Track → Track → Type 0
+IsNewOrCurrent current t = (t.number ≡ 0) ⊎ (track_of t.id current ≡ Some t)
+
+abbrev pub AreNewOrCurrent : List Track → List Track → Type 0
+AreNewOrCurrent current ts = AllByRecursion (IsNewOrCurrent current) ts
 
 -- ---- what equal numbers say
 

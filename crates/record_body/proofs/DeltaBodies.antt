@@ -12,31 +12,31 @@ use Rattle.record_body.specs.declared.limits.Before.{Before}
 use Rattle.project_state.specs.declared.track.Track.{Track}
 use Rattle.record_body.specs.ChangeTests.{commit_test, delta_edit_tests, delta_length_test, delta_kind_test}
 use Rattle.record_body.specs.ChangeTests.{delta_tests}
-use Rattle.record_body.specs.DeltaBodies.{SaysEdit, SaysBody}
 use Rattle.record_body.specs.FirstFault.{Finds}
+use Rattle.record_body.specs.Told.{ReadsBody, ReadsEdit}
 use Rattle.record_body.proofs.ToldTracks.{finds_on}
 
-says : (current : List Track) (bytes : List ℕ) (b : Body) → slice_index bytes 0 ≡ 5 → SaysEdit current bytes b
-    → SaysBody current bytes b
-says current bytes (Edit tag next_block next_track point) is e = (is, e)
-says current bytes Undo is e = absurd e
-says current bytes Redo is e = absurd e
-says current bytes (Purge n) is e = absurd e
+reads : (current : List Track) (bytes : List ℕ) (b : Body) → slice_index bytes 0 ≡ 5 → ReadsEdit current bytes b
+    → ReadsBody current bytes b
+reads current bytes (Edit tag next_block next_track point) is e = ((is, e.0), e.1)
+reads current bytes Undo is e = absurd e.0
+reads current bytes Redo is e = absurd e.0
+reads current bytes (Purge n) is e = absurd e.0
 
-finds_says : (tests : List Damaged) (current : List Track) (bytes : List ℕ) (r : Result Body BadBody)
-    → slice_index bytes 0 ≡ 5 → Finds tests (SaysEdit current bytes) r → Finds tests (SaysBody current bytes) r
-finds_says tests current bytes (Ok b) is e = (e.0, says current bytes b is e.1)
-finds_says tests current bytes (Err bad.NoMemory) is e = tt
-finds_says tests current bytes (Err (bad.Damaged d)) is e = e
+finds_reads : (tests : List Damaged) (current : List Track) (bytes : List ℕ) (r : Result Body BadBody)
+    → slice_index bytes 0 ≡ 5 → Finds tests (ReadsEdit current bytes) r → Finds tests (ReadsBody current bytes) r
+finds_reads tests current bytes (Ok b) is e = (e.0, reads current bytes b is e.1)
+finds_reads tests current bytes (Err bad.NoMemory) is e = tt
+finds_reads tests current bytes (Err (bad.Damaged d)) is e = e
 
 pub finds_edit : (m : ℕ) (b : Before) (current : List Track) (bytes : List ℕ) (r : Result Body BadBody)
     → slice_index bytes 0 ≡ 5 → first_failed (delta_length_test b bytes ∷ delta_kind_test b bytes ∷ commit_test b ∷ [])
     ≡ None
-    → Finds (delta_edit_tests m b current bytes) (SaysEdit current bytes) r
-    → Finds (delta_tests m b current bytes) (SaysBody current bytes) r
+    → Finds (delta_edit_tests m b current bytes) (ReadsEdit current bytes) r
+    → Finds (delta_tests m b current bytes) (ReadsBody current bytes) r
 finds_edit m b current bytes r is outside e =
     let front = delta_length_test b bytes ∷ delta_kind_test b bytes ∷ commit_test b ∷ [] in
     let edit = delta_edit_tests m b current bytes in
-    let all = finds_on front edit (SaysBody current bytes) r outside (finds_says edit current bytes r is e) in
+    let all = finds_on front edit (ReadsBody current bytes) r outside (finds_reads edit current bytes r is e) in
     subst (λ (k : Bool). Finds (delta_length_test b bytes ∷ delta_kind_test b bytes ∷ commit_test b ∷ (if k then edit else []))
-    (SaysBody current bytes) r) (sym (eq-eqb (slice_index bytes 0) 5 is)) all
+    (ReadsBody current bytes) r) (sym (eq-eqb (slice_index bytes 0) 5 is)) all

@@ -32,6 +32,9 @@ pub mod ToldBack
 pub mod DeltaBack
 pub mod ShortEnds
 pub mod ToldSound
+mod ToldAdds
+pub mod ToldAlike
+pub mod NineBytes
 pub mod SaysOnce
 pub mod DeltaLengths
 pub mod Moved

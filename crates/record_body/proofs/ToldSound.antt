@@ -110,7 +110,7 @@ sound_tailed l id old at bytes below some is pass =
     }
 
 -- a track whose end is replaced has clips
-has_clips : (old : Track) (mark : ℕ) → mark ≡ 2 → mark_want (Some old) mark ≡ mark → 0 < length old.layout
+pub has_clips : (old : Track) (mark : ℕ) → mark ≡ 2 → mark_want (Some old) mark ≡ mark → 0 < length old.layout
 has_clips old mark two want = elim (cases_Bool (length old.layout == 0)) [
   | inl none ↦
       let one : 1 ≡ mark = rw (eq-eqb mark 2 two, none) at want in

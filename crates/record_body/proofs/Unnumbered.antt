@@ -190,3 +190,31 @@ sound_alike m block track ts sound = record {
   rising = above_alike 1 ts sound.rising;
   sound = tracks_sound_alike m block track ts sound.sound;
 }
+
+-- and back
+
+above_back : (least : ℕ) (ts : List Track) → AreAbove least (map unnumbered ts) → AreAbove least ts
+above_back least [] above = tt
+above_back least (t ∷ ts) above = (above.0, above_back (t.id + 1) ts above.1)
+
+tracks_back : (m block track : ℕ) (ts : List Track) → AllSoundTracks m block track (map unnumbered ts)
+    → AllSoundTracks m block track ts
+tracks_back m block track [] sound = tt
+tracks_back m block track (t ∷ ts) sound = (
+  record {
+    given = sound.0.given;
+    gain = sound.0.gain;
+    layout = sound.0.layout;
+    half_full = sound.0.half_full;
+    blocks = sound.0.blocks;
+  },
+  tracks_back m block track ts sound.1,
+)
+
+pub sound_back : (m block track : ℕ) (ts : List Track) → IsSoundPoint m block track (map unnumbered ts)
+    → IsSoundPoint m block track ts
+sound_back m block track ts sound = record {
+  few = subst (λ (n : ℕ). n ≤ 64) (length-map ts unnumbered) sound.few;
+  rising = above_back 1 ts sound.rising;
+  sound = tracks_back m block track ts sound.sound;
+}

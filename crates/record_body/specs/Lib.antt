@@ -11,6 +11,7 @@ pub mod Choices
 pub mod ChangePlaces
 pub mod ChangeTests
 pub mod DeltaBodies
+pub mod Told
 pub mod Kept
 pub mod KeptSound
 pub mod Batches

@@ -1,17 +1,17 @@
 // Tracks out of the bytes that tell them by the current point.
-ghost use Rattle.std.specs.Prelude.{◌≡◌, ◌+◌, ◌*◌, ◌-◌, ◌≤◌, ◌<◌, ◌++◌, ⊤, [], length, map, take, Some, None};
-ghost use Rattle.std.specs.Prelude.{MatchResult};
+ghost use Rattle.std.specs.Prelude.{◌≡◌, ◌+◌, ◌*◌, ◌-◌, ◌≤◌, ◌<◌, ◌++◌, ◌∷◌, ⊤, [], length, Some, None};
+ghost use Rattle.std.specs.Prelude.{slice_get};
 ghost use Rattle.pcm_base.specs.declared.limits.TheConstants.{MAX_TRACKS};
-ghost use Rattle.record_body.specs.declared.limits.BadBody.TheVariants as bad;
-ghost use Rattle.pcm_base.specs.Blocks.{blocks_len};
 ghost use Rattle.clip_track.specs.Clips.{AllHalfFull};
 ghost use Rattle.record_body.specs.Changes as change;
 ghost use Rattle.record_body.specs.ChangePlaces as there;
 ghost use Rattle.record_body.specs.ChangeTests as test;
-ghost use Rattle.record_body.specs.FirstFault as fault;
 ghost use Rattle.record_body.specs.FirstFault.{Tells, Finds};
 ghost use Rattle.record_body.specs.Lengths.{AreHalfFull};
+ghost use Rattle.record_body.specs.Told.{AddsTold, AreTold};
+ghost use Rattle.project_state.specs.declared.track.Track.{Track};
 ghost use Rattle.project_state.specs.Numbers.{unnumbered};
+ghost use Rattle.project_state.specs.Tracks.{AllBelow, track_of};
 ghost use Rattle.record_body.specs.Places as place;
 ghost use Rattle.project_journal.specs.Fields.{field};
 
@@ -95,76 +95,137 @@ fn read_whole(
     })
 }
 
-/// The track at a place, by the one of the current point with the same id.
-fn read_known(
+/// Adds the track with this id that is written out, where its id would stand at a place, after the others.
+fn add_whole(
+    alloc: Global,
+    bytes: &[u8],
+    at: usize,
+    limits: Limits,
+    id: u64,
+    point: &mut Point,
+) -> Result<(), BadBody>
+    requires within { at + place.track_size at bytes.now ≤ length bytes.now }
+    requires above { AllBelow id point.old }
+    requires few { length point.old < MAX_TRACKS }
+    ensures { Finds (test.whole_tests limits at bytes.now)
+        (λ _. point.new ≡ point.old ++ (record (place.track_at at bytes.now) { id = id }) ∷ []) result }
+{
+    let track = read_whole(alloc, bytes, at, limits, id)?;
+    point.push(track)?;
+    Ok(())
+}
+
+/// Adds the track at a place, which is a track of the current point whose last clip ends otherwise, after the others.
+fn add_tail(
     alloc: Global,
     bytes: &[u8],
     at: usize,
     limits: Limits,
     old: &Track,
-) -> Result<Track, BadBody>
-    requires within { there.HasTold at bytes.now }
+    point: &mut Point,
+) -> Result<(), BadBody>
+    requires within { at + (17 + 12 * there.fresh_at at bytes.now) ≤ length bytes.now }
+    requires some { 0 < length old.now.layout }
     requires half_full { AllHalfFull limits.block_size old.now.layout }
-    requires same { field at 8 bytes.now ≡ old.now.id }
-    ensures { Finds (test.change_tests limits (Some old.now) at bytes.now)
-        (λ t. change.changed (Some old.now) (there.change_at at bytes.now) ≡ Some t) result }
+    requires above { AllBelow old.now.id point.old }
+    requires few { length point.old < MAX_TRACKS }
+    ensures { Finds (test.tail_tests limits (change.last_start old.now.layout) (change.last_blocks old.now.layout) at
+        bytes.now) (λ _. point.new ≡ point.old ++ change.tailed (there.gone_at at bytes.now)
+        (place.blocks_at (there.fresh_at at bytes.now) (at + 17) bytes.now) old.now ∷ []) result }
 {
-    let mark = u8_at(bytes, at + 8);
-    let want = if mark == 2 && old.layout.as_slice().is_empty() {
+    let track = read_tail(alloc, bytes, at, limits, old)?;
+    point.push(track)?;
+    Ok(())
+}
+
+/// The mark that a track has to have where the current point has it and this mark is there. One without clips is
+/// written out if it changes.
+fn wanted_mark(old: &Track, mark: u8) -> u8
+    ensures { result ≡ test.mark_want (Some old.now) mark }
+{
+    if mark == 2 && old.layout.as_slice().is_empty() {
         1
     } else {
         mark
-    };
-    test_mark(place(limits.base, at + 8), want, mark)?;
-    match mark {
-        0 => copy_unnumbered(old),
-        1 => read_whole(alloc, bytes, at + 1, limits, old.id),
-        _ => read_tail(alloc, bytes, at, limits, old),
     }
 }
 
-fn copy_unnumbered(track: &Track) -> Result<Track, BadBody>
-    ensures { MatchResult result (λ t. t ≡ unnumbered track.now) (λ e. e ≡ bad.NoMemory) }
+/// Adds the track at a place, which the current point has at its place `i`, after the others. Where it is said to be
+/// the same, both points have it then, with its number.
+fn add_known(
+    alloc: Global,
+    bytes: &[u8],
+    at: usize,
+    limits: Limits,
+    current: &Point,
+    i: usize,
+    point: &mut Point,
+) -> Result<(), BadBody>
+    requires within { there.HasTold at bytes.now }
+    requires here { i < length current.now }
+    requires found { (t : Track) → slice_get current.now i ≡ Some t
+        → track_of (field at 8 bytes.now) current.now ≡ Some t }
+    requires half_full { AreHalfFull limits.block_size current.now }
+    requires above { AllBelow (field at 8 bytes.now) point.old }
+    requires few { length point.old < MAX_TRACKS }
+    ensures { Finds (test.change_tests limits (track_of (field at 8 bytes.now) current.now) at bytes.now)
+        (λ _. AddsTold current.now (track_of (field at 8 bytes.now) current.now) at bytes.now point.old point.new)
+        result }
 {
-    let layout = track.layout.copy()?;
-    Ok(Track {
-        id: track.id,
-        gain: track.gain,
-        side: track.side,
-        mute: track.mute,
-        number: 0,
-        layout,
-    })
+    let old = current.track_at(i);
+    let mark = u8_at(bytes, at + 8);
+    test_mark(place(limits.base, at + 8), wanted_mark(old, mark), mark)?;
+    if mark == 0 {
+        point.share(current, i)?;
+        return Ok(());
+    }
+    if mark == 1 {
+        return add_whole(alloc, bytes, at + 1, limits, old.id, point);
+    }
+    add_tail(alloc, bytes, at, limits, old, point)
 }
 
-/// The track at a place, whose id the current point lacks.
-fn read_new(alloc: Global, bytes: &[u8], at: usize, limits: Limits) -> Result<Track, BadBody>
+/// Adds the track at a place, whose id the current point lacks, after the others.
+fn add_new(
+    alloc: Global,
+    bytes: &[u8],
+    at: usize,
+    limits: Limits,
+    point: &mut Point,
+) -> Result<(), BadBody>
     requires within { there.HasTold at bytes.now }
+    requires above { AllBelow (field at 8 bytes.now) point.old }
+    requires few { length point.old < MAX_TRACKS }
     ensures { Finds (test.change_tests limits None at bytes.now)
-        (λ t. change.changed None (there.change_at at bytes.now) ≡ Some t) result }
+        (λ _. point.new ≡ point.old ++ there.whole_at at bytes.now ∷ []) result }
 {
     test_mark(place(limits.base, at + 8), 1, u8_at(bytes, at + 8))?;
-    read_whole(alloc, bytes, at + 1, limits, u64_at(bytes, at))
+    add_whole(alloc, bytes, at + 1, limits, u64_at(bytes, at), point)
 }
 
-/// The track at a place, by the current point. Its id is to be no lower than a number.
-fn read_told(
+/// Adds the track at a place, by the current point, after the others. Its id is to be no lower than a number. It is
+/// first looked for at the place of the current point that it takes among the others.
+fn add_told(
     alloc: Global,
     bytes: &[u8],
     at: usize,
     limits: Limits,
     from: u64,
     current: &Point,
-) -> Result<Track, BadBody>
+    point: &mut Point,
+) -> Result<(), BadBody>
     requires within { there.HasTold at bytes.now }
     requires half_full { AreHalfFull limits.block_size current.now }
+    requires below { AllBelow from point.old }
+    requires few { length point.old < MAX_TRACKS }
     ensures { Finds (test.told_tests limits current.now from at bytes.now)
-        (λ t. there.told_at current.now at bytes.now ≡ Some t) result }
+        (λ _. AddsTold current.now (track_of (field at 8 bytes.now) current.now) at bytes.now point.old point.new)
+        result }
 {
     test_id(bytes, at, limits, from)?;
-    match current.track(u64_at(bytes, at)) {
-        Ok(old) => read_known(alloc, bytes, at, limits, old),
-        Err(_) => read_new(alloc, bytes, at, limits),
+    match current.place_of(u64_at(bytes, at), point.len()) {
+        Some(i) => add_known(alloc, bytes, at, limits, current, i, point),
+        None => add_new(alloc, bytes, at, limits, point),
     }
 }
 
@@ -172,8 +233,7 @@ fn read_told(
 fn told_len_at(bytes: &[u8], at: usize, track: &Track) -> usize
     requires within { there.HasTold at bytes.now }
     requires known { there.mark_at at bytes.now ≤ 2 }
-    requires whole { there.mark_at at bytes.now ≡ 1
-        → track.now ≡ record (place.track_at (at + 1) bytes.now) { id = field at 8 bytes.now } }
+    requires whole { there.mark_at at bytes.now ≡ 1 → unnumbered track.now ≡ there.whole_at at bytes.now }
     ensures { result ≡ there.told_size at bytes.now }
 {
     match u8_at(bytes, at + 8) {
@@ -183,7 +243,8 @@ fn told_len_at(bytes: &[u8], at: usize, track: &Track) -> usize
     }
 }
 
-/// This many tracks from a place on, by the current point.
+/// This many tracks from a place on, by the current point. A track that is said to be the same is the current one,
+/// which both points have then, with its number. All others have none.
 pub(crate) fn read_all_told(
     alloc: Global,
     bytes: &[u8],
@@ -196,16 +257,17 @@ pub(crate) fn read_all_told(
     requires few { count ≤ MAX_TRACKS }
     requires half_full { AreHalfFull limits.block_size current.now }
     ensures { Finds (test.all_told_tests limits current.now count 0 at bytes.now)
-        (λ p. map Some p ≡ there.all_told_at current.now count at bytes.now) result }
+        (AreTold current.now count at bytes.now) result }
 {
     let mut point = Point::new(alloc);
     let mut next = at;
     let mut from = 0;
     for _ in 0..count {
-        let track = read_told(alloc, bytes, next, limits, from, current)?;
-        next += told_len_at(bytes, next, &track);
+        add_told(alloc, bytes, next, limits, from, current, &mut point)?;
+        let last = point.len() - 1;
+        let track = point.track_at(last);
+        next += told_len_at(bytes, next, track);
         from = track.id + 1;
-        point.push(track)?;
     }
     Ok(point)
 }

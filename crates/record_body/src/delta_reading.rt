@@ -5,12 +5,14 @@ ghost use Rattle.record_body.specs.ChangeTests as test;
 ghost use Rattle.record_body.specs.Changes.{delta_spelling};
 ghost use Rattle.record_body.specs.declared.body.Body.{Body};
 ghost use Rattle.record_body.specs.declared.limits.BadBody.TheVariants as bad;
-ghost use Rattle.record_body.specs.DeltaBodies.{SaysBody, SaysEdit};
+ghost use Rattle.record_body.specs.DeltaBodies.{SaysBody};
 ghost use Rattle.record_body.specs.FirstFault.{Tells, Finds};
 ghost use Rattle.record_body.specs.Lengths.{AreHalfFull};
 ghost use Rattle.record_body.specs.Laws.{HasShortEnds};
+ghost use Rattle.record_body.specs.Numbers.{unnumbered_body};
 ghost use Rattle.record_body.specs.Places.{track_count};
 ghost use Rattle.record_body.specs.Sound.{IsSound, IsSoundPoint};
+ghost use Rattle.record_body.specs.Told.{BodyShares, ReadsBody, ReadsEdit};
 
 use super::body::Body;
 use super::bounds::least;
@@ -34,7 +36,7 @@ fn read_edit_by(
     requires long { 29 ≤ length bytes.now }
     requires within { there.HaveTold (track_count bytes.now) 29 bytes.now }
     requires half_full { AreHalfFull m current.now }
-    ensures { Finds (test.delta_edit_tests m before current.now bytes.now) (SaysEdit current.now bytes.now) result }
+    ensures { Finds (test.delta_edit_tests m before current.now bytes.now) (ReadsEdit current.now bytes.now) result }
 {
     test_head(bytes, before)?;
     let next_block = u64_at(bytes, 9);
@@ -87,7 +89,7 @@ fn read_by(
     current: &Point,
 ) -> Result<Body, BadBody>
     requires { AreHalfFull m current.now }
-    ensures { Finds (test.delta_tests m before current.now bytes.now) (SaysBody current.now bytes.now) result }
+    ensures { Finds (test.delta_tests m before current.now bytes.now) (ReadsBody current.now bytes.now) result }
 {
     test_delta_outside(bytes, before)?;
     match bytes[0] {
@@ -101,7 +103,8 @@ fn read_by(
 }
 
 /// Reads a record's body whose edits are written by the current point, which is half full at `m`. `before` is what the
-/// journal has in front of the record.
+/// journal has in front of the record. A track that is said to be the same is the current one, with the number of its
+/// layout, and both points have it then. Other tracks have no numbers.
 ///
 /// What the history decides (an undo of nothing, a purge of more points than there are) is not tested here.
 ///
@@ -117,14 +120,16 @@ pub fn read_delta_body(
     current: &Point,
 ) -> Result<Body, BadBody>
     requires { AreHalfFull m current.now }
-    ensures found { Finds (test.delta_tests m before current.now bytes.now) (SaysBody current.now bytes.now) result }
+    ensures found { Finds (test.delta_tests m before current.now bytes.now)
+        (λ b. SaysBody current.now bytes.now (unnumbered_body b)) result }
+    ensures shared { IfOk result (BodyShares current.now) }
     // By a valid point the bytes say a valid body.
     ensures valid { (next_track : ℕ) → IsSoundPoint m before.next_block next_track current.now
-        → IfOk result (λ b. IsSound m before b) }
-    // A valid body that was written by the current point is read back.
+        → IfOk result (λ b. IsSound m before (unnumbered_body b)) }
+    // A valid body that was written by the current point is read back, but for the numbers.
     ensures back { (body : Body) → delta_spelling current.now body ≡ bytes.now → IsSound m before body → 4 ≤ m
         → before.commits < COUNTER_LIMIT → HasShortEnds current.now
-        → MatchResult result (λ b. b ≡ body) (λ e. e ≡ bad.NoMemory) }
+        → MatchResult result (λ b. unnumbered_body b ≡ body) (λ e. e ≡ bad.NoMemory) }
 {
     read_by(alloc, bytes, m, before, current)
 }

@@ -1,5 +1,6 @@
 // The clips of a track out of their bytes.
-ghost use Rattle.std.specs.Prelude.{◌≡◌, ◌+◌, ◌*◌, ◌≤◌, nat_lt, length};
+ghost use Rattle.std.specs.Prelude.{◌≡◌, ◌+◌, ◌-◌, ◌*◌, ◌≤◌, ◌<◌, length, IsTrue};
+ghost use Rattle.pcm_base.specs.declared.limits.TheConstants.{FIRST_BLOCK, MAX_CELLS};
 ghost use Rattle.record_body.specs.Places as there;
 ghost use Rattle.record_body.specs.FirstFault as test;
 ghost use Rattle.record_body.specs.FirstFault.{Tells, Finds};
@@ -12,6 +13,32 @@ use clip_track::{Clip, Layout};
 use pcm_base::{BlockRef, FIRST_BLOCK, MAX_CELLS};
 use project_journal::{Damaged, first_failure, u32_at, u64_at};
 use std::alloc::Global;
+
+/// How many samples a block has at least, of a clip that may have several.
+fn least_block(limits: Limits, several: bool) -> u32
+    ensures { result ≡ test.least_len limits.block_size several }
+{
+    if several {
+        limits.block_size.div_ceil(2)
+    } else {
+        0
+    }
+}
+
+/// Whether a block is in its bounds, of which the least length is given; this many cells come before it. Nearly all
+/// blocks are, and then no list of tests is made.
+fn is_in_bounds(limits: Limits, least_len: u32, before: u64, id: u64, len: u32) -> bool
+    ensures given { IsTrue result → (FIRST_BLOCK ≤ id) × (id < limits.next_block) }
+    ensures long { IsTrue result → (1 ≤ len) × (least_len ≤ len) × (len ≤ limits.block_size) }
+    ensures near { IsTrue result → len ≤ MAX_CELLS - before }
+{
+    id >= FIRST_BLOCK
+        && id < limits.next_block
+        && len >= 1
+        && len >= least_len
+        && len <= limits.block_size
+        && len as u64 <= MAX_CELLS.saturating_sub(before)
+}
 
 /// The block at a place; this many cells come before it.
 fn read_block(
@@ -27,13 +54,12 @@ fn read_block(
 {
     let id = u64_at(bytes, at);
     let len = u32_at(bytes, at + 8);
+    let least_len = least_block(limits, several);
+    if is_in_bounds(limits, least_len, before, id, len) {
+        return Ok(BlockRef { id, len });
+    }
     let id_place = place(limits.base, at);
     let len_place = place(limits.base, at + 8);
-    let least_len = if several {
-        limits.block_size.div_ceil(2)
-    } else {
-        0
-    };
     first_failure(&[
         least(id_place, FIRST_BLOCK, id),
         most(id_place, limits.next_block.saturating_sub(1), id),

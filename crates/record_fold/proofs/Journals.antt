@@ -21,10 +21,11 @@ use Rattle.record_body.specs.Sound.{IsSoundTagged}
 use Rattle.record_fold.specs.declared.project.Project.{Project}
 use Rattle.record_fold.specs.Bases.{base_by, base_of, points_fault}
 use Rattle.record_fold.specs.Faults.{first_fault_in, journal_fault}
-use Rattle.record_fold.specs.Folds.{kept_of, FoldsOne, FoldsStored, IsBrought, Leads}
+use Rattle.record_fold.specs.Folds.{kept_of, FoldsOne, FoldsStored, HasLayoutNumbers, IsBrought, Leads}
 use Rattle.record_fold.proofs.Stepping.{came_none, came_more, came_all, came_fault, valid_next, IsStep, SoFar}
-use Rattle.record_fold.specs.Heads.{ReadsOn}
+use Rattle.record_fold.specs.Heads.{DrawsFew, ReadsOn}
 use Rattle.record_fold.proofs.Based.{brought_valid}
+use Rattle.record_fold.proofs.Few.{few_done}
 
 -- what a header brings does not look at the records
 begins_other : (a b : Contents) (k : Kept) → a.points ≡ b.points → a.base ≡ b.base → a.depth ≡ b.depth
@@ -145,8 +146,9 @@ module _ {D : Type 0} (disk : Ghosts D) where
 
     -- the records end at a gate that is 0
     pub so_done : (store : D) (old : Reader) (p : Project) → (so : SoFar disk store old version m points first (kept_of p))
+        → HasLayoutNumbers p → DrawsFew p.numbered.next old → IsLater old reader
         → Goes disk new reader points so.records Shut → Leads disk new reader p
-    so_done store old p so stored =
+    so_done store old p so numbers few on stored =
         let j = contents reader points so.records None in
         let all = came_all version m first (kept_of p) so.records so.came in
         let v = version_of (reader_form reader) in
@@ -166,6 +168,8 @@ module _ {D : Type 0} (disk : Ghosts D) where
           begins = subst (Begins (log_of j)) base_is (begins_other (contents start points [] None) j first refl
               (sym later.base) (sym later.depth) (sym later.block_size) brought.begins);
           leads = subst (λ (k : Kept). LeadIn v reader.block_size k (map body_at so.records) (kept_of p)) base_is led;
+          numbers = numbers;
+          few = few_done disk store new old reader points so.records p.numbered.next on so.reading stored few;
         }
 
     -- or with the file

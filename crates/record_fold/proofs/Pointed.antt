@@ -39,7 +39,7 @@ takes disk store m r points (Err journal.Absent) met reads = reads
 takes disk store m r points (Err journal.Exists) met reads = reads
 takes disk store m r points (Err (journal.SpaceSpent have need)) met reads = reads
 
-size_more : (points : List (List ℕ)) (point : List ℕ)
+pub size_more : (points : List (List ℕ)) (point : List ℕ)
     → points_size (points ++ point ∷ []) ≡ points_size points + (4 + length point)
 size_more [] point = omega arith
 size_more (p ∷ ps) point = omega (arith, size_more ps point)

@@ -1,5 +1,5 @@
 -- What a fold of records answers.
-use Rattle.std.specs.Prelude.{◌≡◌, ℕ, Some, None, List, [], map, Result, Ok, Err}
+use Rattle.std.specs.Prelude.{◌≡◌, ℕ, ◌+◌, ◌≤◌, Some, None, List, [], length, map, Result, Ok, Err}
 use Rattle.disk_model.specs.declared.store.Store.{Ghosts}
 use Rattle.project_journal.specs.Journal.{Contents, body_at, log_of}
 use Rattle.project_journal.specs.declared.fault.JournalFault.{JournalFault}
@@ -7,21 +7,37 @@ use Rattle.project_journal.specs.declared.fault.JournalFault.TheVariants as jour
 use Rattle.project_journal.specs.declared.reader.Reader.{Reader}
 use Rattle.project_journal.specs.Header.{first_failed}
 use Rattle.project_journal.specs.Reader.{IsReading, IsStored, contents, reader_form}
+use Rattle.project_state.specs.Numbers.{unnumbered_history}
+use Rattle.layout_uses.specs.Drawing.{IsNumbered}
+use Rattle.record_body.specs.declared.body.Body.{Body}
 use Rattle.record_body.specs.Kept.{Kept, Begins, after_body, IsNextIn, LeadIn, version_of}
 use Rattle.record_body.specs.KeptSound.{IsSoundKept}
+use Rattle.record_body.specs.Lengths.{told_tracks}
+use Rattle.record_body.specs.Numbers.{unnumbered_body}
 use Rattle.record_fold.specs.declared.project.Project.{Project}
 use Rattle.record_fold.specs.Bases.{base_by, base_of, points_fault}
 use Rattle.record_fold.specs.Faults.{record_tests, journal_fault, says}
-use Rattle.record_fold.specs.Heads.{HasFault}
+use Rattle.record_fold.specs.Heads.{DrawsFew, HasFault}
 
+-- without the numbers of its layouts, as records and headers say it
 abbrev pub kept_of : Project → Kept
 kept_of p = record {
-  history = p.history.history;
+  history = unnumbered_history p.numbered.history.history;
   next_block = p.next_block;
   next_track = p.next_track;
   commit =
       p.commit;
 }
+
+-- the layouts of its points have numbers
+abbrev pub HasLayoutNumbers : Project → Type 0
+HasLayoutNumbers p = IsNumbered p.numbered.history.history p.numbered.next
+
+-- What a body makes of a project. Each track that it says has one new number at most.
+pub record IsAfter (old new : Project) (body : Body) : Type 0 where
+  pub kept : kept_of new ≡ after_body (kept_of old) (unnumbered_body body)
+  pub numbers : HasLayoutNumbers new
+  pub most : new.numbered.next ≤ old.numbered.next + length (told_tracks body)
 
 -- it is as records may leave it
 abbrev pub IsValid : ℕ → Kept → Type 0
@@ -55,7 +71,7 @@ Brings disk store m r (Err journal.NoMemory) = Unit {0}
 Brings disk store m r (Err _) = ⊥
 
 -- The project to which a journal's records lead from the one that its header brings, where none of its points and
--- records has a fault and the file does not end too early.
+-- records has a fault and the file does not end too early. The layouts of its points have numbers.
 pub record Leads {D : Type 0} (disk : Ghosts D) (store : D) (reader : Reader) (p : Project) : Type 0 where
   pub journal : Contents
   pub stored : IsStored disk store (reader_form reader) journal
@@ -68,6 +84,8 @@ pub record Leads {D : Type 0} (disk : Ghosts D) (store : D) (reader : Reader) (p
   pub begins : Begins (log_of journal) (base_of journal)
   pub leads : LeadIn (version_of (reader_form reader)) journal.block_size (base_of journal)
       (map body_at journal.records) (kept_of p)
+  pub numbers : HasLayoutNumbers p
+  pub few : DrawsFew p.numbered.next reader
 
 -- That of a store's journal, or its first fault, which is in the journal's file. A store that does not tell its bytes
 -- may have given any journal.

@@ -1,9 +1,9 @@
 -- What reading the points of a header answers.
-use Rattle.std.specs.Prelude.{◌≡◌, ◌⊎◌, ℕ, None, Some, List, ◌∷◌, ◌++◌, [], length, map, Result, Ok, Err}
+use Rattle.std.specs.Prelude.{◌≡◌, ◌⊎◌, ℕ, ◌+◌, ◌*◌, ◌≤◌, None, Some, List, ◌∷◌, ◌++◌, [], length, map, Result, Ok, Err}
 use Rattle.std.specs.List.{AllByRecursion}
 use Rattle.disk_model.specs.declared.store.Store.{Ghosts}
 use Rattle.pcm_base.specs.History.{History}
-use Rattle.undo_history.specs.Stored.{Stored}
+use Rattle.layout_uses.specs.declared.numbering.Numbered.{Numbered}
 use Rattle.project_journal.specs.declared.fault.Damaged.{Damaged}
 use Rattle.project_journal.specs.declared.fault.JournalFault.{JournalFault}
 use Rattle.project_journal.specs.declared.fault.JournalFault.TheVariants as journal
@@ -11,6 +11,7 @@ use Rattle.project_journal.specs.declared.reader.Reader.{Reader}
 use Rattle.project_journal.specs.Header.{Form, first_failed}
 use Rattle.project_journal.specs.Journal.{Contents}
 use Rattle.project_journal.specs.Reader.{IsHeading, IsLater, IsStored, contents, last_record, reader_form}
+use Rattle.project_state.specs.Numbers.{unnumbered_history}
 use Rattle.project_state.specs.declared.track.Track.{Track}
 use Rattle.record_body.specs.Kept.{point_bytes}
 use Rattle.record_body.specs.PointTests.{point_at, point_tests}
@@ -79,10 +80,16 @@ abbrev pub HasFault : {D : Type 0} → Ghosts D → D → Form → ℕ → Damag
 HasFault disk store form file d =
     (j : Contents) × IsStored disk store form j × (file ≡ form.file) × (journal_fault form j ≡ Some d)
 
-abbrev pub BringsPoints : {D : Type 0} → Ghosts D → D → ℕ → Reader → Result (Stored (List Track)) JournalFault → Type 0
-BringsPoints disk store m r (Ok h) = HasPoints disk store m r h.history
+-- the points without their numbers
+abbrev pub BringsPoints : {D : Type 0} → Ghosts D → D → ℕ → Reader → Result Numbered JournalFault → Type 0
+BringsPoints disk store m r (Ok n) = HasPoints disk store m r (unnumbered_history n.history.history)
 BringsPoints disk store m r (Err (journal.Damaged file at want have)) =
     HasFault disk store (reader_form r) file (record { at = at; want = want; have = have })
 BringsPoints disk store m r (Err journal.DiskFault) = Unit {0}
 BringsPoints disk store m r (Err journal.NoMemory) = Unit {0}
 BringsPoints disk store m r (Err _) = ⊥
+
+-- For each number of a layout that was drawn so far, of which this is the next, there are 9 bytes of the journal before
+-- the reader's place, beside the fields of the header and 16 bytes for each of its points.
+abbrev pub DrawsFew : ℕ → Reader → Type 0
+DrawsFew next r = 9 * next + 16 * r.base.count + (reader_form r).header_size ≤ 9 + r.at

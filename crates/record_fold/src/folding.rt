@@ -1,5 +1,5 @@
 // The records of a journal, one after another.
-ghost use Rattle.std.specs.Prelude.{◌≡◌, ◌≤◌, ◌<◌, ◌^◌, ◌-◌, [], IfOk, IsErrOf, MatchResult};
+ghost use Rattle.std.specs.Prelude.{◌≡◌, ◌+◌, ◌*◌, ◌≤◌, ◌<◌, ◌^◌, ◌-◌, [], IfOk, OnOk, IsErrOf, MatchResult, length};
 ghost use Rattle.pcm_base.specs.declared.limits.TheConstants.{COUNTER_LIMIT};
 ghost use Rattle.disk_model.specs.Frames.{Kept as IsKept};
 ghost use Rattle.project_journal.specs.Answer.{Causes};
@@ -7,8 +7,8 @@ ghost use Rattle.project_journal.specs.Reader.{IsHeading, IsPlaced, last_record,
 ghost use Rattle.record_body.specs.FirstFault.{Finds};
 ghost use Rattle.record_body.specs.Kept.{new_project, after_body, version_of, IsNextIn};
 ghost use Rattle.record_fold.specs.Faults.{record_tests, says};
-ghost use Rattle.record_fold.specs.Folds.{kept_of, Brings, FoldsOne, FoldsStored, IsBrought, IsValid};
-ghost use Rattle.record_fold.specs.Heads.{ReadsOn};
+ghost use Rattle.record_fold.specs.Folds.{kept_of, Brings, FoldsOne, FoldsStored, HasLayoutNumbers, IsBrought, IsValid};
+ghost use Rattle.record_fold.specs.Heads.{DrawsFew, ReadsOn};
 
 use super::heading::{in_journal, read_points};
 use super::project::Project;
@@ -31,10 +31,15 @@ fn take_record(
     requires least { 4 ≤ m }
     requires commit { project.old.commit < 2 ^ 64 - 1 }
     requires valid { IsValid m (kept_of project.old) }
-    ensures { Finds (record_tests version m (kept_of project.old) (at, bytes.now))
+    requires layouts { project.old.numbered.next ≤ COUNTER_LIMIT }
+    requires numbers { HasLayoutNumbers project.old }
+    ensures finds { Finds (record_tests version m (kept_of project.old) (at, bytes.now))
         (λ _. IsNextIn version m (kept_of project.old) bytes.now (says version (kept_of project.old) bytes.now)
         × (kept_of project.new ≡ after_body (kept_of project.old) (says version (kept_of project.old) bytes.now)))
         result }
+    ensures numbers { OnOk result (HasLayoutNumbers project.new) }
+    // Each track that a record says has 9 bytes there, and draws one number at most.
+    ensures few { OnOk result (9 * project.new.numbered.next ≤ 9 * project.old.numbered.next + length bytes.now) }
 {
     let before = Before {
         at,
@@ -42,9 +47,9 @@ fn take_record(
         next_track: project.next_track,
         commits: project.commit,
     };
-    let current = current_of(&project.history);
+    let current = current_of(&project.numbered.history);
     match read_record(alloc, bytes, version, m, before, current) {
-        Ok(body) => take_body(project, at, body),
+        Ok(body) => take_body(alloc, project, at, body),
         Err(fault) => Err(fault),
     }
 }
@@ -52,7 +57,9 @@ fn take_record(
 /// The project before the first record, where the header has no points.
 fn no_records(alloc: Global, depth: u32) -> Result<Project, JournalFault>
     requires { 1 ≤ depth }
-    ensures { MatchResult result (λ p. kept_of p ≡ new_project depth) (λ e. e ≡ JournalFault.NoMemory) }
+    ensures kept { MatchResult result (λ p. kept_of p ≡ new_project depth) (λ e. e ≡ JournalFault.NoMemory) }
+    ensures numbers { IfOk result HasLayoutNumbers }
+    ensures first { IfOk result (λ p. p.numbered.next ≤ 1) }
 {
     match Project::new(alloc, depth) {
         Ok(project) => Ok(project),
@@ -72,6 +79,8 @@ fn bring<S: Store>(
     ensures brings { Brings S.Store store.new m reader.new result }
     ensures later { ReadsOn reader.old reader.new result }
     ensures commit { IfOk result (λ p. p.commit ≤ COUNTER_LIMIT) }
+    ensures numbers { IfOk result HasLayoutNumbers }
+    ensures few { IfOk result (λ p. DrawsFew p.numbered.next reader.new) }
     ensures cause { Causes S.Store store.old store.new result }
     ensures kept { IsKept S.Store store.old store.new }
 {
@@ -79,9 +88,9 @@ fn bring<S: Store>(
     if base.count == 0 {
         return no_records(alloc, reader.depth());
     }
-    let history = read_points(alloc, store, reader, m)?;
+    let numbered = read_points(alloc, store, reader, m)?;
     Ok(Project {
-        history,
+        numbered,
         next_block: base.next_block,
         next_track: base.next_track,
         commit: base.commit,
@@ -109,9 +118,14 @@ fn fold_last(
     requires least { 4 ≤ m }
     requires commit { project.old.commit < 2 ^ 64 - 1 }
     requires valid { IsValid m (kept_of project.old) }
+    requires layouts { project.old.numbered.next ≤ COUNTER_LIMIT }
+    requires numbers { HasLayoutNumbers project.old }
     requires placed { IsPlaced reader.now }
     ensures folds { FoldsOne version m (kept_of project.old) reader.now.window.file (last_record reader.now)
         (kept_of project.new) result }
+    ensures numbers { OnOk result (HasLayoutNumbers project.new) }
+    ensures few { OnOk result
+        (9 * project.new.numbered.next ≤ 9 * project.old.numbered.next + length (last_record reader.now).1) }
     ensures no_fault { IsErrOf result JournalFault.DiskFault → ⊥ }
 {
     let (at, bytes) = reader.record();
@@ -136,6 +150,8 @@ fn fold_records<S: Store>(
     requires size { m ≡ reader.old.block_size }
     requires least { 4 ≤ m }
     requires commit { project.commit ≤ COUNTER_LIMIT }
+    requires numbers { HasLayoutNumbers project }
+    requires few { DrawsFew project.numbered.next reader.old }
     ensures folds { FoldsStored S.Store store.new reader.new result }
     ensures later { ReadsOn reader.old reader.new result }
     ensures cause { Causes S.Store store.old store.new result }
@@ -154,7 +170,8 @@ fn fold_records<S: Store>(
 
 /// The project to which the records of a journal lead from the one that its header brings. It reads each point and
 /// record once, and takes memory for the points that the history keeps, for the point of one record and for the bytes
-/// that the reader holds, which are those of 64 KiB or of the longest record or point.
+/// that the reader holds, which are those of 64 KiB or of the longest record or point. Each layout gets its number as
+/// its point is read.
 ///
 /// # Errors
 ///

@@ -1,17 +1,18 @@
 // A project while records are folded into it.
 ghost use Rattle.std.specs.Prelude.{◌≡◌, ◌≤◌, IfOk};
 ghost use Rattle.record_body.specs.Kept.{new_project};
-ghost use Rattle.record_fold.specs.Folds.{kept_of};
+ghost use Rattle.record_fold.specs.Folds.{kept_of, HasLayoutNumbers};
 
+use layout_uses::Numbered;
 use pcm_base::{FIRST_BLOCK, NoMemory};
 use project_state::Point;
 use std::alloc::Global;
-use undo_history::History;
 
 /// What records lead to: the points of a project, and the numbers that never fall.
 #[derive(Drop)]
 pub struct Project {
-    pub history: History<Point>,
+    /// The points, whose layouts have their numbers.
+    pub numbered: Numbered,
     /// The least id of a block that was not given yet, from 16.
     pub next_block: u64,
     /// The least id of a track that was not given yet, from 1.
@@ -24,16 +25,19 @@ impl Project {
     /// The project of no records, whose one point has no tracks. At most `depth` points are kept, at least 1.
     pub fn new(alloc: Global, depth: u32) -> Result<Project, NoMemory>
         requires { 1 ≤ depth }
-        ensures { IfOk result (λ p. kept_of p ≡ new_project depth) }
+        ensures kept { IfOk result (λ p. kept_of p ≡ new_project depth) }
+        ensures numbers { IfOk result HasLayoutNumbers }
+        ensures first { IfOk result (λ p. p.numbered.next ≤ 1) }
     {
-        match History::new(alloc, Point::new(alloc), 0, depth) {
-            Ok(history) => Ok(Project {
-                history,
+        let none = Point::new(alloc);
+        match Numbered::new(alloc, &none, 0, depth) {
+            Ok(numbered) => Ok(Project {
+                numbered,
                 next_block: FIRST_BLOCK,
                 next_track: 1,
                 commit: 0,
             }),
-            Err(_) => Err(NoMemory),
+            Err(fault) => Err(fault),
         }
     }
 }

@@ -1,8 +1,11 @@
 // A record's body, by the version of its journal.
-ghost use Rattle.std.specs.Prelude.{◌≡◌};
+ghost use Rattle.std.specs.Prelude.{◌≡◌, IfOk, map};
+ghost use Rattle.project_state.specs.Numbers.{unnumbered};
 ghost use Rattle.record_body.specs.FirstFault.{Finds};
 ghost use Rattle.record_body.specs.Kept.{current_tracks};
+ghost use Rattle.record_body.specs.Numbers.{unnumbered_body};
 ghost use Rattle.record_body.specs.Sound.{IsSoundPoint};
+ghost use Rattle.record_body.specs.Told.{BodyShares};
 ghost use Rattle.record_fold.specs.Faults.{field_tests, IsSaid};
 
 use project_state::Point;
@@ -18,7 +21,7 @@ pub(crate) fn current_of(history: &History<Point>) -> &Point
 }
 
 /// Reads the body of a record in a journal of this version. After version 1 an edit may be written by the current
-/// point.
+/// point. What it says has no numbers. A track of the body has none either, or is the current one with its number.
 pub(crate) fn read_record(
     alloc: Global,
     bytes: &[u8],
@@ -28,8 +31,9 @@ pub(crate) fn read_record(
     current: &Point,
 ) -> Result<Body, BadBody>
     requires { IsSoundPoint m before.next_block before.next_track current.now }
-    ensures { Finds (field_tests version m before current.now bytes.now) (IsSaid version m before current.now bytes.now)
-        result }
+    ensures found { Finds (field_tests version m before (map unnumbered current.now) bytes.now)
+        (λ b. IsSaid version m before (map unnumbered current.now) bytes.now (unnumbered_body b)) result }
+    ensures shared { IfOk result (BodyShares current.now) }
 {
     if version < 2 {
         return read_body(alloc, bytes, m, before);

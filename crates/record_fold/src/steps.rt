@@ -1,18 +1,23 @@
 // What one record makes of a project.
-ghost use Rattle.std.specs.Prelude.{◌≡◌, ◌+◌, ◌-◌, ◌<◌, ◌^◌, ◌∷◌, [], OnOk};
+ghost use Rattle.std.specs.Prelude.{◌≡◌, ◌+◌, ◌-◌, ◌≤◌, ◌<◌, ◌^◌, OnOk};
+ghost use Rattle.pcm_base.specs.declared.limits.TheConstants.{COUNTER_LIMIT};
 ghost use Rattle.pcm_base.specs.History.{at_cursor, purged};
+ghost use Rattle.project_state.specs.Numbers.{AreNewOrCurrent};
 ghost use Rattle.record_body.specs.declared.body.Body.TheVariants as body;
-ghost use Rattle.record_body.specs.FirstFault.{Finds, least};
-ghost use Rattle.record_body.specs.Kept.{after_body};
+ghost use Rattle.record_body.specs.FirstFault.{Finds};
+ghost use Rattle.record_body.specs.Kept.{current_tracks};
+ghost use Rattle.record_body.specs.Numbers.{unnumbered_body};
+ghost use Rattle.record_body.specs.Told.{BodyShares};
 ghost use Rattle.record_fold.specs.Faults as fault;
 ghost use Rattle.record_fold.specs.Faults.{history_tests};
-ghost use Rattle.record_fold.specs.Folds.{kept_of};
+ghost use Rattle.record_fold.specs.Folds.{HasLayoutNumbers, IsAfter};
 
 use super::project::Project;
 use pcm_base::NoMemory;
 use project_journal::Damaged;
 use project_state::Point;
 use record_body::{BadBody, Body};
+use std::alloc::Global;
 use undo_history::History;
 
 /// The history has nowhere to go, which is reported at the record's kind.
@@ -77,32 +82,75 @@ fn drop_oldest(history: &mut History<Point>, at: u64, n: u64) -> Result<(), BadB
     }
 }
 
-/// An edit, or a piece of a recording.
+/// An edit, or a piece of a recording, which was read by the current point. Its layouts get their numbers.
 fn take_edit(
+    alloc: Global,
     project: &mut Project,
     tag: u64,
     next_block: u64,
     next_track: u64,
-    point: Point,
+    point: &Point,
 ) -> Result<(), NoMemory>
-    requires { project.old.commit < 2 ^ 64 - 1 }
-    ensures { OnOk result (kept_of project.new
-        ≡ after_body (kept_of project.old) (body.Edit tag next_block next_track point)) }
+    requires commit { project.old.commit < 2 ^ 64 - 1 }
+    requires layouts { project.old.numbered.next ≤ COUNTER_LIMIT }
+    requires numbers { HasLayoutNumbers project.old }
+    requires shared { AreNewOrCurrent (current_tracks project.old.numbered.history.history) point.now }
+    ensures { OnOk result (IsAfter project.old project.new (body.Edit tag next_block next_track point.now)) }
 {
-    if project.history.record(point, tag).is_err() {
-        return Err(NoMemory);
-    }
+    project.numbered.record(alloc, point, tag)?;
     project.next_block = next_block;
     project.next_track = next_track;
     project.commit += 1;
     Ok(())
 }
 
-/// Tests what the history asks of a record, and does to the project what the record says.
-pub(crate) fn take_body(project: &mut Project, at: u64, body: Body) -> Result<(), BadBody>
-    requires { project.old.commit < 2 ^ 64 - 1 }
-    ensures { Finds (history_tests project.old.history.history at body)
-        (λ _. kept_of project.new ≡ after_body (kept_of project.old) body) result }
+fn take_undo(project: &mut Project, at: u64) -> Result<(), BadBody>
+    requires commit { project.old.commit < 2 ^ 64 - 1 }
+    requires numbers { HasLayoutNumbers project.old }
+    ensures { Finds (history_tests project.old.numbered.history.history at body.Undo)
+        (λ _. IsAfter project.old project.new body.Undo) result }
+{
+    go_back(&mut project.numbered.history, at)?;
+    project.commit += 1;
+    Ok(())
+}
+
+fn take_redo(project: &mut Project, at: u64) -> Result<(), BadBody>
+    requires commit { project.old.commit < 2 ^ 64 - 1 }
+    requires numbers { HasLayoutNumbers project.old }
+    ensures { Finds (history_tests project.old.numbered.history.history at body.Redo)
+        (λ _. IsAfter project.old project.new body.Redo) result }
+{
+    go_forth(&mut project.numbered.history, at)?;
+    project.commit += 1;
+    Ok(())
+}
+
+fn take_purge(project: &mut Project, at: u64, n: u64) -> Result<(), BadBody>
+    requires commit { project.old.commit < 2 ^ 64 - 1 }
+    requires numbers { HasLayoutNumbers project.old }
+    ensures { Finds (history_tests project.old.numbered.history.history at (body.Purge n))
+        (λ _. IsAfter project.old project.new (body.Purge n)) result }
+{
+    drop_oldest(&mut project.numbered.history, at, n)?;
+    project.commit += 1;
+    Ok(())
+}
+
+/// Tests what the history asks of a record, and does to the project what the record says. The body was read by the
+/// current point.
+pub(crate) fn take_body(
+    alloc: Global,
+    project: &mut Project,
+    at: u64,
+    body: Body,
+) -> Result<(), BadBody>
+    requires commit { project.old.commit < 2 ^ 64 - 1 }
+    requires layouts { project.old.numbered.next ≤ COUNTER_LIMIT }
+    requires numbers { HasLayoutNumbers project.old }
+    requires shared { BodyShares (current_tracks project.old.numbered.history.history) body }
+    ensures { Finds (history_tests project.old.numbered.history.history at (unnumbered_body body))
+        (λ _. IsAfter project.old project.new body) result }
 {
     match body {
         Body::Edit {
@@ -111,23 +159,11 @@ pub(crate) fn take_body(project: &mut Project, at: u64, body: Body) -> Result<()
             next_track,
             point,
         } => {
-            take_edit(project, tag, next_block, next_track, point)?;
+            take_edit(alloc, project, tag, next_block, next_track, &point)?;
             Ok(())
         }
-        Body::Undo => {
-            go_back(&mut project.history, at)?;
-            project.commit += 1;
-            Ok(())
-        }
-        Body::Redo => {
-            go_forth(&mut project.history, at)?;
-            project.commit += 1;
-            Ok(())
-        }
-        Body::Purge { n } => {
-            drop_oldest(&mut project.history, at, n)?;
-            project.commit += 1;
-            Ok(())
-        }
+        Body::Undo => take_undo(project, at),
+        Body::Redo => take_redo(project, at),
+        Body::Purge { n } => take_purge(project, at, n),
     }
 }

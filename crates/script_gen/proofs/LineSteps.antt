@@ -8,7 +8,7 @@ use Rattle.pcm_base.specs.declared.command.Command.{Command}
 use Rattle.pcm_base.specs.declared.command.Command.TheVariants as command
 use Rattle.pcm_base.specs.declared.command.Call.TheVariants as call
 use Rattle.pcm_base.specs.Cells.{cells_at}
-use Rattle.pcm_base.specs.Counters.{LineNeeds, commits_needed, met_cells, tracks_needed}
+use Rattle.pcm_base.specs.Counters.{LineNeeds, commits_needed, layouts_of, met_cells, tracks_needed}
 use Rattle.pcm_base.specs.Envelope.{columns_of}
 use Rattle.pcm_base.specs.Form.{IsInForm}
 use Rattle.pcm_base.specs.Outside.{Outside}
@@ -40,6 +40,7 @@ pub record SomeReply (out : Outside) (s : State) (c : Command) : Type 0 where
 pub record Goes (P Q : State → Type 0) (c : Command) : Type 0 where
   pub form : IsInForm c
   pub tracks : (out : Outside) → tracks_needed out c ≤ 1
+  pub layouts : (out : Outside) (s : State) → P s → layouts_of out s (call.Line c) ≤ 1
   pub commits : commits_needed c ≤ 1
   pub still : moves_of (call.Line c) ≡ 0
   pub passes : (out : Outside) (s : State) → P s → own_tests out s c ≡ None
@@ -66,6 +67,7 @@ ramp-goes len copied at n start step within short some few =
     record {
       form = record { 0 = omega arith; 1 = omega arith; 2 = some; 3 = omega arith };
       tracks = λ out. omega arith;
+      layouts = λ out s h. omega arith;
       commits = omega arith;
       still = refl;
       passes = λ out s h. ramp-passes out len copied at n start step s h within (omega arith);
@@ -88,6 +90,7 @@ delete-goes len copied from to order within short =
     record {
       form = record { 0 = omega arith; 1 = omega arith; 2 = omega arith };
       tracks = λ out. omega arith;
+      layouts = λ out s h. omega arith;
       commits = omega arith;
       still = refl;
       passes = λ out s h. delete-passes out len copied from to s h order within;
@@ -112,6 +115,7 @@ gain-goes len copied from to gain order within few short low =
     record {
       form = record { 0 = omega arith; 1 = omega arith; 2 = omega arith; 3 = low };
       tracks = λ out. omega arith;
+      layouts = λ out s h. omega arith;
       commits = omega arith;
       still = refl;
       passes = λ out s h. gain-passes out len copied from to gain s h order within;
@@ -135,6 +139,7 @@ silence-goes len copied from to order within few short =
     record {
       form = record { 0 = omega arith; 1 = omega arith; 2 = omega arith };
       tracks = λ out. omega arith;
+      layouts = λ out s h. omega arith;
       commits = omega arith;
       still = refl;
       passes = λ out s h. silence-passes out len copied from to s h order within;
@@ -158,6 +163,7 @@ paste-goes len copied at within short some few =
     record {
       form = (omega arith, omega arith);
       tracks = λ out. omega arith;
+      layouts = λ out s h. omega (arith, one-clip len copied s h some);
       commits = omega arith;
       still = refl;
       passes = λ out s h. paste-passes out len copied at s h some within (omega arith);
@@ -180,6 +186,7 @@ track-goes depth room =
     record {
       form = tt;
       tracks = λ out. omega arith;
+      layouts = λ out s h. omega arith;
       commits = omega arith;
       still = refl;
       passes = λ out s e. ap (λ (s : State). track_limit s 1) e;
@@ -201,6 +208,7 @@ pub copy-goes : (len old from to : ℕ) → from < to → to ≤ len → len ≤
 copy-goes len old from to order within short = record {
   form = record { 0 = omega arith; 1 = (omega arith, omega arith); 2 = omega arith; 3 = omega arith };
   tracks = λ out. omega arith;
+  layouts = λ out s h. omega arith;
   commits = omega arith;
   still = refl;
   passes = λ out s h. copy-passes out len old from to s h order within;
@@ -216,6 +224,7 @@ pub undo-goes : (len copied : ℕ) → Goes (IsAt len copied false) (IsAt len co
 undo-goes len copied = record {
   form = tt;
   tracks = λ out. omega arith;
+  layouts = λ out s h. omega arith;
   commits = omega arith;
   still = refl;
   passes = λ out s h. undo-passes out len copied s h;
@@ -231,6 +240,7 @@ pub redo-goes : (len copied : ℕ) → Goes (IsAt len copied true) (IsAt len cop
 redo-goes len copied = record {
   form = tt;
   tracks = λ out. omega arith;
+  layouts = λ out s h. omega arith;
   commits = omega arith;
   still = refl;
   passes = λ out s h. redo-passes out len copied s h;
@@ -246,6 +256,7 @@ pub tracks-goes : (len copied : ℕ) → Goes (IsAt len copied false) (IsAt len 
 tracks-goes len copied = record {
   form = tt;
   tracks = λ out. omega arith;
+  layouts = λ out s h. omega arith;
   commits = omega arith;
   still = refl;
   passes = λ out s h. refl;
@@ -262,6 +273,7 @@ pub envelope-goes : (len copied : ℕ) → 16 ≤ len → len ≤ 102000 →
 envelope-goes len copied wide short = record {
   form = record { 0 = omega arith; 1 = omega arith; 2 = omega arith; 3 = omega arith };
   tracks = λ out. omega arith;
+  layouts = λ out s h. omega arith;
   commits = omega arith;
   still = refl;
   passes = λ out s h. envelope-passes out len copied s h wide;

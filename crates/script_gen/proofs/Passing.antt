@@ -13,7 +13,7 @@ use Rattle.pcm_base.specs.declared.refusal.Refusal.TheVariants as refusal
 use Rattle.pcm_base.specs.Cells.{Project, cells_at, longest, tracks_from}
 use Rattle.pcm_base.specs.Counters.{commits_needed, commits_of, counter_tests, generations_by, generations_of, no_room}
 use Rattle.pcm_base.specs.Counters.{pins_of, places_of}
-use Rattle.pcm_base.specs.Counters.{record_test, tracks_needed, tracks_of}
+use Rattle.pcm_base.specs.Counters.{layouts_of, record_test, tracks_needed, tracks_of}
 use Rattle.pcm_base.specs.Outside.{Outside}
 use Rattle.pcm_base.specs.Refusals.{◌otherwise◌, bad_columns, bad_range, call_tests, inserted_length, is_empty}
 use Rattle.pcm_base.specs.Refusals.{length_limit, own_tests, pasted_lengths, refused_if}
@@ -145,6 +145,7 @@ pub record HasRoom (t : Studio) : Type 0 where
   pub pins : t.state.next_pin ≤ 2 ^ 62
   pub places : t.journal_end + 2450110 ≤ 2 ^ 62
   pub generations : t.generation + 1 ≤ 2 ^ 62
+  pub layouts : t.next_layout + 1 ≤ 2 ^ 62
 
 pub places-few : (commits len : ℕ) → (if commits == 0 then 0 else 6 + len) ≤ 6 + len
 places-few commits len = by (commits == 0)
@@ -156,16 +157,17 @@ places-few commits len = by (commits == 0)
 pub line-passes : (out : Outside) (t : Studio) (c : Command) (blocks len : ℕ) → HasRoom t →
     own_tests out t.state c ≡ None →
     blocks ≤ 2009 → len ≤ 2450104 → tracks_needed out c ≤ 1 → commits_needed c ≤ 1 →
-    generations_by (shape_of c) ≡ 0 →
+    generations_by (shape_of c) ≡ 0 → layouts_of out t.state (call.Line c) ≤ 1 →
     refusal_of out t (call.Line c) blocks len ≡ None
-line-passes out t c blocks len room own few short tracks commits still =
+line-passes out t c blocks len room own few short tracks commits still draws =
     let line = call.Line c in
     let ids = room.ids in
     let next_track = room.tracks in
     let commit = room.commits in
     let pins = room.pins in
     let end = room.places in
-    let last = room.generations in
+    let generations = room.generations in
+    let last = room.layouts in
     let places = places-few (commits_needed c) len in
     let a = no_room t.next_block blocks in
     let b = no_room t.state.next_track (tracks_of out line) in
@@ -173,14 +175,17 @@ line-passes out t c blocks len room own few short tracks commits still =
     let e = no_room t.state.next_pin (pins_of line) in
     let f = no_room t.journal_end (places_of line len) in
     let g = no_room t.generation (generations_of line) in
+    let h = no_room t.next_layout (layouts_of out t.state line) in
     let counters : counter_tests out t line blocks len ≡ None =
-    both-pass a (b otherwise d otherwise e otherwise f otherwise g) (room-passes t.next_block blocks (omega arith))
-    (both-pass b (d otherwise e otherwise f otherwise g)
+    both-pass a (b otherwise d otherwise e otherwise f otherwise g otherwise h)
+    (room-passes t.next_block blocks (omega arith))
+    (both-pass b (d otherwise e otherwise f otherwise g otherwise h)
     (room-passes t.state.next_track (tracks_of out line) (omega arith))
-    (both-pass d (e otherwise f otherwise g) (room-passes t.state.commit (commits_of line) (omega arith))
-    (both-pass e (f otherwise g) (room-passes t.state.next_pin (pins_of line) (omega arith))
-    (both-pass f g (room-passes t.journal_end (places_of line len) (omega arith))
-    (room-passes t.generation (generations_of line) (omega arith)))))) in
+    (both-pass d (e otherwise f otherwise g otherwise h) (room-passes t.state.commit (commits_of line) (omega arith))
+    (both-pass e (f otherwise g otherwise h) (room-passes t.state.next_pin (pins_of line) (omega arith))
+    (both-pass f (g otherwise h) (room-passes t.journal_end (places_of line len) (omega arith))
+    (both-pass g h (room-passes t.generation (generations_of line) (omega arith))
+    (room-passes t.next_layout (layouts_of out t.state line) (omega arith))))))) in
     let record_passes : record_test len ≡ None =
     ap (λ (r : Bool). refused_if r (refusal.RecordLimit len)) (le-ltb LONGEST_BODY len (omega arith)) in
     both-pass (stop_test t.stopped line)

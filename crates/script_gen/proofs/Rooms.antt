@@ -44,10 +44,10 @@ first-few P Q c cs t b goes rest = (needs-few P Q c t b goes, next)
         EachNeedsAtMost u cs 11 6872
     next sound reply u done =
         let out = outside t sound in
-        let behind : IsSized Q (followed out t (call.Line c) done.blocks done.len) =
+        let behind : IsSized Q (followed out t (call.Line c) done.blocks done.len done.layout) =
         record { size = b.size; state = goes.next out t.state b.state } in
         rest u (subst (IsSized Q) (sym (done.is ∙ answered_same out t.state (call.Line c) reply done.answers goes.still
-        (followed out t (call.Line c) done.blocks done.len))) behind)
+        (followed out t (call.Line c) done.blocks done.len done.layout))) behind)
 
 lines-few : (left : ℕ) (p : Place) (t : Studio) → IsPlace p → IsSized (Stands p) t →
     EachNeedsAtMost t (lines_from left p) 11 6872

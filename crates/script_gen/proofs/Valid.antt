@@ -7,7 +7,7 @@ use Rattle.pcm_base.specs.declared.command.Call.TheVariants as call
 use Rattle.pcm_base.specs.declared.command.Command.{Command}
 use Rattle.pcm_base.specs.declared.command.Command.TheVariants as command
 use Rattle.pcm_base.specs.declared.entry.SoundMove.{SoundMove}
-use Rattle.pcm_base.specs.Counters.{commits_needed}
+use Rattle.pcm_base.specs.Counters.{MayDraw, commits_needed}
 use Rattle.pcm_base.specs.Outside.{Outside}
 use Rattle.pcm_base.specs.Run.{CarriesOut, followed, outside}
 use Rattle.pcm_base.specs.State.{State, new_state}
@@ -34,6 +34,7 @@ pub record IsBehind (made : ℕ) (P : State → Type 0) (t : Studio) : Type 0 wh
   pub ids : t.next_block ≤ 16 + 2009 * made
   pub places : t.journal_end ≤ 80 + 2450110 * made
   pub generation : t.generation ≡ 0
+  pub layouts : t.next_layout ≤ 1 + made
 
 behind-room : (made : ℕ) (P : State → Type 0) (t : Studio) → made ≤ 4096 → IsBehind made P t → HasRoom t
 behind-room made P t few b =
@@ -43,6 +44,7 @@ behind-room made P t few b =
     let ids = b.ids in
     let places = b.places in
     let generation = b.generation in
+    let layouts = b.layouts in
     record {
       going = b.going;
       ids = omega arith;
@@ -51,6 +53,7 @@ behind-room made P t few b =
       pins = omega arith;
       places = omega arith;
       generations = omega arith;
+      layouts = omega arith;
     }
 
 goes-valid : (made : ℕ) (P Q : State → Type 0) (c : Command) (t : Studio) → made ≤ 4096 → IsBehind made P t →
@@ -61,7 +64,7 @@ goes-valid made P Q c t small b goes sound blocks len needs =
     let few = goes.few out t blocks len b.state needs in
     line-passes out t c blocks len (behind-room made P t small b) (goes.passes out t.state b.state)
     (few-blocks t.block_size blocks len few) (few-bytes t.block_size blocks len few) (goes.tracks out) goes.commits
-    (no_generation (call.Line c) goes.still)
+    (no_generation (call.Line c) goes.still) (goes.layouts out t.state b.state)
 
 goes-on : (made : ℕ) (P Q : State → Type 0) (c : Command) (t : Studio) → made ≤ 4096 → IsBehind made P t →
     Goes P Q c →
@@ -74,16 +77,18 @@ goes-on made P Q c t small b goes =
     record {
       sound = sound;
       reply = answer.reply;
-      next = followed out t (call.Line c) some.blocks some.len;
+      next = followed out t (call.Line c) some.blocks some.len t.next_layout;
       answered = answer.answered;
       step = record {
         blocks = some.blocks;
         len = some.len;
+        layout = t.next_layout;
         needs = some.needs;
         passed = goes-valid made P Q c t small b goes sound some.blocks some.len some.needs;
+        draws = (omega arith, omega arith);
         answers = answer.may;
         is = sym (answered_same out t.state (call.Line c) answer.reply answer.may goes.still
-            (followed out t (call.Line c) some.blocks some.len));
+            (followed out t (call.Line c) some.blocks some.len t.next_layout));
         heard = goes.heard out t.state;
       };
     }
@@ -106,14 +111,16 @@ at-kept len copied undone = record {
   pins = λ s h. let e = h.next_pin in omega arith;
 }
 
-followed-behind : (made : ℕ) (P Q : State → Type 0) (c : Command) (out : Outside) (t : Studio) (blocks len : ℕ) →
-    IsBehind made P t → IsKept Q → Goes P Q c → IsFew t.block_size blocks len →
-    IsBehind (made + 1) Q (followed out t (call.Line c) blocks len)
-followed-behind made P Q c out t blocks len b kept goes few =
+followed-behind : (made : ℕ) (P Q : State → Type 0) (c : Command) (out : Outside) (t : Studio)
+    (blocks len layout : ℕ) → IsBehind made P t → IsKept Q → Goes P Q c → IsFew t.block_size blocks len →
+    MayDraw out t (call.Line c) layout →
+    IsBehind (made + 1) Q (followed out t (call.Line c) blocks len layout)
+followed-behind made P Q c out t blocks len layout b kept goes few draws =
     let next = goes.next out t.state b.state in
     let ids = b.ids in
     let places = b.places in
     let commits = b.commits in
+    let layouts = b.layouts in
     record {
       going = b.going;
       state = next;
@@ -123,6 +130,7 @@ followed-behind made P Q c out t blocks len b kept goes few =
       ids = omega (arith, few-blocks t.block_size blocks len few);
       places = omega (arith, few-bytes t.block_size blocks len few, bytes-few (commits_needed c) len);
       generation = b.generation;
+      layouts = omega (arith, draws.1, goes.layouts out t.state b.state);
     }
 
 -- a line, and those after it
@@ -141,9 +149,9 @@ goes-first made P Q c cs t small b kept goes rest = record {
         let out = outside t sound in
         rest u (subst (IsBehind (made + 1) Q) (sym (done.is
         ∙ answered_same out t.state (call.Line c) reply done.answers goes.still
-        (followed out t (call.Line c) done.blocks done.len)))
-        (followed-behind made P Q c out t done.blocks done.len b kept goes
-        (goes.few out t done.blocks done.len b.state done.needs)))
+        (followed out t (call.Line c) done.blocks done.len done.layout)))
+        (followed-behind made P Q c out t done.blocks done.len done.layout b kept goes
+        (goes.few out t done.blocks done.len b.state done.needs) done.draws))
 
 lines-valid : (left made : ℕ) (p : Place) (t : Studio) → made + left ≤ 4096 → IsPlace p → IsBehind made (Stands p) t →
     AreValid t (lines_from left p)
@@ -164,6 +172,7 @@ fresh-behind rate block_size depth = record {
   ids = omega arith;
   places = omega arith;
   generation = refl;
+  layouts = omega arith;
 }
 
 pub script-valid : (number lines : ℕ) → lines ≤ 4096 → 2 ≤ lines → AreAlwaysValid (script_of number lines)

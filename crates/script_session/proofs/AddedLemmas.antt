@@ -18,7 +18,7 @@ use Rattle.pcm_base.specs.Run.{Follows, name_in_line}
 use Rattle.pcm_base.specs.Shape.{is_commit, shape_of}
 use Rattle.pin_turn.specs.Counts.{Each}
 use Rattle.pin_turn.proofs.Sums.{Each-append}
-use Rattle.editor_core.specs.Imports.{VaultCountedBy}
+use Rattle.editor_state.specs.Vaults.{VaultCountedBy}
 use Rattle.script_text.specs.Grammar.{is_silent, line_of}
 use Rattle.studio_seats.specs.declared.deed.Deed.{Deed}
 use Rattle.studio_seats.specs.Deeds.{commits, deed, entries_of, number_after}

@@ -20,9 +20,9 @@ use Rattle.disk_model.specs.declared.store.Store.{Ghosts}
 use Rattle.edit_ports.specs.declared.vault.Vault as vault
 use Rattle.pin_turn.specs.declared.view.View.{View}
 use Rattle.pin_turn.specs.Counts.{Each}
-use Rattle.editor_core.specs.Applied.{reply_of}
-use Rattle.editor_core.specs.Core.{Core}
-use Rattle.editor_core.specs.Took.{told_by}
+use Rattle.editor_state.specs.Applied.{reply_of}
+use Rattle.editor_state.specs.Core.{Core}
+use Rattle.editor_state.specs.Took.{told_by}
 use Rattle.studio_seats.specs.declared.deed.Deed.{Deed}
 use Rattle.studio_seats.specs.declared.held.Held.{Held}
 use Rattle.studio_seats.specs.Deeds.{commits, made, number_after, raised_by}
@@ -47,7 +47,7 @@ turn_of c never = tt
 
 -- ---- the place after it
 
-module _ {D V : Type 0} (disk : Ghosts D) (vaults : vault.Ghosts V) (start : Core D) (v w : View (Held D V) Deed)
+module _ {D V : Type 0} (disk : Ghosts D) (vaults : vault.Ghosts V) (start : Core D) (v w : View (Held D V disk) Deed)
     (name : List ℕ) (a b : V) (said : Said ℕ) (last : ℕ) (numbers : List ℕ)
     (h : Bounced (origin disk vaults start) batch said (views v w) (moved vaults name a b))
     (low : last ≤ number_after start.commit_number v.seen) where

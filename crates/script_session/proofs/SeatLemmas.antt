@@ -16,10 +16,10 @@ use Rattle.pcm_base.specs.Run.{Heard, name_in_line}
 use Rattle.disk_model.specs.declared.store.Store.{Ghosts}
 use Rattle.edit_ports.specs.declared.vault.Vault as vault
 use Rattle.pin_turn.specs.declared.view.View.{View}
-use Rattle.editor_core.specs.Applied.{IsTold, move_of, reply_of}
-use Rattle.editor_core.specs.Core.{Core}
-use Rattle.editor_core.specs.Imports.{VaultCounted}
-use Rattle.editor_core.specs.Took.{told_by}
+use Rattle.editor_state.specs.Applied.{IsTold, move_of, reply_of}
+use Rattle.editor_state.specs.Core.{Core}
+use Rattle.editor_state.specs.Vaults.{VaultCounted}
+use Rattle.editor_state.specs.Took.{told_by}
 use Rattle.studio_seats.specs.declared.deed.Deed.{Deed}
 use Rattle.studio_seats.specs.declared.held.Held.{Held}
 use Rattle.studio_seats.specs.Deeds.{deed, number_after}
@@ -31,13 +31,14 @@ use Rattle.script_session.specs.Session.{Turn}
 
 module _ {D V : Type 0} (disk : Ghosts D) (vaults : vault.Ghosts V) (start : Core D) where
   -- the number that a turn tells
-  number_at : (v w : View (Held D V) Deed) (c : Call) (what : Result Reply Refusal) (sound : SoundMove) (at : ℕ)
+  number_at : (v w : View (Held D V disk) Deed) (c : Call) (what : Result Reply Refusal) (sound : SoundMove) (at : ℕ)
       (h : Turned (origin disk vaults start) (asked c what sound) at (views v w))
       → at ≡ number_after start.commit_number ((v.seen ++ h.between) ++ deed v.number c what sound ∷ [])
   number_at v w c what sound at h = h.number ∙ turned_number h
 
   -- is no lower than one that was told before
-  number_up : (v w : View (Held D V) Deed) (c : Call) (what : Result Reply Refusal) (sound : SoundMove) (at last : ℕ)
+  number_up : (v w : View (Held D V disk) Deed) (c : Call) (what : Result Reply Refusal) (sound : SoundMove)
+      (at last : ℕ)
       → Turned (origin disk vaults start) (asked c what sound) at (views v w)
       → last ≤ number_after start.commit_number v.seen → last ≤ at
   number_up v w c what sound at last h low =
@@ -45,7 +46,8 @@ module _ {D V : Type 0} (disk : Ghosts D) (vaults : vault.Ghosts V) (start : Cor
       let two = number_on start.commit_number (v.seen ++ h.between) (deed v.number c what sound ∷ []) in
       let is = number_at v w c what sound at h in omega (arith, low, one, two, is)
 
-  seen_more : (v w : View (Held D V) Deed) (c : Call) (what : Result Reply Refusal) (sound : SoundMove) {A : Type 0}
+  seen_more : (v w : View (Held D V disk) Deed) (c : Call) (what : Result Reply Refusal) (sound : SoundMove)
+      {A : Type 0}
       (said : Said A) → Says (origin disk vaults start) (asked c what sound) said (views v w)
       → number_after start.commit_number v.seen ≤ number_after start.commit_number w.seen
   seen_more v w c what sound {A} said h = ⊎_elim
@@ -54,15 +56,16 @@ module _ {D V : Type 0} (disk : Ghosts D) (vaults : vault.Ghosts V) (start : Cor
       let two = number_on start.commit_number (v.seen ++ x.between) (deed v.number c what sound ∷ []) in
       let seen : number_after start.commit_number w.seen
       ≡ number_after start.commit_number ((v.seen ++ x.between) ++ deed v.number c what sound ∷ []) =
-      ap (λ (z : View (Held D V) Deed). number_after start.commit_number z.seen) x.view in
+      ap (λ (z : View (Held D V disk) Deed). number_after start.commit_number z.seen) x.view in
       omega (arith, one, two, seen))
       (λ (x : Spends v said w).
       let seen : number_after start.commit_number w.seen ≡ number_after start.commit_number v.seen =
-      ap (λ (z : View (Held D V) Deed). number_after start.commit_number z.seen) x.view in
+      ap (λ (z : View (Held D V disk) Deed). number_after start.commit_number z.seen) x.view in
       omega (arith, seen))
       h
 
-  pub stays_low : (v w : View (Held D V) Deed) (c : Call) (what : Result Reply Refusal) (sound : SoundMove) {A : Type 0}
+  pub stays_low : (v w : View (Held D V disk) Deed) (c : Call) (what : Result Reply Refusal) (sound : SoundMove)
+      {A : Type 0}
       (said : Said A) (last : ℕ) → Says (origin disk vaults start) (asked c what sound) said (views v w)
       → last ≤ number_after start.commit_number v.seen → max last said.at ≤ number_after start.commit_number w.seen
   stays_low v w c what sound {A} said last h low =
@@ -71,7 +74,7 @@ module _ {D V : Type 0} (disk : Ghosts D) (vaults : vault.Ghosts V) (start : Cor
       omega (arith, low, more, at)
 
   -- what a line leaves of the place, where the vault has these sounds and faults before and after it
-  module _ (v w : View (Held D V) Deed) (c : Command) (tells : Bool) (before after : Sounds) (old new : ℕ) where
+  module _ (v w : View (Held D V disk) Deed) (c : Command) (tells : Bool) (before after : Sounds) (old new : ℕ) where
     abbrev sound : SoundMove
     sound = move_of (name_in_line c) before after
 
@@ -132,7 +135,7 @@ module _ {D V : Type 0} (disk : Ghosts D) (vaults : vault.Ghosts V) (start : Cor
         → (w.used_up ≡ false → IsSome (name_in_line c) → VaultCounted said.what old new)
         → (name_in_line c ≡ None → new ≡ old) → CountsFaults (name_in_line c) (told_by (λ _. r) what) old new
     told_count r said what is x named silent =
-        let unspent : w.used_up ≡ false = ap (λ (z : View (Held D V) Deed). z.used_up) x.view ∙ x.unspent in
+        let unspent : w.used_up ≡ false = ap (λ (z : View (Held D V disk) Deed). z.used_up) x.view ∙ x.unspent in
         subst (λ (z : Result (Unit {0}) Refusal). CountsFaults (name_in_line c) (told_by (λ _. r) z) old new) is
         (counts (name_in_line c) r said.what (named unspent) silent)
 
@@ -183,7 +186,7 @@ module _ {D V : Type 0} (disk : Ghosts D) (vaults : vault.Ghosts V) (start : Cor
         ))
         (λ (x : Spends v said w). inr (inl (
           ap Refused (reason_is reason said.what err x.what),
-          (let same = still (ap (λ (z : View (Held D V) Deed). z.used_up) x.view) in
+          (let same = still (ap (λ (z : View (Held D V disk) Deed). z.used_up) x.view) in
               spends said last numbers x same.0 same.1),
         )))
         h

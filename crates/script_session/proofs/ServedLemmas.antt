@@ -10,7 +10,7 @@ use Rattle.disk_model.specs.declared.store.Store.{Ghosts}
 use Rattle.edit_ports.specs.declared.vault.Vault as vault
 use Rattle.pin_turn.specs.Counts.{Each}
 use Rattle.pin_turn.proofs.Sums.{Each-left, Each-right}
-use Rattle.editor_core.specs.Core.{Core}
+use Rattle.editor_state.specs.Core.{Core}
 use Rattle.studio_seats.specs.declared.deed.Deed.{Deed}
 use Rattle.studio_seats.specs.Faults.{IsServed}
 use Rattle.studio_seats.specs.Merge.{by_seat, deeds_of}

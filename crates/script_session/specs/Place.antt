@@ -9,12 +9,13 @@ use Rattle.pcm_base.specs.declared.limits.TheConstants.{MAX_LOADED}
 use Rattle.pcm_base.specs.declared.refusal.Refusal.{Refusal}
 use Rattle.pcm_base.specs.Outside.{SameElsewhere, Sounds}
 use Rattle.pcm_base.specs.Run.{Heard, name_in_line}
+use Rattle.disk_model.specs.declared.store.Store.{Ghosts}
 use Rattle.pin_turn.specs.declared.view.View.{View}
 use Rattle.pin_turn.specs.Rule.{ByOthers}
-use Rattle.editor_core.specs.Applied.{IsTold, move_of, reply_of}
-use Rattle.editor_core.specs.Core.{Core}
-use Rattle.editor_core.specs.Imports.{VaultCounted}
-use Rattle.editor_core.specs.Took.{told_by}
+use Rattle.editor_state.specs.Applied.{IsTold, move_of, reply_of}
+use Rattle.editor_state.specs.Core.{Core}
+use Rattle.editor_state.specs.Vaults.{VaultCounted}
+use Rattle.editor_state.specs.Took.{told_by}
 use Rattle.wav_pcm.specs.Written.{MayBegin}
 use Rattle.studio_seats.specs.declared.deed.Deed.{Deed}
 use Rattle.studio_seats.specs.declared.held.Held.{Held}
@@ -41,7 +42,8 @@ pub record Place : Type 0 where
   pub faults : ℕ
 
 -- the place of a seat at a desk that began so
-abbrev pub place_of : {D V : Type 0} → Core D → View (Held D V) Deed → ℕ → List ℕ → Bool → Sounds → ℕ → Place
+abbrev pub place_of : {D V : Type 0} {disk : Ghosts D} → Core D → View (Held D V disk) Deed → ℕ → List ℕ → Bool
+    → Sounds → ℕ → Place
 place_of start v last numbers tells sounds faults = record {
   seat = v.number;
   first = start.commit_number;

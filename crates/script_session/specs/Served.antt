@@ -7,8 +7,8 @@ use Rattle.pcm_base.specs.Causes.{Rose}
 use Rattle.disk_model.specs.declared.store.Store.{Ghosts}
 use Rattle.edit_ports.specs.declared.vault.Vault as vault
 use Rattle.pin_turn.specs.Counts.{Each}
-use Rattle.editor_core.specs.Core.{Core}
-use Rattle.editor_core.specs.Studios.{IsHeld, studio_of}
+use Rattle.editor_state.specs.Core.{Core}
+use Rattle.editor_state.specs.Studios.{IsHeld, studio_of}
 use Rattle.studio_seats.specs.declared.deed.Deed.{Deed}
 use Rattle.studio_seats.specs.Faults.{IsCalm}
 use Rattle.studio_seats.specs.Merge.{by_seat, deeds_of}

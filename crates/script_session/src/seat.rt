@@ -4,7 +4,7 @@ ghost use Rattle.pcm_base.specs.declared.answer.Reply.TheVariants as reply;
 ghost use Rattle.pin_turn.specs.Calls.{known};
 ghost use Rattle.studio_seats.specs.Deeds.{number_after};
 ghost use Rattle.studio_seats.specs.Desks.{IsAt, start_at};
-ghost use Rattle.editor_core.specs.Took.{told_by};
+ghost use Rattle.editor_state.specs.Took.{told_by};
 ghost use Rattle.studio_seats.specs.Onward.{Onward};
 ghost use Rattle.script_session.specs.Calls.{IsOfScript};
 ghost use Rattle.script_session.specs.Place.{Bounces, place_of, with_number};

@@ -14,8 +14,8 @@ use Rattle.edit_ports.specs.Answers.{AreTaken, numbered_pieces}
 use Rattle.edit_ports.specs.declared.pieces.Taken.{Taken}
 use Rattle.edit_ports.specs.declared.vault.Vault as vault
 use Rattle.pin_turn.specs.declared.view.View.{View}
-use Rattle.editor_core.specs.Core.{Core}
-use Rattle.editor_core.specs.Took.{told_by}
+use Rattle.editor_state.specs.Core.{Core}
+use Rattle.editor_state.specs.Took.{told_by}
 use Rattle.studio_seats.specs.declared.deed.Deed.{Deed}
 use Rattle.studio_seats.specs.declared.held.Held.{Held}
 use Rattle.studio_seats.specs.Deeds.{deed, entries_of, number_after}
@@ -48,7 +48,7 @@ ready_on s first seen seen' more is h = record {
       omega (arith, most, on, same);
 }
 
-module _ {D V A : Type 0} (disk : Ghosts D) (vaults : vault.Ghosts V) (start : Core D) (v w : View (Held D V) Deed)
+module _ {D V A : Type 0} (disk : Ghosts D) (vaults : vault.Ghosts V) (start : Core D) (v w : View (Held D V disk) Deed)
     (call : Call) (f : A → Reply) (sound : SoundMove) (commit : commits_of call ≡ 1) where
   abbrev Took : Result A Refusal → ℕ → Type 0
   Took what at = Turned (origin disk vaults start) (asked call (told_by f what) sound) at (views v w)
@@ -76,7 +76,7 @@ on_ok : {A : Type 0} (P : Type 0) (r : Result A Refusal) → P → OnOk r P
 on_ok P (Ok x) h = h
 on_ok P (Err why) h = tt
 
-module _ {D V A : Type 0} (disk : Ghosts D) (vaults : vault.Ghosts V) (start : Core D) (v w : View (Held D V) Deed)
+module _ {D V A : Type 0} (disk : Ghosts D) (vaults : vault.Ghosts V) (start : Core D) (v w : View (Held D V disk) Deed)
     (call : Call) (what : Result Reply Refusal) (sound : SoundMove) (said : Said A) where
   abbrev OneMore : Type 0
   OneMore = length w.mine ≡ length v.mine + 1
@@ -86,7 +86,7 @@ module _ {D V A : Type 0} (disk : Ghosts D) (vaults : vault.Ghosts V) (start : C
   one_turn h = ⊎_elim
       (λ (x : Turned (origin disk vaults start) (asked call what sound) said.at (views v w)).
       let place = length (v.seen ++ x.between) in
-      let more = ap (λ (z : View (Held D V) Deed). length z.mine) x.view in
+      let more = ap (λ (z : View (Held D V disk) Deed). length z.mine) x.view in
       let sum = length-append v.mine (place ∷ []) in
       on_ok OneMore said.what (omega (arith, more, sum)))
       (λ (x : Spends v said w). subst (λ (r : Result A Refusal). OnOk r OneMore) (sym x.what) tt)

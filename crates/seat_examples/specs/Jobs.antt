@@ -4,6 +4,7 @@ use Rattle.pcm_base.specs.declared.command.Call.{Call}
 use Rattle.pcm_base.specs.declared.command.Call.TheVariants.{Line}
 use Rattle.pcm_base.specs.declared.command.Command.TheVariants as command
 use Rattle.pcm_base.specs.declared.sound.Frame.{Frame}
+use Rattle.disk_model.specs.declared.store.Store.{Ghosts}
 use Rattle.pin_turn.specs.declared.view.View.{View}
 use Rattle.studio_seats.specs.declared.deed.Deed.{Deed}
 use Rattle.studio_seats.specs.declared.held.Held.{Held}
@@ -40,17 +41,17 @@ needed (job.Play pin mix) first seen = IsTrue (is_made pin (entries_of seen))
 needed job.Reclaim first seen = Unit {0}
 
 -- how many pieces of a recording the seat added, as far as it has seen
-abbrev pub piece_count : {D V : Type 0} → ℕ → ℕ → ℕ → View (Held D V) Deed → ℕ
+abbrev pub piece_count : {D V : Type 0} {disk : Ghosts D} → ℕ → ℕ → ℕ → View (Held D V disk) Deed → ℕ
 piece_count track tag first v = length (pieces_by track tag v.number first v.seen)
 
 -- Where vaults tell their bytes and the disk held the studio at the start, the mix of the project that was current
 -- where the pin was made has these frames.
-abbrev pub IsPinOf : {D V : Type 0} → Origin D V → View (Held D V) Deed → ℕ → List Frame → Type 0
+abbrev pub IsPinOf : {D V : Type 0} {disk : Ghosts D} → Origin D V → View (Held D V disk) Deed → ℕ → List Frame → Type 0
 IsPinOf o v pin mix = (all : List Frame) → IsMixOf o v.seen pin all → all ≡ mix
 
 -- What a job of this many turns has done, or found, that ended with no refusal: as many turns, of a recording as many
 -- pieces, and of a pin, where there was a turn, that it has the frames that were wanted.
-abbrev pub did : {D V : Type 0} → Origin D V → Job → ℕ → Views D V → Type 0
+abbrev pub did : {D V : Type 0} {disk : Ghosts D} → Origin D V → Job → ℕ → Views D V disk → Type 0
 did o (job.Edit track) turns seat = length seat.after.mine ≡ length seat.before.mine + turns
 did o (job.Record track tag) turns seat = piece_count track tag o.start.commit_number seat.after
     ≡ piece_count track tag o.start.commit_number seat.before + turns
@@ -64,7 +65,7 @@ pub record IsReady (s : Session) (first : ℕ) (seen : List Deed) : Type 0 where
   pub most : s.tag ≤ number_after first seen
 
 -- the seat is the one that it was, with none more away, and what it had seen begins what it has seen
-pub record StaysSeat {D V : Type 0} (v w : View (Held D V) Deed) : Type 0 where
+pub record StaysSeat {D V : Type 0} {disk : Ghosts D} (v w : View (Held D V disk) Deed) : Type 0 where
   pub number : w.number ≡ v.number
   pub away : w.away ≡ v.away
   pub more : List Deed

@@ -29,10 +29,10 @@ use Rattle.model_laws.proofs.Together.{batch_pieces}
 use Rattle.disk_model.specs.declared.store.Store.{Ghosts}
 use Rattle.edit_ports.specs.declared.vault.Vault as vault
 use Rattle.pin_turn.specs.Counts.{Each}
-use Rattle.editor_core.specs.Applied.{reply_of}
-use Rattle.editor_core.specs.Core.{Core}
-use Rattle.editor_core.specs.Studios.{IsHeld, IsStudio, studio_of}
-use Rattle.editor_core.proofs.Bounding.{bounded}
+use Rattle.editor_state.specs.Applied.{reply_of}
+use Rattle.editor_state.specs.Core.{Core}
+use Rattle.editor_state.specs.Studios.{IsHeld, IsStudio, studio_of}
+use Rattle.editor_state.proofs.Images.ModelBounds.{bounded}
 use Rattle.studio_seats.specs.declared.deed.Deed.{Deed}
 use Rattle.studio_seats.specs.Deeds.{entries_of, entry_of}
 use Rattle.studio_seats.specs.Merge.{Rises, by_seat}

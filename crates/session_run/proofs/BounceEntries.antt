@@ -8,8 +8,8 @@ use Rattle.pcm_base.specs.declared.command.Call.TheVariants.{LoadPin, PinLen, Un
 use Rattle.pcm_base.specs.declared.entry.Entry.{Entry}
 use Rattle.pcm_base.specs.declared.refusal.Refusal.{Refusal}
 use Rattle.pin_turn.specs.Counts.{Each}
-use Rattle.editor_core.specs.Applied.{reply_of}
-use Rattle.editor_core.specs.Took.{told_by}
+use Rattle.editor_state.specs.Applied.{reply_of}
+use Rattle.editor_state.specs.Took.{told_by}
 use Rattle.studio_seats.specs.declared.deed.Deed.{Deed}
 use Rattle.studio_seats.specs.Deeds.{entries_of, number_after}
 use Rattle.studio_seats.specs.Desks.{spent}

@@ -11,7 +11,7 @@ use Rattle.pcm_base.specs.Counters.{commits_of}
 use Rattle.pcm_base.specs.Run.{result_of}
 use Rattle.pin_turn.specs.Counts.{Each}
 use Rattle.pin_turn.specs.Rule.{ByOthers}
-use Rattle.editor_core.specs.Applied.{reply_of}
+use Rattle.editor_state.specs.Applied.{reply_of}
 use Rattle.script_session.specs.Session.{is_refusal}
 use Rattle.studio_seats.specs.declared.deed.Deed.{Deed}
 use Rattle.studio_seats.specs.Deeds.{actor_of, commits, entries_of, entry_of, made, number_after, raised_by}

@@ -9,10 +9,10 @@ use Rattle.pcm_base.specs.declared.command.Call.TheVariants as call
 use Rattle.pcm_base.specs.declared.command.Command.TheVariants as command
 use Rattle.pcm_base.specs.declared.refusal.Refusal.{Refusal}
 use Rattle.disk_model.specs.declared.store.Store.{Ghosts}
-use Rattle.editor_core.specs.Core.{Core}
-use Rattle.editor_core.specs.Left.{CountsIds}
-use Rattle.editor_core.specs.Removals.{Frees}
-use Rattle.editor_core.specs.Studios.{IsHeld, IsStudio}
+use Rattle.editor_state.specs.Core.{Core}
+use Rattle.editor_state.specs.Left.{CountsIds}
+use Rattle.editor_state.specs.Removals.{Frees}
+use Rattle.editor_state.specs.Studios.{IsHeld, IsStudio}
 use Rattle.session_run.proofs.MissingLemmas.{AreFrom, missing, missing_gone, missing_more}
 
 module _ {D : Type 0} (disk : Ghosts D) (old new : Core D) (told : Result Reply Refusal) (removed : List ℕ)

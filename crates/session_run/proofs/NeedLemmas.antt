@@ -15,8 +15,8 @@ use Rattle.pcm_base.specs.Run.{Answers, Breaks, BreaksOff, CarriesOut, Refuses, 
 use Rattle.pcm_base.specs.Shape.{Shape, NewTrack, DropTrack, SetTrack, PutIn, EditRange, CutRun, CopyRun, PasteRun}
 use Rattle.pcm_base.specs.Shape.{MoveTo, Purge, PurgeTo, Look, Reclaim, Compact, Import, Export, Bounce, shape_of}
 use Rattle.pcm_base.specs.Studio.{Studio}
-use Rattle.editor_core.specs.Exchanges.{begun_in_vain, is_broken_off, is_cut_off, may_begin, may_have_begun}
-use Rattle.editor_core.specs.Exchanges.{reads_sound}
+use Rattle.editor_state.specs.Exchanges.{begun_in_vain, is_broken_off, is_cut_off, may_begin, may_have_begun}
+use Rattle.editor_state.specs.Exchanges.{reads_sound}
 use Rattle.model_laws.proofs.Answered.{carried_is}
 use Rattle.studio_seats.specs.Faults.{IsServed}
 use Rattle.studio_seats.specs.Leads.{IsUnharmed}

@@ -19,15 +19,15 @@ use Rattle.disk_model.specs.Room.{IsSpent, Room, StaysRoom, files_made}
 use Rattle.disk_model.specs.declared.store.Store.{Ghosts}
 use Rattle.edit_ports.specs.declared.vault.Vault as vault
 use Rattle.pcm_base.specs.Run.{name_in}
-use Rattle.editor_core.specs.Applied.{reply_of}
-use Rattle.editor_core.specs.Core.{Core}
-use Rattle.editor_core.specs.Exchanges.{begun_in_vain, exchange_of, may_have_begun}
-use Rattle.editor_core.specs.Left.{Left}
-use Rattle.editor_core.specs.Packing.{packed_by, packed_size, packs}
-use Rattle.editor_core.specs.Studios.{IsStudio, studio_of}
-use Rattle.editor_core.specs.Took.{Took, asks}
-use Rattle.editor_core.proofs.Entries.{step_of}
-use Rattle.editor_core.proofs.PackedSizes.{packed_few}
+use Rattle.editor_state.specs.Applied.{reply_of}
+use Rattle.editor_state.specs.Core.{Core}
+use Rattle.editor_state.specs.Exchanges.{begun_in_vain, exchange_of, may_have_begun}
+use Rattle.editor_state.specs.Left.{Left}
+use Rattle.editor_state.specs.Packing.{packed_by, packed_size, packs}
+use Rattle.editor_state.specs.Studios.{IsStudio, studio_of}
+use Rattle.editor_state.specs.Took.{Took, asks}
+use Rattle.editor_state.proofs.Calls.RunEntries.{step_of}
+use Rattle.editor_cleanup.proofs.HeaderSizes.{packed_few}
 use Rattle.studio_seats.specs.declared.deed.Deed.{Deed}
 use Rattle.studio_seats.specs.Deeds.{entries_of, entry_of}
 use Rattle.studio_seats.specs.Faults.{AllServed}

@@ -13,7 +13,7 @@ use Rattle.pcm_base.specs.Causes.{Rose}
 use Rattle.pcm_base.specs.Recordings.{bytes_of_frame, frame_bytes}
 use Rattle.edit_ports.specs.declared.sink.Sink as sink
 use Rattle.edit_ports.specs.Told.{grown}
-use Rattle.editor_core.specs.Applied.{reply_of}
+use Rattle.editor_state.specs.Applied.{reply_of}
 use Rattle.player_work.specs.Filled.{reads_to}
 use Rattle.player_work.proofs.FrameLaws.{length-bytes}
 use Rattle.script_session.specs.Change.{Change}

@@ -10,10 +10,10 @@ use Rattle.disk_model.specs.Disk.{Files}
 use Rattle.disk_model.specs.declared.store.Store.{Ghosts}
 use Rattle.pin_turn.specs.Counts.{Each}
 use Rattle.pin_turn.proofs.Sums.{Each-left, Each-right}
-use Rattle.editor_core.specs.Core.{Core}
-use Rattle.editor_core.specs.Events.{KeepsPrefix}
-use Rattle.editor_core.specs.Left.{LeavesForeign}
-use Rattle.editor_core.specs.Studios.{IsHeld, studio_of}
+use Rattle.editor_state.specs.Core.{Core}
+use Rattle.editor_state.specs.Events.{KeepsPrefix}
+use Rattle.editor_state.specs.Left.{LeavesForeign}
+use Rattle.editor_state.specs.Studios.{IsHeld, studio_of}
 use Rattle.editor_recovery.specs.Honest.{IsHonest}
 use Rattle.script_session.specs.Change.{change}
 use Rattle.studio_seats.specs.declared.deed.Deed.{Deed}

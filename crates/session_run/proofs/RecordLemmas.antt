@@ -8,7 +8,7 @@ use Rattle.pcm_base.specs.declared.refusal.Refusal.{Refusal}
 use Rattle.pcm_base.specs.declared.refusal.Refusal.TheVariants.{NoMemory}
 use Rattle.pcm_base.specs.Recordings.{chunks_of}
 use Rattle.edit_ports.specs.declared.source.Source as source
-use Rattle.editor_core.specs.Applied.{reply_of}
+use Rattle.editor_state.specs.Applied.{reply_of}
 use Rattle.pin_turn.specs.Counts.{Each}
 use Rattle.pin_turn.proofs.Sums.{Each-left, Each-right}
 use Rattle.recorder_work.specs.declared.microphone.MicEnd.{MicEnd}

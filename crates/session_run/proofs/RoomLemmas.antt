@@ -6,8 +6,8 @@ use Rattle.disk_model.specs.Frames.{Changed, asked}
 use Rattle.disk_model.specs.Room.{IsSpent, IsWithin, Room, StaysRoom, together}
 use Rattle.disk_model.specs.declared.store.Store.{Ghosts}
 use Rattle.memory_project.specs.Fresh.{IsFresh, made_room, room_of_project}
-use Rattle.editor_core.specs.Core.{Core}
-use Rattle.editor_core.specs.Studios.{IsHeld, IsStudio}
+use Rattle.editor_state.specs.Core.{Core}
+use Rattle.editor_state.specs.Studios.{IsHeld, IsStudio}
 use Rattle.pcm_base.specs.Studio as model
 use Rattle.session_run.specs.Outgrown.{IsTooMuch, Sum, nothing_needed}
 use Rattle.session_run.specs.Tries.{IsBeyond, faults_of, tried_project}

@@ -7,8 +7,8 @@ use Rattle.pcm_base.specs.declared.command.Call.{Call}
 use Rattle.pcm_base.specs.declared.command.Call.TheVariants.{Line, Pin}
 use Rattle.pcm_base.specs.declared.command.Command.TheVariants.{Track}
 use Rattle.pcm_base.specs.declared.refusal.Refusal.{Refusal}
-use Rattle.editor_core.specs.Applied.{reply_of}
-use Rattle.editor_core.specs.Took.{silent}
+use Rattle.editor_state.specs.Applied.{reply_of}
+use Rattle.editor_state.specs.Took.{silent}
 use Rattle.pin_turn.specs.Counts.{Each}
 use Rattle.studio_seats.specs.declared.deed.Deed.{Deed}
 use Rattle.studio_seats.specs.Deeds.{deed, entries_of, entry_of, number_after}

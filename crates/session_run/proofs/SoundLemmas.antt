@@ -1,7 +1,8 @@
 -- What becomes of the sounds of a vault, line by line.
 use Rattle.std.proofs.Common.{◌≡◌, ◌⊎◌, inl, inr, ⊎_elim, ◌∙◌, refl, sym, ap, subst, ℕ, Bool, true, false, List, [], ◌∷◌}
-use Rattle.std.proofs.Common.{◌++◌, append_assoc, take, drop, take-append-drop, Option, Some, Result, Ok, Err, IsTrue}
-use Rattle.std.specs.Prelude.{MatchBool, OnErr, OnOk}
+use Rattle.std.proofs.Common.{◌++◌, ◌+◌, ◌*◌, append_assoc, length, take, drop, take-append-drop, Option, Some, Result, Ok}
+use Rattle.std.proofs.Common.{Err, IsTrue, arith}
+use Rattle.std.specs.Prelude.{IfOk, MatchBool, OnErr, OnOk}
 use Rattle.std.specs.List.{flat_map}
 use Rattle.std.proofs.lemmas.List.{append-nil}
 use Rattle.pcm_base.specs.declared.answer.Answer.{Answer}
@@ -23,10 +24,11 @@ use Rattle.pcm_base.specs.Studio as model
 use Rattle.pcm_base.specs.Wave.{wav_text}
 use Rattle.disk_model.specs.declared.store.Store.{Ghosts}
 use Rattle.edit_ports.specs.declared.vault.Vault as vault
-use Rattle.editor_core.specs.Applied.{reply_of}
-use Rattle.editor_core.specs.Core.{Core}
-use Rattle.editor_core.specs.Studios.{IsHeld, studio_of}
-use Rattle.editor_core.specs.Took.{told_by}
+use Rattle.editor_state.specs.Applied.{reply_of}
+use Rattle.editor_state.specs.Core.{Core}
+use Rattle.editor_state.specs.Studios.{IsHeld, studio_of}
+use Rattle.editor_state.specs.Took.{told_by}
+use Rattle.editor_views.proofs.ExportLengths.{length_text}
 use Rattle.wav_pcm.specs.Written.{MayBegin}
 use Rattle.wav_pcm.proofs.GrowLaws.{begun_front}
 use Rattle.script_text.specs.Grammar.{is_silent, line_of}
@@ -40,7 +42,7 @@ use Rattle.studio_seats.proofs.Chains.{chain_cut}
 use Rattle.studio_seats.proofs.Grown.{all_told, entries_append, leads}
 use Rattle.studio_seats.proofs.PinLemmas.{frames_at, run_rate}
 use Rattle.std.proofs.Common.{eq-eqb}
-use Rattle.sound_bounce.specs.Bounces.{AfterPin, BounceDeeds, IsOwnPin, IsUnread, TellsMix, frames_in, text_by}
+use Rattle.sound_bounce.specs.Bounces.{AfterPin, BounceDeeds, IsOwnPin, IsUnread, TellsMix, frames_in, length_in, text_by}
 use Rattle.sound_bounce.proofs.Sayings.{mute_err}
 use Rattle.sound_bounce.proofs.TellLemmas.{bounces_tell, cut_first}
 use Rattle.pin_turn.specs.Counts.{Each}
@@ -51,7 +53,7 @@ use Rattle.script_session.proofs.AddedLemmas.{sessions_add, turn_sounds}
 use Rattle.desk_session.proofs.ListLemmas.{same_rest}
 use Rattle.session_run.specs.Answered.{BounceEntries}
 use Rattle.session_run.specs.Entries.{entries_by}
-use Rattle.session_run.specs.VaultSounds.{IsBounceOf, IsNoBounce, LineSounds, NextSounds, SoundsFollow}
+use Rattle.session_run.specs.VaultSounds.{IsBounceOf, IsNoBounce, IsWholeFile, LineSounds, NextSounds, SoundsFollow}
 use Rattle.session_run.proofs.BounceEntries.{bounce_entries}
 use Rattle.session_run.proofs.EntryLemmas.{entries_as, none_by}
 
@@ -63,18 +65,28 @@ front_whole count text old new h =
     subst (λ (l : List ℕ). MayBegin l old new) (take-append-drop count text)
     (begun_front old new (take count text) (drop count text) h)
 
-began_by : (what : Result ℕ Refusal) (said text : List ℕ) (old new : Option (List ℕ)) → OnOk what (new ≡ Some said)
-    → OnErr what (MayBegin said old new) → OnOk what (said ≡ text)
+began_by : (L : Type 0) (what : Result ℕ Refusal) (said text : List ℕ) (old new : Option (List ℕ))
+    → OnOk what (new ≡ Some said) → OnErr what (MayBegin said old new) → OnOk what ((said ≡ text) × L)
     → OnErr what ((count : ℕ) × (said ≡ take count text)) → MayBegin text old new ⊎ (new ≡ Some text)
-began_by (Ok bytes) said text old new written failed whole part = inr (written ∙ ap Some whole)
-began_by (Err why) said text old new written failed whole part =
+began_by L (Ok bytes) said text old new written failed whole part = inr (written ∙ ap Some whole.0)
+began_by L (Err why) said text old new written failed whole part =
     inl (front_whole part.0 text old new (subst (λ (l : List ℕ). MayBegin l old new) part.1 failed))
 
-written_by : (what : Result ℕ Refusal) (said text : List ℕ) (new : Option (List ℕ)) (bytes : ℕ)
-    → Wrote bytes ≡ reply_of (told_by Wrote what) → OnOk what (new ≡ Some said) → OnOk what (said ≡ text)
-    → new ≡ Some text
-written_by (Ok count) said text new bytes is written whole = written ∙ ap Some whole
-written_by (Err why) said text new bytes is written whole = let no : ⊥ = cc is in absurd no
+-- how many bytes an answer says
+abbrev wrote_by : Reply → ℕ
+wrote_by (Wrote bytes) = bytes
+wrote_by r = 0
+
+-- what was written where some deeds said all of it, and the number that the answer has
+written_by : (what : Result ℕ Refusal) (said : List ℕ) (count : ℕ) (mix : List Frame) (rate : ℕ) (new : Option (List ℕ))
+    (bytes : ℕ) → Wrote bytes ≡ reply_of (told_by Wrote what) → OnOk what (new ≡ Some said)
+    → IfOk what (λ n. n ≡ 44 + 4 * count) → OnOk what ((said ≡ wav_text mix rate) × (count ≡ length mix))
+    → IsWholeFile mix rate bytes new
+written_by (Ok n) said count mix rate new bytes is written size whole = (
+  written ∙ ap Some whole.0,
+  omega (arith, ap wrote_by is, size, whole.1, length_text mix rate),
+)
+written_by (Err why) said count mix rate new bytes is written size whole = let no : ⊥ = cc is in absurd no
 
 -- a pin that was refused says nothing
 none_said : (rate : ℕ) (d : Deed) (why : Refusal) → d.what ≡ Err why → text_by rate (d ∷ []) ≡ []
@@ -164,19 +176,20 @@ module _ {D V : Type 0} (disk : Ghosts D) (vaults : vault.Ghosts V) (start final
         } in
         let here : text_by p.rate own ≡ text_by start.rate own = ap (λ (n : ℕ). text_by n own) rate in
         let there_is : wav_text mix start.rate ≡ text = ap (λ (n : ℕ). wav_text mix n) (sym same_rate) in
-        let both : OnOk x.what (text_by p.rate own ≡ text)
+        let both : OnOk x.what ((text_by p.rate own ≡ text) × (length_in own ≡ length mix))
         × OnErr x.what ((count : ℕ) × (text_by p.rate own ≡ take count text)) = ⊎_elim
         (λ (y : (pin : ℕ) × (d.what ≡ Ok (Pinned pin)) × AfterPin t.used_up pin batch x.what ds).
         let mine : IsOwnPin y.0 own = subst (λ (l : List Deed). IsOwnPin y.0 l) (sym own_is) y.1 in (
-          ok_as x.what (text_by p.rate own) (text_by start.rate own) (wav_text mix start.rate) text here there_is
-              (tells.whole y.0 mix mine (shows y.0 y.1)),
+          ok_as (length_in own ≡ length mix) x.what (text_by p.rate own) (text_by start.rate own)
+              (wav_text mix start.rate) text here there_is (tells.whole y.0 mix mine (shows y.0 y.1)),
           err_as x.what (text_by p.rate own) (text_by start.rate own) (wav_text mix start.rate) text here there_is
               (tells.part y.0 mix mine (shows y.0 y.1)),
         ))
         (λ (y : (why : Refusal) × (d.what ≡ Err why) × (x.what ≡ Err why) × (ds ≡ [])).
         let none : text_by p.rate own ≡ [] =
         ap (text_by p.rate) (own_is ∙ ap (λ (l : List Deed). d ∷ l) y.3) ∙ none_said p.rate d y.0 y.1 in (
-          subst (λ (r : Result ℕ Refusal). OnOk r (text_by p.rate own ≡ text)) (sym y.2) tt,
+          subst (λ (r : Result ℕ Refusal). OnOk r ((text_by p.rate own ≡ text) × (length_in own ≡ length mix)))
+              (sym y.2) tt,
           subst (λ (r : Result ℕ Refusal). OnErr r ((count : ℕ) × (text_by p.rate own ≡ take count text))) (sym y.2)
               (0, none),
         ))
@@ -196,9 +209,9 @@ module _ {D V : Type 0} (disk : Ghosts D) (vaults : vault.Ghosts V) (start final
           call = h.0;
           there = there;
           run = subst (λ (es : List Entry). Run t0 es there) (entries_append p.seen cut.front) run;
-          written = λ bytes wrote. written_by x.what (text_by p.rate own) text (t.sounds name) bytes
-              (sym wrote ∙ x.reply) (x.written told) both.0;
-          began = began_by x.what (text_by p.rate own) text (p.sounds name) (t.sounds name) (x.written told)
+          written = λ bytes wrote. written_by x.what (text_by p.rate own) (length_in own) mix there.rate (t.sounds name)
+              bytes (sym wrote ∙ x.reply) (x.written told) x.size both.0;
+          began = began_by (length_in own ≡ length mix) x.what (text_by p.rate own) text (p.sounds name) (t.sounds name) (x.written told)
               (x.failed told) both.0 both.1;
         }
       where
@@ -207,9 +220,10 @@ module _ {D V : Type 0} (disk : Ghosts D) (vaults : vault.Ghosts V) (start final
         makes d pin call_is what_is =
             (λ i. makes_pin (call_is i) (reply_of (what_is i)) pin) ∙ eq-eqb pin pin refl
 
-        ok_as : (what : Result ℕ Refusal) (a b c e : List ℕ) → a ≡ b → c ≡ e → OnOk what (b ≡ c) → OnOk what (a ≡ e)
-        ok_as (Ok bytes) a b c e first last h = first ∙ h ∙ last
-        ok_as (Err why) a b c e first last h = tt
+        ok_as : (L : Type 0) (what : Result ℕ Refusal) (a b c e : List ℕ) → a ≡ b → c ≡ e → OnOk what ((b ≡ c) × L)
+            → OnOk what ((a ≡ e) × L)
+        ok_as L (Ok bytes) a b c e first last h = (first ∙ h.0 ∙ last, h.1)
+        ok_as L (Err why) a b c e first last h = tt
 
         err_as : (what : Result ℕ Refusal) (a b c e : List ℕ) → a ≡ b → c ≡ e
             → OnErr what ((count : ℕ) × (b ≡ take count c)) → OnErr what ((count : ℕ) × (a ≡ take count e))

@@ -9,7 +9,7 @@ use Rattle.pcm_base.specs.declared.sound.Frame.{Frame}
 use Rattle.edit_ports.specs.Answers.{RefusedAt}
 use Rattle.edit_ports.specs.declared.sink.Sink as sink
 use Rattle.edit_ports.specs.declared.source.Source as source
-use Rattle.editor_core.specs.Applied.{reply_of}
+use Rattle.editor_state.specs.Applied.{reply_of}
 use Rattle.player_work.specs.Filled.{reads_to}
 use Rattle.pin_turn.specs.Counts.{Each}
 use Rattle.pin_turn.proofs.Sums.{Each-left, Each-right}

@@ -7,9 +7,9 @@ use Rattle.edit_ports.specs.declared.vault.Vault as vault
 use Rattle.project_journal.specs.Gate.{EachNow, EachSince}
 use Rattle.record_body.specs.Kept as kept
 use Rattle.record_body.specs.Kept.{Keeps}
-use Rattle.editor_core.specs.Core.{Core}
-use Rattle.editor_core.specs.Events.{KeepsPrefix}
-use Rattle.editor_core.specs.Studios.{IsHeld, shown, studio_of}
+use Rattle.editor_state.specs.Core.{Core}
+use Rattle.editor_state.specs.Events.{KeepsPrefix}
+use Rattle.editor_state.specs.Studios.{IsHeld, shown, studio_of}
 use Rattle.editor_recovery.specs.Honest.{IsHonest}
 use Rattle.editor_recovery.proofs.Assembled.{shows_found}
 use Rattle.studio_seats.specs.declared.deed.Deed.{Deed}

@@ -2,9 +2,9 @@
 use Rattle.std.proofs.Common.{◌≡◌, ◌⊎◌, inl, inr, ⊎_elim, ℕ, List, nat_lt, if◌then◌else◌, ap, ◌∙◌, subst, arith}
 use Rattle.disk_model.specs.Frames.{asked}
 use Rattle.disk_model.specs.declared.store.Store.{Ghosts}
-use Rattle.editor_core.specs.Core.{Core}
-use Rattle.editor_core.specs.Left.{LeavesForeign}
-use Rattle.editor_core.specs.Studios.{studio_of}
+use Rattle.editor_state.specs.Core.{Core}
+use Rattle.editor_state.specs.Left.{LeavesForeign}
+use Rattle.editor_state.specs.Studios.{studio_of}
 use Rattle.studio_seats.specs.declared.deed.Deed.{Deed}
 use Rattle.studio_seats.specs.Deeds.{entries_of}
 use Rattle.studio_seats.specs.Leads.{DeedsAsk, chain_asks}

@@ -6,9 +6,9 @@ use Rattle.disk_model.specs.declared.store.Store.{Ghosts}
 use Rattle.pin_turn.specs.Counts.{Each}
 use Rattle.project_journal.specs.Gate.{EachNow, EachSince}
 use Rattle.record_body.specs.Kept.{Keeps}
-use Rattle.editor_core.specs.Core.{Core}
-use Rattle.editor_core.specs.Events.{KeepsPrefix}
-use Rattle.editor_core.specs.Studios.{IsHeld, shown, studio_of}
+use Rattle.editor_state.specs.Core.{Core}
+use Rattle.editor_state.specs.Events.{KeepsPrefix}
+use Rattle.editor_state.specs.Studios.{IsHeld, shown, studio_of}
 use Rattle.editor_recovery.specs.Honest.{IsHonest}
 use Rattle.studio_seats.specs.declared.deed.Deed.{Deed}
 use Rattle.studio_seats.specs.Deeds.{entries_of}

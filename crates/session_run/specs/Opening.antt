@@ -5,8 +5,8 @@ use Rattle.disk_model.specs.Frames.{Changed}
 use Rattle.disk_model.specs.declared.store.Store.{Ghosts}
 use Rattle.project_journal.specs.Gate.{EachNow}
 use Rattle.record_body.specs.Kept.{Keeps}
-use Rattle.editor_core.specs.Core.{Core}
-use Rattle.editor_core.specs.Studios.{IsHeld, IsStudio, shown, studio_of}
+use Rattle.editor_state.specs.Core.{Core}
+use Rattle.editor_state.specs.Studios.{IsHeld, IsStudio, shown, studio_of}
 use Rattle.editor_recovery.specs.declared.fault.OpenFault.{OpenFault}
 use Rattle.editor_recovery.specs.Causes.{Causes}
 use Rattle.editor_recovery.specs.Found.{Found, IsNew, found_by}

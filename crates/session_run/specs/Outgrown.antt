@@ -9,8 +9,8 @@ use Rattle.pcm_base.specs.declared.refusal.Refusal.{Refusal}
 use Rattle.pcm_base.specs.Counters.{Needs, places_of}
 use Rattle.pcm_base.specs.Run.{Step, outside, result_of}
 use Rattle.pcm_base.specs.Studio.{Studio}
-use Rattle.editor_core.specs.Exchanges.{may_begin}
-use Rattle.editor_core.specs.Packing.{packed_most, packs}
+use Rattle.editor_state.specs.Exchanges.{may_begin}
+use Rattle.editor_state.specs.Packing.{packed_most, packs}
 use Rattle.memory_project.specs.declared.fresh.FreshProject.{FreshProject}
 
 -- What calls need in all: how many they are, the ids of blocks with the journals that are put into one header, and the

@@ -10,8 +10,8 @@ use Rattle.project_journal.specs.Gate.{EachNow, EachSince, IsDurable}
 use Rattle.project_journal.specs.Rooms.{create_room}
 use Rattle.record_body.specs.Kept.{Keeps}
 use Rattle.call_words.specs.declared.asked.NewProject.{NewProject}
-use Rattle.editor_core.specs.Core.{Core}
-use Rattle.editor_core.specs.Studios.{IsHeld, studio_of}
+use Rattle.editor_state.specs.Core.{Core}
+use Rattle.editor_state.specs.Studios.{IsHeld, studio_of}
 use Rattle.editor_recovery.specs.declared.fault.OpenFault.{OpenFault}
 use Rattle.editor_recovery.specs.Causes.{Causes}
 use Rattle.editor_recovery.specs.Checking.{ChecksStudio}

@@ -34,10 +34,10 @@ use Rattle.script_text.specs.declared.last.RecordEnd.TheVariants as rec
 use Rattle.script_text.specs.declared.last.RecordLine.{RecordLine}
 use Rattle.script_text.specs.Last.{last_text}
 use Rattle.script_text.specs.Text.{text_of}
-use Rattle.editor_core.specs.Core.{Core}
-use Rattle.editor_core.specs.Events.{KeepsPrefix}
-use Rattle.editor_core.specs.Left.{LeavesForeign}
-use Rattle.editor_core.specs.Studios.{IsHeld, shown, studio_of}
+use Rattle.editor_state.specs.Core.{Core}
+use Rattle.editor_state.specs.Events.{KeepsPrefix}
+use Rattle.editor_state.specs.Left.{LeavesForeign}
+use Rattle.editor_state.specs.Studios.{IsHeld, shown, studio_of}
 use Rattle.studio_seats.specs.Desks.{spent}
 use Rattle.studio_seats.specs.Faults.{AreServed, IsCalm}
 use Rattle.studio_seats.specs.Leads.{IsUnharmed, StopsInFlight}

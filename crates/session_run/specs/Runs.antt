@@ -1,6 +1,6 @@
 -- A script on the project of a store, and beside it a recording and a playback.
 use Rattle.std.specs.Prelude.{◌≡◌, ◌⊎◌, ℕ, ◌||◌, true, List, Option, Err}
-use Rattle.editor_core.specs.Core.{Core}
+use Rattle.editor_state.specs.Core.{Core}
 use Rattle.editor_recovery.specs.declared.fault.OpenFault.{OpenFault}
 use Rattle.script_text.specs.declared.call_fault.CallFault.TheVariants as call
 use Rattle.script_text.specs.Last.{last_text}

@@ -4,8 +4,8 @@ use Rattle.disk_model.specs.Room.{Room, together}
 use Rattle.disk_model.specs.declared.store.Store.{Ghosts}
 use Rattle.desk_session.specs.declared.opening.Beside.{Beside}
 use Rattle.desk_session.specs.Lent.{Kinds}
-use Rattle.editor_core.specs.Core.{Core}
-use Rattle.editor_core.specs.Studios.{studio_of}
+use Rattle.editor_state.specs.Core.{Core}
+use Rattle.editor_state.specs.Studios.{studio_of}
 use Rattle.memory_project.specs.declared.fresh.FreshProject.{FreshProject}
 use Rattle.memory_project.specs.Fresh.{IsFresh, made_room, room_of_project}
 use Rattle.pcm_base.specs.Studio.{fault_sum}

@@ -1,11 +1,12 @@
 -- What becomes of the sounds of a vault, line by line.
-use Rattle.std.specs.Prelude.{◌≡◌, ◌⊎◌, ℕ, List, [], ◌∷◌, ◌++◌, MatchBool, Some, Result, Ok}
+use Rattle.std.specs.Prelude.{◌≡◌, ◌⊎◌, ℕ, List, [], ◌∷◌, ◌++◌, length, MatchBool, Option, Some, Result, Ok}
 use Rattle.pcm_base.specs.declared.answer.Answer.{Answer}
 use Rattle.pcm_base.specs.declared.answer.Reply.TheVariants.{Wrote}
 use Rattle.pcm_base.specs.declared.command.Call.TheVariants.{Pin}
 use Rattle.pcm_base.specs.declared.command.Command.{Command}
 use Rattle.pcm_base.specs.declared.command.Command.TheVariants as command
 use Rattle.pcm_base.specs.declared.entry.Entry.{Entry}
+use Rattle.pcm_base.specs.declared.sound.Frame.{Frame}
 use Rattle.pcm_base.specs.Mix.{mix_of}
 use Rattle.pcm_base.specs.Outside.{SameElsewhere, Sounds}
 use Rattle.pcm_base.specs.Run.{Follows, Run}
@@ -17,10 +18,14 @@ use Rattle.script_text.specs.Grammar.{is_silent, line_of}
 use Rattle.session_run.specs.Answered.{BounceEntries}
 use Rattle.session_run.specs.Entries.{entries_by}
 
+-- the sound is the file of these frames, which has this many bytes
+abbrev pub IsWholeFile : List Frame → (rate bytes : ℕ) → Option (List ℕ) → Type 0
+IsWholeFile mix rate bytes sound = (sound ≡ Some (wav_text mix rate)) × (bytes ≡ length (wav_text mix rate))
+
 -- A line is a bounce of the sound of this name, and these entries are its own and those of others between them, after
 -- those that were done before. Its place in the run is that of its pin. The file is that of the mix of the project that
--- was current there, whatever comes after it. If the answer says that it was written, the sound is this file. Else the
--- sound is as it was, or holds the first bytes of the file.
+-- was current there, whatever comes after it. If the answer says that it was written, the sound is this file, and the
+-- answer has the number of its bytes. Else the sound is as it was, or holds the first bytes of the file.
 pub record IsBounceOf (start : Studio) (done es : List Entry) (line : Result Command ℕ) (a : Answer)
     (before after : Sounds) : Type 0 where
   pub name : List ℕ
@@ -36,7 +41,7 @@ pub record IsBounceOf (start : Studio) (done es : List Entry) (line : Result Com
   pub there : Studio
   pub run : Run start (done ++ front) there
   pub written : (bytes : ℕ) → a.reply ≡ Wrote bytes
-      → after name ≡ Some (wav_text (mix_of (current there.state)) there.rate)
+      → IsWholeFile (mix_of (current there.state)) there.rate bytes (after name)
   pub began : MayBegin (wav_text (mix_of (current there.state)) there.rate) (before name) (after name)
       ⊎ (after name ≡ Some (wav_text (mix_of (current there.state)) there.rate))
 

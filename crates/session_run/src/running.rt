@@ -1,7 +1,7 @@
 // A script on the project of a store, and beside it a recording and a playback.
 ghost use Rattle.std.specs.Prelude.{◌≡◌, ◌||◌, true};
 ghost use Rattle.editor_core.specs.Core.{core_of};
-ghost use Rattle.editor_core.specs.Studios.{IsStudio};
+ghost use Rattle.editor_state.specs.Studios.{IsStudio};
 ghost use Rattle.script_session.specs.Change.{change};
 ghost use Rattle.desk_session.specs.Lent.{kinds};
 ghost use Rattle.desk_session.specs.Sides.{side_number};

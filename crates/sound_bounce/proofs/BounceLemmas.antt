@@ -13,8 +13,8 @@ use Rattle.pcm_base.specs.declared.said.Said.{Said}
 use Rattle.disk_model.specs.declared.store.Store.{Ghosts}
 use Rattle.edit_ports.specs.declared.vault.Vault as vault
 use Rattle.pin_turn.specs.declared.view.View.{View}
-use Rattle.editor_core.specs.Core.{Core}
-use Rattle.editor_core.specs.Took.{silent, told_by}
+use Rattle.editor_state.specs.Core.{Core}
+use Rattle.editor_state.specs.Took.{silent, told_by}
 use Rattle.studio_seats.specs.declared.deed.Deed.{Deed}
 use Rattle.studio_seats.specs.declared.held.Held.{Held}
 use Rattle.studio_seats.specs.Deeds.{deed}
@@ -124,7 +124,7 @@ module _ {V : Type 0} (rate : ℕ) (what : Result ℕ Refusal) (m : Moved V) whe
 -- ---- the pin is let go
 
 module _ {D V A : Type 0} (disk : Ghosts D) (vaults : vault.Ghosts V) (start : Core D) (pin : ℕ)
-    (v w : View (Held D V) Deed) (said : Said A)
+    (v w : View (Held D V disk) Deed) (said : Said A)
     (says : Says (origin disk vaults start) (asked (Unpin pin) (told_by (λ (_ : A). reply.Done) said.what) silent) said
     (views v w)) where
   abbrev gone_of : Result A Refusal → Result Reply Refusal
@@ -150,12 +150,13 @@ module _ {D V A : Type 0} (disk : Ghosts D) (vaults : vault.Ghosts V) (start : C
             one.how;
       }
 
-pub gone_none : {D V : Type 0} (pin : ℕ) (v : View (Held D V) Deed) → IsGone pin false (views v v)
+pub gone_none : {D V : Type 0} {disk : Ghosts D} (pin : ℕ) (v : View (Held D V disk) Deed)
+    → IsGone pin false (views v v)
 gone_none pin v = record { onward = onward_self (IsAfterPin pin) v; gone = refl }
 
 -- after it was read
-pub done_by : {D V : Type 0} (rate pin batch : ℕ) (what : Result ℕ Refusal) (may : Bool)
-    (v w x : View (Held D V) Deed) (m : Moved V) → may ≡ may_let_go what
+pub done_by : {D V : Type 0} {disk : Ghosts D} (rate pin batch : ℕ) (what : Result ℕ Refusal) (may : Bool)
+    (v w x : View (Held D V disk) Deed) (m : Moved V) → may ≡ may_let_go what
     → IsWritten rate pin batch what (views v w) m → IsGone pin may (views w x)
     → IsDone rate pin batch what (views v x) m
 done_by rate pin batch what may v w x m may_is h g =
@@ -181,7 +182,7 @@ done_by rate pin batch what may v w x m may_is h g =
 
 module _ {D V : Type 0} (disk : Ghosts D) (vaults : vault.Ghosts V) (start : Core D) (batch : ℕ) where
   -- there is no memory for it
-  pub bounced_none : (v : View (Held D V) Deed) (name : List ℕ) (a : V)
+  pub bounced_none : (v : View (Held D V disk) Deed) (name : List ℕ) (a : V)
       → Bounced (origin disk vaults start) batch (record { at = 0; what = Err refusal.NoMemory }) (views v v)
       (moved vaults name a a)
   bounced_none v name a = record {
@@ -192,7 +193,7 @@ module _ {D V : Type 0} (disk : Ghosts D) (vaults : vault.Ghosts V) (start : Cor
     spares = spares_silent vaults name start.rate refusal.NoMemory [] a (λ is. let no : ⊥ = cc is in absurd no);
   }
 
-  module _ (v w : View (Held D V) Deed) (said : Said ℕ)
+  module _ (v w : View (Held D V disk) Deed) (said : Said ℕ)
       (says : Says (origin disk vaults start) (asked Pin (told_by reply.Pinned said.what) silent) said (views v w))
     where
       abbrev pinned_of : Result ℕ Refusal → Result Reply Refusal
@@ -251,7 +252,7 @@ module _ {D V : Type 0} (disk : Ghosts D) (vaults : vault.Ghosts V) (start : Cor
           }
 
       -- it was made, and then what it shows was written
-      pub bounced_by : (x : View (Held D V) Deed) (pin : ℕ) (what : Result ℕ Refusal) (m : Moved V)
+      pub bounced_by : (x : View (Held D V disk) Deed) (pin : ℕ) (what : Result ℕ Refusal) (m : Moved V)
           → said.what ≡ Ok pin → IsDone start.rate pin batch what (views w x) m
           → Bounced (origin disk vaults start) batch (record { at = said.at; what = what }) (views v x) m
       bounced_by x pin what m is k =

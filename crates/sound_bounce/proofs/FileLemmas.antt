@@ -16,8 +16,8 @@ use Rattle.disk_model.specs.declared.store.Store.{Ghosts}
 use Rattle.edit_ports.specs.declared.vault.Vault as vault
 use Rattle.edit_ports.specs.Sounds.{sound_bytes}
 use Rattle.pin_turn.specs.declared.view.View.{View}
-use Rattle.editor_core.specs.Core.{Core}
-use Rattle.editor_core.specs.Took.{silent, told_by}
+use Rattle.editor_state.specs.Core.{Core}
+use Rattle.editor_state.specs.Took.{silent, told_by}
 use Rattle.wav_pcm.specs.declared.fault.SoundFault.{SoundFault}
 use Rattle.wav_pcm.specs.declared.fault.SoundFault.TheVariants.{BadWav, NoFile, TooLong, Vault}
 use Rattle.wav_pcm.specs.Parts.{IsFor, SoundCountedBy, sound_refusal}
@@ -66,9 +66,9 @@ not_begun len old new why not for =
     subst (λ (r : Refusal). NotBegun len r old new) (sym not.1)
     (begun_by len old new not.0 for.0 not.2 (sym not.1 ∙ for.1) for.2)
 
-module _ {D V : Type 0} (ghosts : vault.Ghosts V) (name : List ℕ) (rate pin batch len : ℕ) where
+module _ {D V : Type 0} {disk : Ghosts D} (ghosts : vault.Ghosts V) (name : List ℕ) (rate pin batch len : ℕ) where
   -- it was not begun
-  pub file_refused : (v : View (Held D V) Deed) (a b : V) (why : Refusal)
+  pub file_refused : (v : View (Held D V disk) Deed) (a b : V) (why : Refusal)
       → NotBegun len why (ghosts.fault_count a) (ghosts.fault_count b)
       → (4294967295 < 36 + 4 * len → b ≡ a)
       → (IsTrue (ghosts.tells a) → MayBegin (wav_head len rate) (ghosts.holds a name) (ghosts.holds b name))
@@ -100,7 +100,7 @@ module _ {D V : Type 0} (ghosts : vault.Ghosts V) (name : List ℕ) (rate pin ba
   }
 
   -- it was begun, and then the loads came
-  module _ (v w : View (Held D V) Deed) (a b c : V) (fits : FitsFile len)
+  module _ (v w : View (Held D V disk) Deed) (a b c : V) (fits : FitsFile len)
       (started : IsTrue (ghosts.tells a) → ghosts.holds b name ≡ Some (wav_head len rate))
       (start : Keeps (moved ghosts name a b)) (faults : ghosts.fault_count b ≡ ghosts.fault_count a) where
     pub file_done : (r : Result (Unit {0}) Refusal) (what : Result ℕ Refusal)
@@ -172,7 +172,7 @@ spares_silent ghosts name rate why own a told = record {
 -- ---- the length of a pin is asked
 
 module _ {D V : Type 0} (disk : Ghosts D) (vaults : vault.Ghosts V) (start : Core D) (rate pin batch : ℕ)
-    (v w : View (Held D V) Deed) (said : Said ℕ)
+    (v w : View (Held D V disk) Deed) (said : Said ℕ)
     (says : Says (origin disk vaults start) (asked (PinLen pin) (told_by reply.Length said.what) silent) said
     (views v w)) where
   abbrev what_of : Result ℕ Refusal → Result Reply Refusal
@@ -210,7 +210,7 @@ module _ {D V : Type 0} (disk : Ghosts D) (vaults : vault.Ghosts V) (start : Cor
       }
 
   -- or answered, and the file was written
-  module _ (x : View (Held D V) Deed) (len : ℕ) (is : said.what ≡ Ok len) (what : Result ℕ Refusal) (m : Moved V)
+  module _ (x : View (Held D V disk) Deed) (len : ℕ) (is : said.what ≡ Ok len) (what : Result ℕ Refusal) (m : Moved V)
       (k : Files rate pin batch len what (views w x) m) where
     abbrev asked_deed : Deed
     asked_deed = deed_by (Ok len)

@@ -21,9 +21,9 @@ use Rattle.mixdown.specs.declared.loaded.Loaded.{Loaded}
 use Rattle.mixdown.specs.Loads.{loaded_tracks, tracks_in}
 use Rattle.mixdown.proofs.LoadLaws.{full_mix}
 use Rattle.pin_turn.specs.declared.view.View.{View}
-use Rattle.editor_core.specs.Core.{Core}
-use Rattle.editor_core.specs.Loads.{HasLoaded}
-use Rattle.editor_core.specs.Took.{silent, told_by}
+use Rattle.editor_state.specs.Core.{Core}
+use Rattle.editor_views.specs.Loads.{HasLoaded}
+use Rattle.editor_state.specs.Took.{silent, told_by}
 use Rattle.wav_pcm.specs.Written.{IsThere}
 use Rattle.studio_seats.specs.declared.deed.Deed.{Deed}
 use Rattle.studio_seats.specs.declared.held.Held.{Held}
@@ -43,7 +43,7 @@ use Rattle.sound_bounce.proofs.VaultLemmas.{grown_on, grown_so, grows_on, grows_
 -- ---- one load
 
 module _ {D V : Type 0} (disk : Ghosts D) (vaults : vault.Ghosts V) (start : Core D) (pin batch from : ℕ)
-    (v w : View (Held D V) Deed) (said : Said ℕ) (l : Loaded)
+    (v w : View (Held D V disk) Deed) (said : Said ℕ) (l : Loaded)
     (says : Says (origin disk vaults start)
     (asked (LoadPin pin from batch) (told_by (λ (_ : ℕ). reply.Loaded (tracks_in l)) said.what) silent) said
     (views v w)) where
@@ -148,8 +148,8 @@ reads_append pin batch from mid to [] ys h k = subst (λ (n : ℕ). AreLoads pin
 reads_append pin batch from mid to (d ∷ xs) ys h k =
     (h.0, h.1, h.2, reads_append pin batch (from + length (frames_by d.what)) mid to xs ys h.3 k)
 
-module _ {D V : Type 0} (ghosts : vault.Ghosts V) (name : List ℕ) (pin batch : ℕ) where
-  pub loads_self : (v : View (Held D V) Deed) (a : V)
+module _ {D V : Type 0} {disk : Ghosts D} (ghosts : vault.Ghosts V) (name : List ℕ) (pin batch : ℕ) where
+  pub loads_self : (v : View (Held D V disk) Deed) (a : V)
       → (IsTrue (ghosts.tells a) → IsThere (ghosts.holds a name))
       → LoadsTo pin batch 0 (views v v) (moved ghosts name a a)
   loads_self v a there = record {
@@ -158,7 +158,7 @@ module _ {D V : Type 0} (ghosts : vault.Ghosts V) (name : List ℕ) (pin batch :
     grows = grows_self ghosts name a there;
   }
 
-  module _ (u v w : View (Held D V) Deed) (a b c : V) where
+  module _ (u v w : View (Held D V disk) Deed) (a b c : V) where
     pub loads_on : (at to : ℕ) → LoadsTo pin batch at (views u v) (moved ghosts name a b)
         → LoadsOne pin batch at to (views v w) (moved ghosts name b c)
         → LoadsTo pin batch to (views u w) (moved ghosts name a c)
@@ -264,7 +264,7 @@ module _ {D V : Type 0} (ghosts : vault.Ghosts V) (name : List ℕ) (pin batch :
         k.how
 
   -- all are done
-  pub loads_done : (u v : View (Held D V) Deed) (a b : V) (len at : ℕ) → len ≤ at
+  pub loads_done : (u v : View (Held D V disk) Deed) (a b : V) (len at : ℕ) → len ≤ at
       → LoadsTo pin batch at (views u v) (moved ghosts name a b)
       → LoadsDone {A = Unit {0}} pin batch len (Ok tt) (views u v) (moved ghosts name a b)
   loads_done u v a b len at le h = record {

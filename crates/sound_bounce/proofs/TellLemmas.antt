@@ -23,9 +23,9 @@ use Rattle.edit_ports.specs.declared.vault.Vault as vault
 use Rattle.mixdown.specs.Loads.{heard_track}
 use Rattle.mixdown.proofs.LoadedLaws.{loaded_mix}
 use Rattle.mix_view.proofs.CountLaws.{made_from}
-use Rattle.editor_core.specs.Applied.{reply_of}
-use Rattle.editor_core.specs.Core.{Core}
-use Rattle.editor_core.specs.Studios.{IsHeld, studio_of}
+use Rattle.editor_state.specs.Applied.{reply_of}
+use Rattle.editor_state.specs.Core.{Core}
+use Rattle.editor_state.specs.Studios.{IsHeld, studio_of}
 use Rattle.wav_pcm.specs.Wavs.{wav_head}
 use Rattle.wav_pcm.proofs.GrowLaws.{frames_split}
 use Rattle.studio_seats.specs.declared.deed.Deed.{Deed}
@@ -39,10 +39,10 @@ use Rattle.studio_seats.proofs.Grown.{entries_append}
 use Rattle.studio_seats.proofs.LoadLemmas.{length_at, loads_at}
 use Rattle.studio_seats.proofs.PinLemmas.{frames_on}
 use Rattle.sound_bounce.specs.Bounces.{AfterPin, AreLoads, BounceDeeds, BouncesTell, IsOwnPin}
-use Rattle.sound_bounce.specs.Bounces.{LoadsOf, ReadsPin, Unasked, frames_by}
-use Rattle.sound_bounce.specs.Bounces.{frames_in, header_by, header_in, may_let_go, text_by}
-use Rattle.sound_bounce.proofs.Sayings.{frames_all, header_all, mute_gone, mute_pinned, mute_refused, text_back}
-use Rattle.sound_bounce.proofs.Sayings.{text_front}
+use Rattle.sound_bounce.specs.Bounces.{LoadsOf, ReadsPin, SaysWhole, Unasked, frames_by}
+use Rattle.sound_bounce.specs.Bounces.{frames_in, header_by, header_in, length_by, length_in, may_let_go, text_by}
+use Rattle.sound_bounce.proofs.Sayings.{frames_all, header_all, length_all, length_back, length_front, mute_gone}
+use Rattle.sound_bounce.proofs.Sayings.{mute_pinned, mute_refused, text_back, text_front}
 
 -- ---- the first deed of a kind
 
@@ -247,15 +247,17 @@ module _ {D V : Type 0} (disk : Ghosts D) (vaults : vault.Ghosts V) (start now :
   front_none rate said is = (0, is)
 
   whole_by : (rate : ℕ) (used_up : Bool) (batch : ℕ) (what : Result ℕ Refusal) (reads more : List Deed)
-      → ReadsPin used_up pin batch what reads → Left (reads ++ more)
-      → OnOk what (text rate reads ≡ wav_text all rate)
+      → ReadsPin used_up pin batch what reads → Left (reads ++ more) → OnOk what (SaysWhole rate all reads)
   whole_by rate used_up batch (Err why) reads more h l = tt
   whole_by rate used_up batch (Ok bytes) reads more (inr h) l = absurd h
   whole_by rate used_up batch (Ok bytes) reads more (inl h) l =
       let told = text_loads rate used_up batch h.0 (Ok bytes) reads more h.1 l in
       let ends = h.1.loads.ends in
-      told.0 ∙ ap (λ (fs : List Frame). wav_head (length all) rate ++ frame_bytes fs)
-      (take_all h.1.loads.place all (omega (arith, ends.1, told.1)))
+      let none = length_all used_up pin batch h.0 (Ok bytes) h.1.rest h.1.loads in (
+        told.0 ∙ ap (λ (fs : List Frame). wav_head (length all) rate ++ frame_bytes fs)
+            (take_all h.1.loads.place all (omega (arith, ends.1, told.1))),
+        omega (arith, ap length_in h.1.are, ap length_by h.1.length_is.1, none, told.1),
+      )
 
   refused_part : (rate : ℕ) (used_up : Bool) (why : Refusal) (reads more : List Deed)
       → Unasked used_up pin why reads → Left (reads ++ more)
@@ -290,6 +292,12 @@ module _ {D V : Type 0} (disk : Ghosts D) (vaults : vault.Ghosts V) (start now :
   part_by rate used_up batch (Err why) reads more (inr h) l = refused_part rate used_up why reads more h l
 
 -- ---- the law
+
+-- other deeds say the same
+says_as : (rate : ℕ) (all : List Frame) (what : Result ℕ Refusal) (xs ys : List Deed) → text_by rate ys ≡ text_by rate xs
+    → length_in ys ≡ length_in xs → OnOk what (SaysWhole rate all xs) → OnOk what (SaysWhole rate all ys)
+says_as rate all (Ok bytes) xs ys text long h = (text ∙ h.0, long ∙ h.1)
+says_as rate all (Err why) xs ys text long h = tt
 
 -- the number of a pin that was made
 abbrev pin_in : Result Reply Refusal → ℕ
@@ -354,13 +362,21 @@ module _ {D V : Type 0} (disk : Ghosts D) (vaults : vault.Ghosts V) (start now :
         ∙ ap text_of a.are
         ∙ text_back start.rate a.reads a.gone (mute_gone used_up pin (may_let_go what) a.gone a.lets_go)
 
+    -- and how many frames there are
+    length_after : (d : Deed) (ds : List Deed) → d.what ≡ Ok (reply.Pinned pin)
+        → (a : AfterPin used_up pin batch what ds) → length_in (d ∷ ds) ≡ length_in a.reads
+    length_after d ds what_is a =
+        length_front (d ∷ []) ds (mute_pinned d pin what_is)
+        ∙ ap length_in a.are
+        ∙ length_back a.reads a.gone (mute_gone used_up pin (may_let_go what) a.gone a.lets_go)
+
     module _ (d : Deed) (ds : List Deed) (call_is : d.call ≡ Pin) (what_is : d.what ≡ Ok (reply.Pinned pin))
         (own_is : deeds_of kind added ≡ d ∷ ds) (a : AfterPin used_up pin batch what ds) where
       left : Rest (a.reads ++ a.gone)
       left = subst (λ (own : List Deed). Rest own) a.are (rest_of d ds call_is what_is own_is)
 
-      whole_tells : OnOk what (text_of (d ∷ ds) ≡ wav_text all start.rate)
-      whole_tells = subst (λ (l : List ℕ). OnOk what (l ≡ wav_text all start.rate)) (sym (text_after d ds what_is a))
+      whole_tells : OnOk what (SaysWhole start.rate all (d ∷ ds))
+      whole_tells = says_as start.rate all what a.reads (d ∷ ds) (text_after d ds what_is a) (length_after d ds what_is a)
           (whole_by disk vaults start now whole stands shows.told shows.held kind pin all start.rate used_up batch what
           a.reads a.gone a.reads_are left)
 
@@ -375,7 +391,7 @@ module _ {D V : Type 0} (disk : Ghosts D) (vaults : vault.Ghosts V) (start now :
     same_pin p w a b = ap pin_in (sym a ∙ b)
 
     whole_of : (own : List Deed) → deeds_of kind added ≡ own → BounceDeeds used_up batch what own → IsOwnPin pin own
-        → OnOk what (text_of own ≡ wav_text all start.rate)
+        → OnOk what (SaysWhole start.rate all own)
     whole_of [] own_is h mine = absurd mine
     whole_of (d ∷ ds) own_is h mine = ⊎_elim
         (λ (x : (p : ℕ) × (d.what ≡ Ok (reply.Pinned p)) × AfterPin used_up p batch what ds).

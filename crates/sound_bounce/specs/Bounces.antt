@@ -23,7 +23,7 @@ use Rattle.edit_ports.specs.declared.vault.Vault as vault
 use Rattle.edit_ports.specs.Sounds.{MayHaveGrown, sound_bytes}
 use Rattle.mixdown.specs.declared.loaded.Loaded.{Loaded}
 use Rattle.mixdown.specs.Loads.{heard_track, loaded_tracks}
-use Rattle.editor_core.specs.Core.{Core}
+use Rattle.editor_state.specs.Core.{Core}
 use Rattle.pin_turn.specs.Counts.{Each}
 use Rattle.wav_pcm.specs.Wavs.{wav_head}
 use Rattle.wav_pcm.specs.Written.{MayBegin}
@@ -101,7 +101,7 @@ abbrev pub IsOfBounce : Call → Type 0
 IsOfBounce c = (c ≡ Pin) ⊎ ((pin : ℕ) × IsAfterPin pin c)
 
 -- the own deeds of a seat that went on
-abbrev pub own_in : {D V : Type 0} {fits : Call → Type 0} (seat : Views D V) → Onward fits seat.before seat.after
+abbrev pub own_in : {D V : Type 0} {disk : Ghosts D} {fits : Call → Type 0} (seat : Views D V disk) → Onward fits seat.before seat.after
     → List Deed
 own_in seat h = deeds_of (by_seat seat.before.number) h.added
 
@@ -253,7 +253,7 @@ pub record Holds {V : Type 0} (m : Moved V) (text : List ℕ) (what : Result ℕ
 -- ---- the calls
 
 -- one load, whose frames were written
-pub record LoadsOne {D V : Type 0} (pin batch from to : ℕ) (seat : Views D V) (m : Moved V) : Type 0 where
+pub record LoadsOne {D V : Type 0} {disk : Ghosts D} (pin batch from to : ℕ) (seat : Views D V disk) (m : Moved V) : Type 0 where
   pub onward : Onward (IsLoadOf pin) seat.before seat.after
   pub done : Deed
   pub own : own_in seat onward ≡ done ∷ []
@@ -264,19 +264,19 @@ pub record LoadsOne {D V : Type 0} (pin batch from to : ℕ) (seat : Views D V) 
   pub few : length seat.before.seen < COUNTER_LIMIT
 
 -- a load that was refused, before anything of it was written; or one whose frames the vault did not take
-abbrev pub FailsBy : {D V : Type 0} (pin batch from : ℕ) → Refusal → (seat : Views D V) → Moved V → List Deed → Type 0
+abbrev pub FailsBy : {D V : Type 0} {disk : Ghosts D} (pin batch from : ℕ) → Refusal → (seat : Views D V disk) → Moved V → List Deed → Type 0
 FailsBy pin batch from why seat m own =
     (IsRefusedBy seat.after.used_up (LoadPin pin from batch) why own × (m.new ≡ m.old))
     ⊎ ((why ≡ refusal.VaultFault) × (d : Deed) × (to : ℕ) × (own ≡ d ∷ []) × AreLoads pin batch from to (d ∷ [])
     × GrowFails m (frame_bytes (frames_by d.what)))
 
-pub record LoadFails {D V : Type 0} (pin batch from : ℕ) (why : Refusal) (seat : Views D V) (m : Moved V) : Type 0
+pub record LoadFails {D V : Type 0} {disk : Ghosts D} (pin batch from : ℕ) (why : Refusal) (seat : Views D V disk) (m : Moved V) : Type 0
   where
     pub onward : Onward (IsLoadOf pin) seat.before seat.after
     pub how : FailsBy pin batch from why seat m (own_in seat onward)
 
 -- the loads so far, whose frames were written
-pub record LoadsTo {D V : Type 0} (pin batch to : ℕ) (seat : Views D V) (m : Moved V) : Type 0 where
+pub record LoadsTo {D V : Type 0} {disk : Ghosts D} (pin batch to : ℕ) (seat : Views D V disk) (m : Moved V) : Type 0 where
   pub onward : Onward (IsLoadOf pin) seat.before seat.after
   pub reads : AreLoads pin batch 0 to (own_in seat onward)
   pub grows : Grows m (frame_bytes (frames_in (own_in seat onward)))
@@ -290,14 +290,14 @@ GrowsBy (Err why) m own = Keeps m
     × FaultsBy why own (m.ghosts.fault_count m.old) (m.ghosts.fault_count m.new)
 
 -- the loads of a mix of this many frames, to their end
-pub record LoadsDone {D V A : Type 0} (pin batch len : ℕ) (what : Result A Refusal) (seat : Views D V) (m : Moved V)
+pub record LoadsDone {D V A : Type 0} {disk : Ghosts D} (pin batch len : ℕ) (what : Result A Refusal) (seat : Views D V disk) (m : Moved V)
     : Type 0 where
   pub onward : Onward (IsLoadOf pin) seat.before seat.after
   pub loads : LoadsAll seat.after.used_up pin batch len what (own_in seat onward)
   pub grows : GrowsBy what m (own_in seat onward)
 
 -- The file of a pin that has this many frames. TooLong comes before anything is read or written.
-pub record Files {D V : Type 0} (rate pin batch len : ℕ) (what : Result ℕ Refusal) (seat : Views D V) (m : Moved V)
+pub record Files {D V : Type 0} {disk : Ghosts D} (rate pin batch len : ℕ) (what : Result ℕ Refusal) (seat : Views D V disk) (m : Moved V)
     : Type 0 where
   pub onward : Onward (IsLoadOf pin) seat.before seat.after
   pub loads : LoadsAll seat.after.used_up pin batch len what (own_in seat onward)
@@ -320,27 +320,27 @@ pub record Spares {V : Type 0} (rate : ℕ) (what : Result ℕ Refusal) (own : L
   pub faults : FaultsOf what own (m.ghosts.fault_count m.old) (m.ghosts.fault_count m.new)
 
 -- a pin's mix was written
-pub record IsWritten {D V : Type 0} (rate pin batch : ℕ) (what : Result ℕ Refusal) (seat : Views D V) (m : Moved V)
+pub record IsWritten {D V : Type 0} {disk : Ghosts D} (rate pin batch : ℕ) (what : Result ℕ Refusal) (seat : Views D V disk) (m : Moved V)
     : Type 0 where
   pub onward : Onward (IsReadIn pin) seat.before seat.after
   pub reads : ReadsPin seat.after.used_up pin batch what (own_in seat onward)
   pub spares : Spares rate what (own_in seat onward) m
 
 -- and the pin let go
-pub record IsDone {D V : Type 0} (rate pin batch : ℕ) (what : Result ℕ Refusal) (seat : Views D V) (m : Moved V)
+pub record IsDone {D V : Type 0} {disk : Ghosts D} (rate pin batch : ℕ) (what : Result ℕ Refusal) (seat : Views D V disk) (m : Moved V)
     : Type 0 where
   pub onward : Onward (IsAfterPin pin) seat.before seat.after
   pub after : AfterPin seat.after.used_up pin batch what (own_in seat onward)
   pub spares : Spares rate what (own_in seat onward) m
 
 -- a pin was let go, where it may be
-pub record IsGone {D V : Type 0} (pin : ℕ) (may : Bool) (seat : Views D V) : Type 0 where
+pub record IsGone {D V : Type 0} {disk : Ghosts D} (pin : ℕ) (may : Bool) (seat : Views D V disk) : Type 0 where
   pub onward : Onward (IsAfterPin pin) seat.before seat.after
   pub gone : LetsGo seat.after.used_up pin may (own_in seat onward)
 
 -- A bounce: its turns, what it says, and what becomes of the sound. It says the commit number after the turn of its
 -- pin, which is the first of its own. A seat that found that no turn is left takes none.
-pub record Bounced {D V : Type 0} (o : Origin D V) (batch : ℕ) (said : Said ℕ) (seat : Views D V) (m : Moved V) : Type 0
+pub record Bounced {D V : Type 0} {disk : Ghosts D} (o : Origin D V) (batch : ℕ) (said : Said ℕ) (seat : Views D V disk) (m : Moved V) : Type 0
   where
     pub onward : Onward IsOfBounce seat.before seat.after
     pub deeds : BounceDeeds seat.after.used_up batch said.what (own_in seat onward)
@@ -355,11 +355,15 @@ abbrev pub IsOwnPin : ℕ → List Deed → Type 0
 IsOwnPin pin [] = ⊥
 IsOwnPin pin (d ∷ ds) = d.what ≡ Ok (reply.Pinned pin)
 
+-- these deeds say the whole file of these frames, and how many they are
+abbrev pub SaysWhole : ℕ → List Frame → List Deed → Type 0
+SaysWhole rate all own = (text_by rate own ≡ wav_text all rate) × (length_in own ≡ length all)
+
 -- If the deeds are those of a bounce that went well, the file that they say is that of the mix of the project that was
 -- current where its pin was made. If it broke off, they say the first bytes of that file.
 pub record TellsMix {D V : Type 0} (o : Origin D V) (what : Result ℕ Refusal) (seen own : List Deed) : Type 0 where
   pub whole : (pin : ℕ) (all : List Frame) → IsOwnPin pin own → IsMixOf o seen pin all
-      → OnOk what (text_by o.start.rate own ≡ wav_text all o.start.rate)
+      → OnOk what (SaysWhole o.start.rate all own)
   pub part : (pin : ℕ) (all : List Frame) → IsOwnPin pin own → IsMixOf o seen pin all
       → OnErr what ((count : ℕ) × (text_by o.start.rate own ≡ take count (wav_text all o.start.rate)))
 

@@ -1,6 +1,7 @@
 -- How long a mix is, its text, and what is at fault where it is not written.
 use Rattle.std.proofs.Common.{◌≡◌, ℕ, zero, suc, ◌+◌, List, ◌++◌, length, Option, Some, refl, sym, ap, subst, ◌∙◌}
-use Rattle.std.proofs.Common.{arith}
+use Rattle.std.proofs.Common.{Ok, arith}
+use Rattle.std.specs.Prelude.{IfErr}
 use Rattle.std.proofs.lemmas.List.{length-map}
 use Rattle.disk_model.specs.Disk.{Files}
 use Rattle.pcm_base.specs.declared.block.BlockRef.{BlockRef}
@@ -12,6 +13,7 @@ use Rattle.pcm_base.specs.Wave.{wav_text}
 use Rattle.wav_pcm.specs.Wavs.{FitsFile, wav_head}
 use Rattle.pcm_base.specs.Recordings.{frame_bytes}
 use Rattle.sample_block.specs.Sources.{AllWhole}
+use Rattle.block_store.specs.Reads.{IsFaultIn}
 use Rattle.cell_view.proofs.SeenLaws.{sound_in}
 use Rattle.pcm_base.specs.declared.refusal.Refusal.{Refusal}
 use Rattle.pcm_base.specs.declared.refusal.Refusal.TheVariants as refusal
@@ -22,8 +24,8 @@ use Rattle.wav_pcm.specs.Parts.{IsFor, SoundCountedBy, sound_refusal}
 use Rattle.wav_pcm.specs.Written.{IsNotStarted, IsThere}
 use Rattle.sound_export.specs.declared.fault.ExportFault.{ExportFault}
 use Rattle.sound_export.specs.declared.fault.ExportFault.TheVariants.{TooLong, Block, VaultFault}
-use Rattle.sound_export.specs.Written.{IsOfDevice, IsLengthFault, IsBlockFault, IsNoDamage, ExportCountedBy}
-use Rattle.sound_export.specs.Written.{fault_of_start}
+use Rattle.sound_export.specs.Written.{ExportCountedBy, IsLengthFault, IsNoDamage, IsOfDevice}
+use Rattle.sound_export.specs.Written.{fault_of_start, read_part}
 
 -- how many frames a mix has
 length_counted : (n k : ℕ) → length (counted_from n k) ≡ k
@@ -43,8 +45,8 @@ device_fits len (Block why) fits of = fits
 device_fits len VaultFault fits of = fits
 
 -- where all blocks are whole no file is at fault
-pub no_damage : (files : Files) (bs : List BlockRef) (why : ExportFault) → AllWhole files bs → IsBlockFault files bs why
-    → IsNoDamage why
+pub no_damage : (files : Files) (bs : List BlockRef) (why : ExportFault) → AllWhole files bs
+    → IfErr (read_part why) (λ e. IsFaultIn files bs e) → IsNoDamage why
 no_damage files bs (TooLong frames) whole is = tt
 no_damage files bs (Block why) whole is = sound_in files bs why whole is
 no_damage files bs VaultFault whole is = tt
@@ -68,26 +70,34 @@ start_long len reason why for is =
     subst (IsLengthFault len) (sym (is ∙ ap fault_of_start for.1)) (start_by len for.0 for.2)
 
 -- its count: one was not begun as the vault failed, or as it is too long
-counted_by : (reads old new len : ℕ) (why same : SoundFault) → IsNotStarted len why
+counted_by : (old new len : ℕ) (why same : SoundFault) → IsNotStarted len why
     → sound_refusal why ≡ sound_refusal same → SoundCountedBy same old new
-    → ExportCountedBy (fault_of_start (sound_refusal same)) reads reads old new
-counted_by reads old new len NoFile same not is counted = absurd not
-counted_by reads old new len (BadWav fault) same not is counted = absurd not
-counted_by reads old new len Vault NoFile not is counted = absurd cc
-counted_by reads old new len Vault Vault not is counted = (refl, counted)
-counted_by reads old new len Vault (BadWav fault) not is counted = absurd cc
-counted_by reads old new len Vault (wav.TooLong count) not is counted = (refl, counted)
-counted_by reads old new len (wav.TooLong frames) NoFile not is counted = absurd cc
-counted_by reads old new len (wav.TooLong frames) Vault not is counted = (refl, counted)
-counted_by reads old new len (wav.TooLong frames) (BadWav fault) not is counted = absurd cc
-counted_by reads old new len (wav.TooLong frames) (wav.TooLong count) not is counted = (refl, counted)
+    → ExportCountedBy (fault_of_start (sound_refusal same)) old new
+counted_by old new len NoFile same not is counted = absurd not
+counted_by old new len (BadWav fault) same not is counted = absurd not
+counted_by old new len Vault NoFile not is counted = absurd cc
+counted_by old new len Vault Vault not is counted = counted
+counted_by old new len Vault (BadWav fault) not is counted = absurd cc
+counted_by old new len Vault (wav.TooLong count) not is counted = counted
+counted_by old new len (wav.TooLong frames) NoFile not is counted = absurd cc
+counted_by old new len (wav.TooLong frames) Vault not is counted = counted
+counted_by old new len (wav.TooLong frames) (BadWav fault) not is counted = absurd cc
+counted_by old new len (wav.TooLong frames) (wav.TooLong count) not is counted = counted
 
-pub start_counted : (reads old new len : ℕ) (reason : Refusal) (why : ExportFault) → IsFor (IsNotStarted len) reason
+pub start_counted : (old new len : ℕ) (reason : Refusal) (why : ExportFault) → IsFor (IsNotStarted len) reason
     → IsFor (λ why. SoundCountedBy why old new) reason → why ≡ fault_of_start reason
-    → ExportCountedBy why reads reads old new
-start_counted reads old new len reason why not for is =
-    subst (λ (w : ExportFault). ExportCountedBy w reads reads old new) (sym (is ∙ ap fault_of_start for.1))
-    (counted_by reads old new len not.0 for.0 not.2 (sym not.1 ∙ for.1) for.2)
+    → ExportCountedBy why old new
+start_counted old new len reason why not for is =
+    subst (λ (w : ExportFault). ExportCountedBy w old new) (sym (is ∙ ap fault_of_start for.1))
+    (counted_by old new len not.0 for.0 not.2 (sym not.1 ∙ for.1) for.2)
+
+-- nothing was read
+pub start_read : (reason : Refusal) (why : ExportFault) → why ≡ fault_of_start reason → read_part why ≡ Ok tt
+start_read reason why is = ap read_part is ∙ by reason
+  where
+    by : (reason : Refusal) → read_part (fault_of_start reason) ≡ Ok tt
+    by (refusal.TooLong frames) = refl
+    by reason = refl
 
 pub start_sound : (reason : Refusal) (why : ExportFault) → why ≡ fault_of_start reason → IsNoDamage why
 start_sound reason why is = subst IsNoDamage (sym is) (by reason)

@@ -1,12 +1,10 @@
 -- What is written of a mix.
-use Rattle.std.specs.Prelude.{◌≡◌, ◌<◌, ◌≤◌, ◌+◌, ◌*◌, ℕ, List, Result, MatchResult}
-use Rattle.disk_model.specs.Disk.{Files}
+use Rattle.std.specs.Prelude.{◌≡◌, ◌<◌, ◌≤◌, ◌+◌, ◌*◌, ℕ, Result, Ok, Err, MatchResult}
 use Rattle.pcm_base.specs.Causes.{Rose}
-use Rattle.pcm_base.specs.declared.block.BlockRef.{BlockRef}
 use Rattle.pcm_base.specs.declared.refusal.Refusal.{Refusal}
 use Rattle.pcm_base.specs.declared.refusal.Refusal.TheVariants as refusal
+use Rattle.block_store.specs.declared.fault.BlockFault.{BlockFault}
 use Rattle.block_store.specs.declared.fault.BlockFault.TheVariants as block
-use Rattle.block_store.specs.Reads.{CountedBy, IsFaultIn}
 use Rattle.block_store.specs.Reasons.{reason_of}
 use Rattle.wav_pcm.specs.Wavs.{FitsFile}
 use Rattle.sound_export.specs.declared.fault.ExportFault.{ExportFault}
@@ -25,11 +23,15 @@ IsLengthFault len (TooLong frames) = (frames ≡ len) × (4294967295 < 36 + 4 * 
 IsLengthFault len (Block why) = FitsFile len
 IsLengthFault len VaultFault = FitsFile len
 
--- a fault of a file is of one of some blocks
-abbrev pub IsBlockFault : Files → List BlockRef → ExportFault → Type 0
-IsBlockFault files bs (TooLong frames) = Unit {0}
-IsBlockFault files bs (Block why) = IsFaultIn files bs why
-IsBlockFault files bs VaultFault = Unit {0}
+-- what reads say: nothing is read of a mix that is too long, and where the vault failed each read was answered
+abbrev pub read_part : ExportFault → Result (Unit {0}) BlockFault
+read_part (TooLong frames) = Ok tt
+read_part (Block why) = Err why
+read_part VaultFault = Ok tt
+
+abbrev pub disk_part : {T : Type 0} → Result T ExportFault → Result (Unit {0}) BlockFault
+disk_part (Ok x) = Ok tt
+disk_part (Err why) = read_part why
 
 -- no file is at fault
 abbrev pub IsNoDamage : ExportFault → Type 0
@@ -48,13 +50,11 @@ refusal_of (TooLong frames) = refusal.TooLong frames
 refusal_of (Block why) = reason_of why
 refusal_of VaultFault = refusal.VaultFault
 
--- the disk's count of failed reads rises where it failed, the vault's count of faults where the vault did
-abbrev pub ExportCountedBy : ExportFault → ℕ → ℕ → ℕ → ℕ → Type 0
-ExportCountedBy (TooLong frames) reads reads' faults faults' = (reads' ≡ reads) × (faults' ≡ faults)
-ExportCountedBy (Block why) reads reads' faults faults' = CountedBy why reads reads' × (faults' ≡ faults)
-ExportCountedBy VaultFault reads reads' faults faults' = (reads' ≡ reads) × (Rose faults faults' × (faults ≤ faults'))
+-- the vault's count of faults rises where the vault failed, and stays elsewhere
+abbrev pub ExportCountedBy : ExportFault → ℕ → ℕ → Type 0
+ExportCountedBy (TooLong frames) old new = new ≡ old
+ExportCountedBy (Block why) old new = new ≡ old
+ExportCountedBy VaultFault old new = Rose old new × (old ≤ new)
 
-abbrev pub ExportCounted : {T : Type 0} → Result T ExportFault → ℕ → ℕ → ℕ → ℕ → Type 0
-ExportCounted result reads reads' faults faults' =
-    MatchResult result (λ _. (reads' ≡ reads) × (faults' ≡ faults))
-    (λ why. ExportCountedBy why reads reads' faults faults')
+abbrev pub ExportCounted : {T : Type 0} → Result T ExportFault → ℕ → ℕ → Type 0
+ExportCounted result old new = MatchResult result (λ _. new ≡ old) (λ why. ExportCountedBy why old new)

@@ -1,21 +1,20 @@
 // A mix is written to a vault.
 ghost use Rattle.std.specs.Prelude.{◌≡◌, ◌≤◌, ◌<◌, ◌+◌, ◌*◌, length, Some, Err, IsTrue, OnOk, OnErr, IfOk, IfErr};
 ghost use Rattle.pcm_base.specs.declared.limits.TheConstants.{MAX_CELLS, MAX_TRACKS};
-ghost use Rattle.disk_model.specs.Frames.{Kept};
 ghost use Rattle.pcm_base.specs.Mix.{mix_of};
 ghost use Rattle.pcm_base.specs.Wave.{wav_text};
 ghost use Rattle.pcm_base.specs.Outside.{SameElsewhere};
 ghost use Rattle.project_state.specs.Meaning.{meant, point_blocks};
 ghost use Rattle.sample_block.specs.Sources.{sources_of, AllNamed, AllWhole};
 ghost use Rattle.wav_pcm.specs.Written.{MayBegin};
-ghost use Rattle.block_cache.specs.Caches.{IsCacheOf, KeepsCache};
+ghost use Rattle.block_cache.specs.Readers.{Reads};
 ghost use Rattle.mix_view.specs.Tracks.{mix_length_of, stored_mix};
 ghost use Rattle.sound_export.specs.declared.fault.ExportFault.TheVariants as fault;
-ghost use Rattle.sound_export.specs.Written.{IsLengthFault, IsBlockFault, IsNoDamage, ExportCounted};
+ghost use Rattle.sound_export.specs.Written.{ExportCounted, IsLengthFault, IsNoDamage, disk_part};
 
 use super::fault::{ExportFault, start_fault};
 use super::stretch::append_mix;
-use block_cache::Cache;
+use block_cache::BlockReader;
 use disk_model::Store;
 use edit_ports::Vault;
 use mix_view::mix_len;
@@ -28,8 +27,7 @@ use wav_pcm::start_wav;
 /// time, as many as `frames` has room for. Their bytes are written by `bytes`. After an error the sound is as it was,
 /// or holds the first bytes of the file.
 pub fn write_mix<S: Store, V: Vault>(
-    store: &mut S,
-    cache: &mut Cache,
+    reader: &mut BlockReader<S>,
     vault: &mut V,
     name: &str,
     point: &Point,
@@ -43,35 +41,32 @@ pub fn write_mix<S: Store, V: Vault>(
     requires some { 0 < length frames.old }
     requires bytes { 64 ≤ length bytes.old }
     requires few_frames { length frames.old ≤ MAX_CELLS }
-    requires cached { IsTrue (S.tells store.old) → IsCacheOf (S.reads store.old) cache.old }
-    ensures cache { KeepsCache (S.tells store.old) (S.reads store.old) (point_blocks point.now) cache.old cache.new }
-    ensures written { IsTrue (V.tells vault.old) → IsTrue (S.tells store.old) → OnOk result
-        (V.holds vault.new name.now ≡ Some (wav_text (stored_mix (S.reads store.old) point.now) rate)) }
+    ensures reads { Reads (point_blocks point.now) reader.old reader.new (disk_part result) }
+    ensures written { IsTrue (V.tells vault.old) → IsTrue (S.tells reader.old.store) → OnOk result
+        (V.holds vault.new name.now ≡ Some (wav_text (stored_mix (S.reads reader.old.store) point.now) rate)) }
     ensures size { IfOk result (λ n. n ≡ 44 + 4 * mix_length_of point.now) }
     // Whatever failed, a file too, the sound is as it was or the front of that text.
-    ensures failed { IsTrue (V.tells vault.old) → IsTrue (S.tells store.old)
-        → OnErr result (MayBegin (wav_text (stored_mix (S.reads store.old) point.now) rate)
+    ensures failed { IsTrue (V.tells vault.old) → IsTrue (S.tells reader.old.store)
+        → OnErr result (MayBegin (wav_text (stored_mix (S.reads reader.old.store) point.now) rate)
         (V.holds vault.old name.now) (V.holds vault.new name.now)) }
     // Where the disk has all blocks this is the mix of the model, and no file is at fault.
-    ensures whole { AllWhole (S.reads store.old) (point_blocks point.now)
-        → stored_mix (S.reads store.old) point.now ≡ mix_of (meant (sources_of (S.reads store.old)) point.now) }
-    ensures sound { IsTrue (S.tells store.old) → AllWhole (S.reads store.old) (point_blocks point.now)
+    ensures whole { AllWhole (S.reads reader.old.store) (point_blocks point.now)
+        → stored_mix (S.reads reader.old.store) point.now
+        ≡ mix_of (meant (sources_of (S.reads reader.old.store)) point.now) }
+    ensures sound { IsTrue (S.tells reader.old.store) → AllWhole (S.reads reader.old.store) (point_blocks point.now)
         → IfErr result (λ e. IsNoDamage e) }
     ensures too_long { 4294967295 < 36 + 4 * mix_length_of point.now
-        → (result ≡ Err (fault.TooLong (mix_length_of point.now))) × (vault.new ≡ vault.old) × (store.new ≡ store.old) }
+        → (result ≡ Err (fault.TooLong (mix_length_of point.now))) × (vault.new ≡ vault.old)
+        × (reader.new.store ≡ reader.old.store) }
     ensures long { IfErr result (λ e. IsLengthFault (mix_length_of point.now) e) }
     ensures others { IsTrue (V.tells vault.old) → SameElsewhere name.now (V.holds vault.old) (V.holds vault.new) }
     ensures tells { V.tells vault.new ≡ V.tells vault.old }
-    ensures damaged { IsTrue (S.tells store.old)
-        → IfErr result (λ e. IsBlockFault (S.reads store.old) (point_blocks point.now) e) }
-    ensures kept { Kept S.Store store.old store.new }
-    ensures faults { ExportCounted result (S.read_fault_count store.old) (S.read_fault_count store.new)
-        (V.fault_count vault.old) (V.fault_count vault.new) }
+    ensures faults { ExportCounted result (V.fault_count vault.old) (V.fault_count vault.new) }
 {
     let len = mix_len(point);
     if let Err(why) = start_wav(vault, name, len, rate, bytes) {
         return Err(start_fault(why));
     }
-    append_mix(store, cache, vault, name, point, len, cells, frames, bytes)?;
+    append_mix(reader, vault, name, point, len, cells, frames, bytes)?;
     Ok(44 + 4 * len)
 }

@@ -2,22 +2,21 @@
 ghost use Rattle.std.specs.Prelude.{◌≡◌, ◌≤◌, ◌<◌, ◌+◌, ◌-◌, ◌*◌, ◌^◌, ◌++◌, ℕ, length, take, drop, min, Some, IsTrue};
 ghost use Rattle.std.specs.Prelude.{OnOk, OnErr, IfOk, IfErr};
 ghost use Rattle.pcm_base.specs.declared.limits.TheConstants.{MAX_CELLS, MAX_TRACKS};
-ghost use Rattle.disk_model.specs.Frames.{Kept};
 ghost use Rattle.pcm_base.specs.Pieces.{Sources};
 ghost use Rattle.pcm_base.specs.Mix.{mix_length};
 ghost use Rattle.pcm_base.specs.Outside.{SameElsewhere};
 ghost use Rattle.edit_ports.specs.Sounds.{sound_bytes, MayHaveGrown};
 ghost use Rattle.project_state.specs.Meaning.{meant, point_blocks};
 ghost use Rattle.sample_block.specs.Sources.{AllNamed};
-ghost use Rattle.block_cache.specs.Caches.{IsCacheOf, KeepsCache};
+ghost use Rattle.block_cache.specs.Readers.{Reads};
 ghost use Rattle.mix_view.specs.Readers.{IsReader};
 ghost use Rattle.mix_view.specs.Tracks.{mix_length_of, stored_mix};
 ghost use Rattle.pcm_base.specs.Recordings.{frame_bytes};
 ghost use Rattle.wav_pcm.specs.Written.{IsThere};
-ghost use Rattle.sound_export.specs.Written.{IsOfDevice, IsBlockFault, ExportCounted};
+ghost use Rattle.sound_export.specs.Written.{ExportCounted, IsOfDevice, disk_part};
 
 use super::fault::ExportFault;
-use block_cache::Cache;
+use block_cache::BlockReader;
 use disk_model::Store;
 use edit_ports::Vault;
 use mix_view::MixReader;
@@ -28,44 +27,40 @@ use wav_pcm::append_frames;
 /// Appends the next frames of a mix to a sound that is there, as many as are left and as fit into `frames`, and answers
 /// how many.
 fn append_stretch<'a, S: Store, V: Vault>(
-    store: &mut S,
-    cache: &mut Cache,
+    reader: &mut BlockReader<S>,
     vault: &mut V,
     name: &str,
-    reader: &mut MixReader<'a>,
+    mix: &mut MixReader<'a>,
     cells: &mut [Cell],
     frames: &mut [Frame],
     bytes: &mut [u8],
 ) -> Result<usize, ExportFault>
-    requires reader { IsReader reader.old }
-    requires cached { IsTrue (S.tells store.old) → IsCacheOf (S.reads store.old) cache.old }
+    requires reader { IsReader mix.old }
     requires cells { MAX_TRACKS ≤ length cells.old }
     requires bytes { 64 ≤ length bytes.old }
-    requires few { reader.old.at + length frames.old < 2 ^ 64 }
+    requires few { mix.old.at + length frames.old < 2 ^ 64 }
     ensures count { IfOk result
-        (λ n. n ≡ min (length frames.old) (mix_length_of reader.old.point.now - reader.old.at)) }
-    ensures place { IfOk result (λ n. reader.new.at ≡ reader.old.at + n) }
-    ensures reader { IsReader reader.new }
-    ensures point { reader.new.point.now ≡ reader.old.point.now }
-    ensures cache { KeepsCache (S.tells store.old) (S.reads store.old) (point_blocks reader.old.point.now) cache.old
-        cache.new }
-    ensures appended { IsTrue (V.tells vault.old) → IsTrue (S.tells store.old) → IsThere (V.holds vault.old name.now)
+        (λ n. n ≡ min (length frames.old) (mix_length_of mix.old.point.now - mix.old.at)) }
+    ensures place { IfOk result (λ n. mix.new.at ≡ mix.old.at + n) }
+    ensures reader { IsReader mix.new }
+    ensures point { mix.new.point.now ≡ mix.old.point.now }
+    ensures reads { Reads (point_blocks mix.old.point.now) reader.old reader.new (disk_part result) }
+    ensures appended { IsTrue (V.tells vault.old) → IsTrue (S.tells reader.old.store)
+        → IsThere (V.holds vault.old name.now)
         → IfOk result (λ n. V.holds vault.new name.now ≡ Some (sound_bytes (V.holds vault.old name.now)
-        ++ frame_bytes (take n (drop reader.old.at (stored_mix (S.reads store.old) reader.old.point.now))))) }
-    ensures failed { IsTrue (V.tells vault.old) → IsTrue (S.tells store.old) → IsThere (V.holds vault.old name.now)
+        ++ frame_bytes (take n (drop mix.old.at (stored_mix (S.reads reader.old.store) mix.old.point.now))))) }
+    ensures failed { IsTrue (V.tells vault.old) → IsTrue (S.tells reader.old.store)
+        → IsThere (V.holds vault.old name.now)
         → OnErr result ((n : ℕ)
-        × MayHaveGrown (frame_bytes (take n (drop reader.old.at (stored_mix (S.reads store.old) reader.old.point.now))))
+        × MayHaveGrown (frame_bytes (take n (drop mix.old.at
+        (stored_mix (S.reads reader.old.store) mix.old.point.now))))
         (V.holds vault.old name.now) (V.holds vault.new name.now)) }
     ensures others { IsTrue (V.tells vault.old) → SameElsewhere name.now (V.holds vault.old) (V.holds vault.new) }
     ensures tells { V.tells vault.new ≡ V.tells vault.old }
     ensures device { IfErr result (λ e. IsOfDevice e) }
-    ensures damaged { IsTrue (S.tells store.old)
-        → IfErr result (λ e. IsBlockFault (S.reads store.old) (point_blocks reader.old.point.now) e) }
-    ensures kept { Kept S.Store store.old store.new }
-    ensures faults { ExportCounted result (S.read_fault_count store.old) (S.read_fault_count store.new)
-        (V.fault_count vault.old) (V.fault_count vault.new) }
+    ensures faults { ExportCounted result (V.fault_count vault.old) (V.fault_count vault.new) }
 {
-    let count = reader.read(store, cache, cells, frames)?;
+    let count = mix.read(reader, cells, frames)?;
     if let Err(_) = append_frames(vault, name, &frames[..count], bytes) {
         return Err(ExportFault::VaultFault);
     }
@@ -74,8 +69,7 @@ fn append_stretch<'a, S: Store, V: Vault>(
 
 /// Appends all frames of the mix, `len` of them, to a sound that is there, in one pass over the tracks.
 pub(crate) fn append_mix<S: Store, V: Vault>(
-    store: &mut S,
-    cache: &mut Cache,
+    reader: &mut BlockReader<S>,
     vault: &mut V,
     name: &str,
     point: &Point,
@@ -94,35 +88,21 @@ pub(crate) fn append_mix<S: Store, V: Vault>(
     requires some { 0 < length frames.old }
     requires bytes { 64 ≤ length bytes.old }
     requires few_frames { length frames.old ≤ MAX_CELLS }
-    requires cached { IsTrue (S.tells store.old) → IsCacheOf (S.reads store.old) cache.old }
-    ensures cache { KeepsCache (S.tells store.old) (S.reads store.old) (point_blocks point.now) cache.old cache.new }
-    ensures appended { IsTrue (V.tells vault.old) → IsTrue (S.tells store.old)
+    ensures reads { Reads (point_blocks point.now) reader.old reader.new (disk_part result) }
+    ensures appended { IsTrue (V.tells vault.old) → IsTrue (S.tells reader.old.store)
         → OnOk result (V.holds vault.new name.now ≡ Some (sound_bytes (V.holds vault.old name.now)
-        ++ frame_bytes (stored_mix (S.reads store.old) point.now))) }
-    ensures failed { IsTrue (V.tells vault.old) → IsTrue (S.tells store.old)
-        → OnErr result (MayHaveGrown (frame_bytes (stored_mix (S.reads store.old) point.now))
+        ++ frame_bytes (stored_mix (S.reads reader.old.store) point.now))) }
+    ensures failed { IsTrue (V.tells vault.old) → IsTrue (S.tells reader.old.store)
+        → OnErr result (MayHaveGrown (frame_bytes (stored_mix (S.reads reader.old.store) point.now))
         (V.holds vault.old name.now) (V.holds vault.new name.now)) }
     ensures others { IsTrue (V.tells vault.old) → SameElsewhere name.now (V.holds vault.old) (V.holds vault.new) }
     ensures tells { V.tells vault.new ≡ V.tells vault.old }
     ensures device { IfErr result (λ e. IsOfDevice e) }
-    ensures damaged { IsTrue (S.tells store.old)
-        → IfErr result (λ e. IsBlockFault (S.reads store.old) (point_blocks point.now) e) }
-    ensures kept { Kept S.Store store.old store.new }
-    ensures faults { ExportCounted result (S.read_fault_count store.old) (S.read_fault_count store.new)
-        (V.fault_count vault.old) (V.fault_count vault.new) }
+    ensures faults { ExportCounted result (V.fault_count vault.old) (V.fault_count vault.new) }
 {
-    let mut reader = MixReader::new(point, 0);
-    'stretches: while reader.at < len {
-        if let Err(fault) = append_stretch(
-            store,
-            cache,
-            vault,
-            name,
-            &mut reader,
-            cells,
-            frames,
-            bytes,
-        ) {
+    let mut mix = MixReader::new(point, 0);
+    'stretches: while mix.at < len {
+        if let Err(fault) = append_stretch(reader, vault, name, &mut mix, cells, frames, bytes) {
             return Err(fault);
         }
     }

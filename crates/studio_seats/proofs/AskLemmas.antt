@@ -6,10 +6,10 @@ use Rattle.disk_model.specs.declared.store.Store.{Ghosts}
 use Rattle.disk_model.proofs.Frames.{Fewer, changed_none, changed_turn}
 use Rattle.disk_model.proofs.Rooms.{within_refl}
 use Rattle.edit_ports.specs.declared.vault.Vault as vault
-use Rattle.editor_core.specs.Core.{Core}
-use Rattle.editor_core.specs.Left.{LeavesForeign}
-use Rattle.editor_core.specs.Studios.{IsStudio}
-use Rattle.editor_core.proofs.Others.{foreign_of, foreign_same, foreign_then}
+use Rattle.editor_state.specs.Core.{Core}
+use Rattle.editor_state.specs.Left.{LeavesForeign}
+use Rattle.editor_state.specs.Studios.{IsStudio}
+use Rattle.editor_state.proofs.Calls.OtherFiles.{foreign_of, foreign_same, foreign_then}
 use Rattle.studio_seats.specs.declared.deed.Deed.{Deed}
 use Rattle.studio_seats.specs.Leads.{DeedsAsk, chain_asks}
 use Rattle.studio_seats.specs.Stands.{Chain}

@@ -11,8 +11,8 @@ use Rattle.pcm_base.specs.declared.said.Said.{Said}
 use Rattle.disk_model.specs.declared.store.Store.{Ghosts}
 use Rattle.edit_ports.specs.declared.vault.Vault as vault
 use Rattle.pin_turn.specs.declared.view.View.{View}
-use Rattle.editor_core.specs.Core.{Core}
-use Rattle.editor_core.specs.Took.{silent}
+use Rattle.editor_state.specs.Core.{Core}
+use Rattle.editor_state.specs.Took.{silent}
 use Rattle.studio_seats.specs.declared.deed.Deed.{Deed}
 use Rattle.studio_seats.specs.declared.held.Held.{Held}
 use Rattle.studio_seats.specs.Deeds.{deed, number_after}
@@ -26,8 +26,8 @@ use Rattle.studio_seats.proofs.Turns.{turned_number}
 use Rattle.studio_seats.proofs.WorkLemmas.{own_turn}
 
 -- a turn was taken: after deeds of others comes this one, which is the seat's own
-pub record IsTaken {D V : Type 0} (first : ℕ) (v w : View (Held D V) Deed) (d : Deed) (at : ℕ) (added : List Deed)
-    : Type 0 where
+pub record IsTaken {D V : Type 0} {disk : Ghosts D} (first : ℕ) (v w : View (Held D V disk) Deed) (d : Deed) (at : ℕ)
+    (added : List Deed) : Type 0 where
   pub between : List Deed
   pub are : added ≡ between ++ d ∷ []
   pub own : deeds_of (by_seat v.number) added ≡ d ∷ []
@@ -42,18 +42,20 @@ reason_or other (Ok x) = other
 reason_or other (Err why) = why
 
 -- none was left
-abbrev pub NoTurn : {D V A : Type 0} → View (Held D V) Deed → ℕ → Result A Refusal → List Deed → Type 0
+abbrev pub NoTurn : {D V A : Type 0} {disk : Ghosts D} → View (Held D V disk) Deed → ℕ → Result A Refusal → List Deed
+    → Type 0
 NoTurn w at told added = (added ≡ []) × (at ≡ 0) × (told ≡ Err spent) × (w.used_up ≡ true)
 
 -- one call: its turn was taken, or none was left
-pub record OneCall {D V A : Type 0} (first : ℕ) (fits : Call → Type 0) (v w : View (Held D V) Deed) (c : Call)
+pub record OneCall {D V A : Type 0} {disk : Ghosts D} (first : ℕ) (fits : Call → Type 0)
+    (v w : View (Held D V disk) Deed) (c : Call)
     (what : Result Reply Refusal) (at : ℕ) (told : Result A Refusal) : Type 0 where
   pub onward : Onward fits v w
   pub how : IsTaken first v w (deed v.number c what silent) at onward.added
       ⊎ NoTurn w at told onward.added
 
 module _ {D V A : Type 0} (fits : Call → Type 0) (disk : Ghosts D) (vaults : vault.Ghosts V) (start : Core D)
-    (v w : View (Held D V) Deed) (c : Call) (what : Result Reply Refusal) (said : Said A) (fit : fits c) where
+    (v w : View (Held D V disk) Deed) (c : Call) (what : Result Reply Refusal) (said : Said A) (fit : fits c) where
   taken : Turned (origin disk vaults start) (asked c what silent) said.at (views v w)
       → OneCall start.commit_number fits v w c what said.at said.what
   taken x =
@@ -66,7 +68,7 @@ module _ {D V A : Type 0} (fits : Call → Type 0) (disk : Ghosts D) (vaults : v
           own = own_turn fits v v (onward_self fits v) x.between d refl x.by_others;
           longer = omega (
             arith,
-            ap (λ (z : View (Held D V) Deed). length z.seen) x.view,
+            ap (λ (z : View (Held D V disk) Deed). length z.seen) x.view,
             length-append (v.seen ++ x.between) (d ∷ []),
             length-append v.seen x.between,
           );
@@ -80,7 +82,7 @@ module _ {D V A : Type 0} (fits : Call → Type 0) (disk : Ghosts D) (vaults : v
   spends : Spends v said w → OneCall start.commit_number fits v w c what said.at said.what
   spends x = record {
     onward = onward_spent fits disk vaults start v w c what silent x.view;
-    how = inr (refl, x.at, x.what, ap (λ (z : View (Held D V) Deed). z.used_up) x.view);
+    how = inr (refl, x.at, x.what, ap (λ (z : View (Held D V disk) Deed). z.used_up) x.view);
   }
 
   pub one_call : Says (origin disk vaults start) (asked c what silent) said (views v w)
@@ -91,7 +93,8 @@ module _ {D V A : Type 0} (fits : Call → Type 0) (disk : Ghosts D) (vaults : v
       h
 
 -- a seat that knew that no turn is left saw nothing
-pub call_idle : {D V A : Type 0} (first : ℕ) (fits : Call → Type 0) (v w : View (Held D V) Deed) (c : Call)
+pub call_idle : {D V A : Type 0} {disk : Ghosts D} (first : ℕ) (fits : Call → Type 0)
+    (v w : View (Held D V disk) Deed) (c : Call)
     (what : Result Reply Refusal) (at : ℕ) (told : Result A Refusal) (h : OneCall first fits v w c what at told)
     → v.used_up ≡ true → h.onward.added ≡ []
 call_idle first fits v w c what at told h used = ⊎_elim
@@ -101,8 +104,8 @@ call_idle first fits v w c what at told h used = ⊎_elim
     h.how
 
 -- the own deeds of a seat that went on twice
-pub own_on : {D V : Type 0} (one two : Call → Type 0) (u v w : View (Held D V) Deed) (h : Onward one u v)
-    (k : Onward two v w)
+pub own_on : {D V : Type 0} {disk : Ghosts D} (one two : Call → Type 0) (u v w : View (Held D V disk) Deed)
+    (h : Onward one u v) (k : Onward two v w)
     → deeds_of (by_seat u.number) (h.added ++ k.added)
     ≡ deeds_of (by_seat u.number) h.added ++ deeds_of (by_seat v.number) k.added
 own_on one two u v w h k =

@@ -16,8 +16,8 @@ use Rattle.pcm_base.specs.Studio as model
 use Rattle.pin_turn.specs.Counts.{Each}
 use Rattle.disk_model.specs.declared.store.Store.{Ghosts}
 use Rattle.edit_ports.specs.declared.vault.Vault as vault
-use Rattle.editor_core.specs.Applied.{reply_of}
-use Rattle.editor_core.specs.Studios.{studio_of}
+use Rattle.editor_state.specs.Applied.{reply_of}
+use Rattle.editor_state.specs.Studios.{studio_of}
 use Rattle.model_laws.proofs.Answered.{carried_is}
 use Rattle.studio_seats.specs.declared.deed.Deed.{Deed}
 use Rattle.studio_seats.specs.Deeds.{entries_of}

@@ -16,9 +16,9 @@ use Rattle.pcm_base.specs.Studio as model
 use Rattle.disk_model.specs.declared.store.Store.{Ghosts}
 use Rattle.edit_ports.specs.declared.vault.Vault as vault
 use Rattle.pin_turn.specs.declared.view.View.{View}
-use Rattle.editor_core.specs.Core.{Core}
-use Rattle.editor_core.specs.Studios.{studio_of}
-use Rattle.editor_core.specs.Took.{silent, told_by}
+use Rattle.editor_state.specs.Core.{Core}
+use Rattle.editor_state.specs.Studios.{studio_of}
+use Rattle.editor_state.specs.Took.{silent, told_by}
 use Rattle.studio_seats.specs.declared.deed.Deed.{Deed}
 use Rattle.studio_seats.specs.declared.held.Held.{Held}
 use Rattle.studio_seats.specs.Deeds.{deed, entries_of, entry_of}
@@ -69,7 +69,7 @@ made_last pin (x ∷ xs) e makes =
 
 -- a seat to which a pin was answered has seen how it was made
 pub pinned_made : {D V : Type 0} (disk : Ghosts D) (vaults : vault.Ghosts V) (start : Core D)
-    (v w : View (Held D V) Deed) (said : Said ℕ)
+    (v w : View (Held D V disk) Deed) (said : Said ℕ)
     → Says (origin disk vaults start) (asked Pin (told_by Pinned said.what) silent) said (views v w)
     → IfOk said.what (λ pin. IsTrue (is_made pin (entries_of w.seen)))
 pinned_made {D} {V} disk vaults start v w said h = ⊎_elim
@@ -85,12 +85,12 @@ pinned_made {D} {V} disk vaults start v w said h = ⊎_elim
     in_turn (Ok pin) at x =
         let d : Deed = deed v.number Pin (Ok (Pinned pin)) silent in
         subst (λ (es : List Entry). IsTrue (is_made pin es)) (sym (ap
-        (λ (z : View (Held D V) Deed). entries_of z.seen) x.view ∙ entries_append (v.seen ++ x.between) (d ∷ [])))
+        (λ (z : View (Held D V disk) Deed). entries_of z.seen) x.view ∙ entries_append (v.seen ++ x.between) (d ∷ [])))
         (made_last pin (entries_of (v.seen ++ x.between)) (entry_of d) (eq-eqb pin pin refl))
     in_turn (Err why) at x = tt
 
 module _ {D V : Type 0} (disk : Ghosts D) (vaults : vault.Ghosts V) (start : Core D) (pin from : ℕ)
-    (old new : List Frame) (v w : View (Held D V) Deed) (said : Said ℕ) where
+    (old new : List Frame) (v w : View (Held D V disk) Deed) (said : Said ℕ) where
   abbrev t : model.Studio
   t = studio_of disk start
 
@@ -111,11 +111,11 @@ module _ {D V : Type 0} (disk : Ghosts D) (vaults : vault.Ghosts V) (start : Cor
       (λ (x : Reads said.what said.at).
       let d : Deed = deed v.number (ReadPin pin from (length old)) (what_of said.what) silent in (
         entries_of (x.between ++ d ∷ []),
-        ap (λ (z : View (Held D V) Deed). entries_of z.seen) x.view
+        ap (λ (z : View (Held D V disk) Deed). entries_of z.seen) x.view
             ∙ ap entries_of (append_assoc v.seen x.between (d ∷ [])) ∙ entries_append v.seen (x.between ++ d ∷ []),
       ))
       (λ (x : Spends v said w).
-      ([], ap (λ (z : View (Held D V) Deed). entries_of z.seen) x.view ∙ sym (append-nil (entries_of v.seen))))
+      ([], ap (λ (z : View (Held D V disk) Deed). entries_of z.seen) x.view ∙ sym (append-nil (entries_of v.seen))))
       h
 
   -- the seat has still seen how the pin was made

@@ -18,16 +18,16 @@ use Rattle.disk_model.specs.declared.store.Store.{Ghosts}
 use Rattle.disk_model.proofs.Moments.{each_on}
 use Rattle.project_journal.specs.Gate.{EachNow, EachSince}
 use Rattle.record_body.specs.Kept.{Keeps}
-use Rattle.editor_core.specs.Applied.{reply_of}
-use Rattle.editor_core.specs.Core.{Core}
-use Rattle.editor_core.specs.Events.{KeepsPrefix}
-use Rattle.editor_core.specs.Studios.{IsHeld, IsStudio, shown, studio_of}
-use Rattle.editor_core.specs.Left.{Left, Stops}
-use Rattle.editor_core.specs.Took.{Took, exchange_of, freeing, silent}
-use Rattle.editor_core.proofs.Applying.{lasts_took}
-use Rattle.editor_core.proofs.Entries.{flies, prefix_more, run_more, step_of}
-use Rattle.editor_core.proofs.Images.{keeps_now}
-use Rattle.editor_core.proofs.Unharmed.{held_undamaged}
+use Rattle.editor_state.specs.Applied.{reply_of}
+use Rattle.editor_state.specs.Core.{Core}
+use Rattle.editor_state.specs.Events.{KeepsPrefix}
+use Rattle.editor_state.specs.Studios.{IsHeld, IsStudio, shown, studio_of}
+use Rattle.editor_state.specs.Left.{Left, Stops}
+use Rattle.editor_state.specs.Took.{Took, exchange_of, freeing, silent}
+use Rattle.editor_state.proofs.Calls.VaultCalls.{lasts_took}
+use Rattle.editor_state.proofs.Calls.RunEntries.{flies, prefix_more, run_more, step_of}
+use Rattle.editor_state.proofs.Images.ImageProjects.{keeps_now}
+use Rattle.editor_state.proofs.Refusals.IntactFiles.{held_undamaged}
 use Rattle.edit_ports.specs.declared.vault.Vault as vault
 use Rattle.pin_turn.proofs.Sums.{Each-append, Each-left, Each-right}
 use Rattle.studio_seats.specs.declared.deed.Deed.{Deed}

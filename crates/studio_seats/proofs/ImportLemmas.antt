@@ -11,11 +11,11 @@ use Rattle.pcm_base.specs.Run.{name_in}
 use Rattle.disk_model.specs.declared.store.Store.{Ghosts}
 use Rattle.edit_ports.specs.declared.vault.Vault as vault
 use Rattle.pin_turn.specs.Counts.{Each}
-use Rattle.editor_core.specs.Core.{Core}
-use Rattle.editor_core.specs.Exchanges.{reads_sound}
-use Rattle.editor_core.specs.Imports.{IfCutShort, IsCutShort, left_as}
-use Rattle.editor_core.specs.Took.{Took, with_sound}
-use Rattle.editor_core.proofs.Applying.{lasts_took}
+use Rattle.editor_state.specs.Core.{Core}
+use Rattle.editor_state.specs.Exchanges.{reads_sound}
+use Rattle.editor_state.specs.Vaults.{IfCutShort, IsCutShort, left_as}
+use Rattle.editor_state.specs.Took.{Took, with_sound}
+use Rattle.editor_state.proofs.Calls.VaultCalls.{lasts_took}
 use Rattle.studio_seats.specs.declared.deed.Deed.{Deed}
 use Rattle.studio_seats.specs.Imports.{AreReadAs, ImportsLead, IsReadAs, IsReadable, telling}
 use Rattle.studio_seats.specs.Stands.{AllTell, Chain, Does, origin}

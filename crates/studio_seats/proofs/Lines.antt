@@ -11,8 +11,8 @@ use Rattle.pcm_base.specs.declared.refusal.Refusal.{Refusal}
 use Rattle.pcm_base.specs.Outside.{Sounds}
 use Rattle.pcm_base.specs.Run.{Heard, name_in_line}
 use Rattle.disk_model.specs.declared.store.Store.{Ghosts}
-use Rattle.editor_core.specs.Applied.{Applies, EndsAlike, move_of, reply_of, Span, sound_moved}
-use Rattle.editor_core.specs.Took.{told_by}
+use Rattle.editor_state.specs.Applied.{Applies, EndsAlike, move_of, reply_of, Span, sound_moved}
+use Rattle.editor_state.specs.Took.{told_by}
 use Rattle.studio_seats.specs.Deeds.{deed}
 use Rattle.studio_seats.specs.Stands.{Does}
 

@@ -12,7 +12,7 @@ use Rattle.edit_ports.specs.declared.vault.Vault as vault
 use Rattle.pin_turn.specs.declared.view.View.{View}
 use Rattle.pin_turn.specs.Counts.{Each}
 use Rattle.pin_turn.specs.Rule.{ByOthers}
-use Rattle.editor_core.specs.Core.{Core}
+use Rattle.editor_state.specs.Core.{Core}
 use Rattle.studio_seats.specs.declared.held.Held.{Held}
 use Rattle.studio_seats.specs.declared.deed.Deed.{Deed}
 use Rattle.studio_seats.specs.Deeds.{actor_of, deed}
@@ -61,7 +61,7 @@ pub one_place : (seat k : ℕ) (c : Call) (what : Result Reply Refusal) (sound :
 one_place seat k c what sound = ap (λ (b : Bool). (if b then k ∷ [] else []) ++ []) (eq-eqb seat seat refl)
 
 module _ {D V : Type 0} (fits : Call → Type 0) where
-  abbrev pub onward_self : (v : View (Held D V) Deed) → Onward fits v v
+  abbrev pub onward_self : {disk : Ghosts D} (v : View (Held D V disk) Deed) → Onward fits v v
   onward_self v = record {
     added = [];
     seen = sym (append-nil v.seen);
@@ -72,7 +72,8 @@ module _ {D V : Type 0} (fits : Call → Type 0) where
     used_up = λ used. used;
   }
 
-  abbrev pub onward_on : (u v w : View (Held D V) Deed) → Onward fits u v → Onward fits v w → Onward fits u w
+  abbrev pub onward_on : {disk : Ghosts D} (u v w : View (Held D V disk) Deed) → Onward fits u v → Onward fits v w
+      → Onward fits u w
   onward_on u v w h k = record {
     added = h.added ++ k.added;
     seen = k.seen ∙ (ap (λ (l : List Deed). l ++ k.added) h.seen ∙ append_assoc u.seen h.added k.added);
@@ -91,7 +92,7 @@ module _ {D V : Type 0} (fits : Call → Type 0) where
     used_up = λ used. k.used_up (h.used_up used);
   }
 
-  module _ (disk : Ghosts D) (vaults : vault.Ghosts V) (start : Core D) (v w : View (Held D V) Deed) (c : Call)
+  module _ (disk : Ghosts D) (vaults : vault.Ghosts V) (start : Core D) (v w : View (Held D V disk) Deed) (c : Call)
       (what : Result Reply Refusal) (sound : SoundMove) where
     -- a turn was taken
     abbrev pub onward_taken : (at : ℕ) → fits c → Turned (origin disk vaults start) (asked c what sound) at (views v w)
@@ -100,31 +101,31 @@ module _ {D V : Type 0} (fits : Call → Type 0) where
         let e : Deed = deed v.number c what sound in
         record {
           added = x.between ++ e ∷ [];
-          seen = ap (λ (z : View (Held D V) Deed). z.seen) x.view ∙ append_assoc v.seen x.between (e ∷ []);
+          seen = ap (λ (z : View (Held D V disk) Deed). z.seen) x.view ∙ append_assoc v.seen x.between (e ∷ []);
           asks = each_append (λ e. e.actor ≡ v.number → fits e.call) x.between (e ∷ [])
               (asks_others fits v.number x.between x.by_others) ((λ is. fit), tt);
-          number = ap (λ (z : View (Held D V) Deed). z.number) x.view;
-          away = ap (λ (z : View (Held D V) Deed). z.away) x.view;
+          number = ap (λ (z : View (Held D V disk) Deed). z.number) x.view;
+          away = ap (λ (z : View (Held D V disk) Deed). z.away) x.view;
           mine =
               let k = length v.seen in
               let at : length (v.seen ++ x.between) ≡ k + length x.between = length-append v.seen x.between in
-              ap (λ (z : View (Held D V) Deed). z.mine) x.view ∙ ap (λ (l : List ℕ). v.mine ++ l)
+              ap (λ (z : View (Held D V disk) Deed). z.mine) x.view ∙ ap (λ (l : List ℕ). v.mine ++ l)
               (ap (λ (n : ℕ). n ∷ []) at
               ∙ sym (places_append (by_seat v.number) k x.between (e ∷ []) ∙ (λ i. places_others v.number k x.between
               x.by_others i ++ one_place v.number (k + length x.between) c what sound i)));
-          used_up = λ used. ap (λ (z : View (Held D V) Deed). z.used_up) x.view ∙ used;
+          used_up = λ used. ap (λ (z : View (Held D V disk) Deed). z.used_up) x.view ∙ used;
         }
 
     -- none was left
     abbrev pub onward_spent : w ≡ record v { used_up = true } → Onward fits v w
     onward_spent is = record {
       added = [];
-      seen = ap (λ (z : View (Held D V) Deed). z.seen) is ∙ sym (append-nil v.seen);
+      seen = ap (λ (z : View (Held D V disk) Deed). z.seen) is ∙ sym (append-nil v.seen);
       asks = tt;
-      number = ap (λ (z : View (Held D V) Deed). z.number) is;
-      away = ap (λ (z : View (Held D V) Deed). z.away) is;
-      mine = ap (λ (z : View (Held D V) Deed). z.mine) is ∙ sym (append-nil v.mine);
-      used_up = λ used. ap (λ (z : View (Held D V) Deed). z.used_up) is;
+      number = ap (λ (z : View (Held D V disk) Deed). z.number) is;
+      away = ap (λ (z : View (Held D V disk) Deed). z.away) is;
+      mine = ap (λ (z : View (Held D V disk) Deed). z.mine) is ∙ sym (append-nil v.mine);
+      used_up = λ used. ap (λ (z : View (Held D V disk) Deed). z.used_up) is;
     }
 
     -- one call

@@ -14,8 +14,8 @@ use Rattle.disk_model.specs.declared.store.Store.{Ghosts}
 use Rattle.edit_ports.specs.declared.vault.Vault as vault
 use Rattle.pin_turn.specs.declared.view.View.{View}
 use Rattle.pin_turn.specs.Rule.{ByOthers}
-use Rattle.editor_core.specs.Core.{Core}
-use Rattle.editor_core.specs.Took.{silent, told_by}
+use Rattle.editor_state.specs.Core.{Core}
+use Rattle.editor_state.specs.Took.{silent, told_by}
 use Rattle.edit_ports.specs.Answers.{numbered_pieces}
 use Rattle.pcm_base.specs.Recordings.{pieces_in, pieces_of}
 use Rattle.studio_seats.specs.declared.deed.Deed.{Deed}
@@ -85,8 +85,8 @@ piece_left seat n track tag samples why =
     (eq-eqb seat seat refl)
 
 module _ {D V : Type 0} (disk : Ghosts D) (vaults : vault.Ghosts V) (start : Core D) (track tag : ℕ) (samples : List ℤ)
-    (v w : View (Held D V) Deed) where
-  abbrev Pieces : View (Held D V) Deed → List (List ℤ × ℕ)
+    (v w : View (Held D V disk) Deed) where
+  abbrev Pieces : View (Held D V disk) Deed → List (List ℤ × ℕ)
   Pieces x = pieces_by track tag x.number start.commit_number x.seen
 
   -- the pieces of these samples more, whose numbers lead to this one
@@ -153,9 +153,10 @@ module _ {D V : Type 0} (disk : Ghosts D) (vaults : vault.Ghosts V) (start : Cor
       let two = number_on start.commit_number (v.seen ++ x.between) (d ∷ []) in
       let same : number_after start.commit_number w.seen
       ≡ number_after start.commit_number ((v.seen ++ x.between) ++ d ∷ []) =
-      ap (λ (z : View (Held D V) Deed). number_after start.commit_number z.seen) x.view in
+      ap (λ (z : View (Held D V disk) Deed). number_after start.commit_number z.seen) x.view in
       omega (arith, low, one, two, same))
       (λ (x : Spends v said w).
       let same : number_after start.commit_number w.seen ≡ number_after start.commit_number v.seen =
-      ap (λ (z : View (Held D V) Deed). number_after start.commit_number z.seen) x.view in omega (arith, low, same))
+      ap (λ (z : View (Held D V disk) Deed). number_after start.commit_number z.seen) x.view in
+      omega (arith, low, same))
       h

@@ -94,7 +94,7 @@ pub leads_of : (t u : model.Studio) (c : Call) (sound : SoundMove) (what : Resul
     → Answers t c sound what u → Leads t c what sound u
 leads_of t u c sound (Ok r) h = record {
   state = ap (λ (z : model.Studio). z.state) (carried_is t u c sound r h)
-      ∙ answered_told r (followed (outside t sound) t c h.blocks h.len);
+      ∙ answered_told r (followed (outside t sound) t c h.blocks h.len h.layout);
   rate = ap (λ (z : model.Studio). z.rate) (carried_is t u c sound r h);
   tells = λ said same. subst (MayAnswer (outside t sound) t.state c) (ap reply_or same) h.answers;
 }

@@ -16,8 +16,8 @@ use Rattle.disk_model.specs.declared.store.Store.{Ghosts}
 use Rattle.edit_ports.specs.Answers.{AtEnd, NextAt, RefusedAt, after_read, first_refusal}
 use Rattle.edit_ports.specs.declared.vault.Vault as vault
 use Rattle.pin_turn.specs.declared.view.View.{View}
-use Rattle.editor_core.specs.Core.{Core}
-use Rattle.editor_core.specs.Took.{silent, told_by}
+use Rattle.editor_state.specs.Core.{Core}
+use Rattle.editor_state.specs.Took.{silent, told_by}
 use Rattle.studio_seats.specs.declared.held.Held.{Held}
 use Rattle.studio_seats.specs.declared.deed.Deed.{Deed}
 use Rattle.studio_seats.specs.Deeds.{deed}
@@ -44,7 +44,7 @@ full_more pin from to (x ∷ xs) d frames h few call what =
     (h.0, h.1, h.2, h.3, full_more pin (from + length h.0) to xs d frames h.4 few call what)
 
 -- no read yet
-pub reads_self : {D V : Type 0} (pin : ℕ) (v : Worker D V) → ReadsOn pin (NextAt 0) v v
+pub reads_self : {D V : Type 0} {disk : Ghosts D} (pin : ℕ) (v : Worker D V disk) → ReadsOn pin (NextAt 0) v v
 reads_self pin v = record {
   onward = onward_self (IsReadOf pin) v.view;
   reads = λ none.
@@ -52,8 +52,9 @@ reads_self pin v = record {
 }
 
 -- one read more of a worker that nothing had refused since `a`
-module _ {D V : Type 0} (pin from : ℕ) (disk : Ghosts D) (vaults : vault.Ghosts V) (start : Core D) (a : Worker D V)
-    (v w : View (Held D V) Deed) (old new : Option Refusal) (out out' : List Frame) (few : IsAsked (length out))
+module _ {D V : Type 0} (pin from : ℕ) (disk : Ghosts D) (vaults : vault.Ghosts V) (start : Core D)
+    (a : Worker D V disk)
+    (v w : View (Held D V disk) Deed) (old new : Option Refusal) (out out' : List Frame) (few : IsAsked (length out))
     (wide : length out' ≡ length out) (h : ReadsOn pin (NextAt from) a (worker v old)) where
   abbrev own : List Deed
   own = deeds_of (by_seat a.view.number) h.onward.added
@@ -180,7 +181,7 @@ module _ {D V : Type 0} (pin from : ℕ) (disk : Ghosts D) (vaults : vault.Ghost
         b.ends.2,
         why,
         first ∙ ap (λ (o : Option Refusal). first_refusal o why) b.ends.0,
-        inr (refl, cc, ap (λ (z : View (Held D V) Deed). z.used_up) view),
+        inr (refl, cc, ap (λ (z : View (Held D V disk) Deed). z.used_up) view),
       );
     };
   }

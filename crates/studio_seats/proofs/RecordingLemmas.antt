@@ -19,8 +19,8 @@ use Rattle.edit_ports.specs.declared.vault.Vault as vault
 use Rattle.pin_turn.specs.declared.view.View.{View}
 use Rattle.pin_turn.specs.Counts.{Each}
 use Rattle.pin_turn.proofs.Sums.{Each-append}
-use Rattle.editor_core.specs.Core.{Core}
-use Rattle.editor_core.specs.Took.{silent, told_by}
+use Rattle.editor_state.specs.Core.{Core}
+use Rattle.editor_state.specs.Took.{silent, told_by}
 use Rattle.studio_seats.specs.declared.held.Held.{Held}
 use Rattle.studio_seats.specs.declared.deed.Deed.{Deed}
 use Rattle.studio_seats.specs.Deeds.{deed, entries_of, entry_of, number_after}
@@ -43,7 +43,8 @@ use Rattle.studio_seats.proofs.Turns.{number_on}
 use Rattle.studio_seats.proofs.WorkLemmas.{ends_later, onward_as, own_turn}
 
 -- a recorder that was asked nothing
-pub records_self : {D V : Type 0} (track tag : ℕ) (v : Recorder D V) → RecordsOn track tag false false v v
+pub records_self : {D V : Type 0} {disk : Ghosts D} (track tag : ℕ) (v : Recorder D V disk)
+    → RecordsOn track tag false false v v
 records_self track tag v = record {
   onward = onward_self (RecorderAsks track tag) v.view;
   unrefused = λ going. refl;
@@ -53,8 +54,9 @@ records_self track tag v = record {
 }
 
 -- some pieces more of a recorder that nothing had refused since `a`
-module _ {D V : Type 0} (track tag : ℕ) (disk : Ghosts D) (vaults : vault.Ghosts V) (start : Core D) (a : Recorder D V)
-    (v w : View (Held D V) Deed) (old new : Option Refusal) (since count : ℕ) (samples : List ℤ)
+module _ {D V : Type 0} (track tag : ℕ) (disk : Ghosts D) (vaults : vault.Ghosts V) (start : Core D)
+    (a : Recorder D V disk)
+    (v w : View (Held D V disk) Deed) (old new : Option Refusal) (since count : ℕ) (samples : List ℤ)
     (many : pieces_in (length samples) ≡ count) (few : since + count ≤ 64)
     (h : RecordsOn track tag false false a (recorder v old since)) where
   abbrev own : List Deed
@@ -144,7 +146,7 @@ module _ {D V : Type 0} (track tag : ℕ) (disk : Ghosts D) (vaults : vault.Ghos
       → RecordsOn track tag false (is_err r) a (recorder w new (since + count))
   spends (Ok x) is view first = cc
   spends (Err why) is view first =
-      let used : w.used_up ≡ true = ap (λ (z : View (Held D V) Deed). z.used_up) view in
+      let used : w.used_up ≡ true = ap (λ (z : View (Held D V disk) Deed). z.used_up) view in
       let same : deeds_of (by_seat a.view.number) (h.onward.added ++ []) ≡ own =
       ap (deeds_of (by_seat a.view.number)) (append-nil h.onward.added) in
       record {
@@ -169,7 +171,7 @@ module _ {D V : Type 0} (track tag : ℕ) (disk : Ghosts D) (vaults : vault.Ghos
 
 -- a reclaim
 pub frees_turn : {D V A : Type 0} (disk : Ghosts D) (vaults : vault.Ghosts V) (start : Core D)
-    (v w : View (Held D V) Deed) (what : Result Reply Refusal) (said : Said A)
+    (v w : View (Held D V disk) Deed) (what : Result Reply Refusal) (said : Said A)
     → Says (origin disk vaults start) (asked (Line (Reclaim None)) what silent) said (views v w) → Frees v w
 frees_turn {D} {V} disk vaults start v w what said says = ⊎_elim
     (λ (x : Turned (origin disk vaults start) (asked (Line (Reclaim None)) what silent) said.at (views v w)).
@@ -179,13 +181,13 @@ frees_turn {D} {V} disk vaults start v w what said says = ⊎_elim
     })
     (λ (x : Spends v said w). record {
       onward = onward_spent IsFullReclaim disk vaults start v w (Line (Reclaim None)) what silent x.view;
-      freed = inr (ap (λ (z : View (Held D V) Deed). z.used_up) x.view, refl);
+      freed = inr (ap (λ (z : View (Held D V disk) Deed). z.used_up) x.view, refl);
     })
     says
 
-module _ {D V : Type 0} (track tag : ℕ) (v w : View (Held D V) Deed) where
+module _ {D V : Type 0} {disk : Ghosts D} (track tag : ℕ) (v w : View (Held D V disk) Deed) where
   -- what a recorder did before a reclaim, and that
-  module _ (failed : Bool) (a : Recorder D V) (refused : Option Refusal) (since : ℕ)
+  module _ (failed : Bool) (a : Recorder D V disk) (refused : Option Refusal) (since : ℕ)
       (h : RecordsOn track tag false failed a (recorder v refused since)) where
     abbrev before : List Deed
     before = deeds_of (by_seat a.view.number) h.onward.added
@@ -263,7 +265,7 @@ module _ {D V : Type 0} (track tag : ℕ) (v w : View (Held D V) Deed) where
     pub records_free : (ended : Bool) (left : ℕ) → FreesTo ended since v left w
         → RecordsOn track tag ended failed a (recorder w refused left)
     records_free ended left (inl stays) =
-        subst (λ (z : ℕ × View (Held D V) Deed). RecordsOn track tag ended failed a (recorder z.1 refused z.0))
+        subst (λ (z : ℕ × View (Held D V disk) Deed). RecordsOn track tag ended failed a (recorder z.1 refused z.0))
         (λ i. (sym stays.0 i, sym stays.1 i)) (stays_freed ended)
     records_free ended left (inr made) =
         subst (λ (n : ℕ). RecordsOn track tag ended failed a (recorder w refused n)) (sym made.0)
@@ -274,7 +276,7 @@ module _ {D V : Type 0} (track tag : ℕ) (v w : View (Held D V) Deed) where
     pub pieces_free : (first : ℕ) → FreesTo ended since v left w
         → pieces_by track tag w.number first w.seen ≡ pieces_by track tag v.number first v.seen
     pieces_free first (inl stays) =
-        ap (λ (z : View (Held D V) Deed). pieces_by track tag z.number first z.seen) stays.1
+        ap (λ (z : View (Held D V disk) Deed). pieces_by track tag z.number first z.seen) stays.1
     pieces_free first (inr made) =
         let on : Onward IsFullReclaim v w = made.2.onward in
         (λ i. pieces_by track tag (on.number i) first (on.seen i))
@@ -287,7 +289,7 @@ module _ {D V : Type 0} (track tag : ℕ) (v w : View (Held D V) Deed) where
     pub number_free : (first least : ℕ) → FreesTo ended since v left w → least ≤ number_after first v.seen
         → least ≤ number_after first w.seen
     number_free first least (inl stays) low =
-        subst (λ (z : View (Held D V) Deed). least ≤ number_after first z.seen) (sym stays.1) low
+        subst (λ (z : View (Held D V disk) Deed). least ≤ number_after first z.seen) (sym stays.1) low
     number_free first least (inr made) low =
         let on = number_on first v.seen made.2.onward.added in
         let same : number_after first w.seen ≡ number_after first (v.seen ++ made.2.onward.added) =

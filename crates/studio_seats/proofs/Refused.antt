@@ -9,8 +9,8 @@ use Rattle.pcm_base.specs.declared.refusal.Refusal.{Refusal}
 use Rattle.pcm_base.specs.Causes.{Cause, Test, Damage, Disk, Vault, Memory, cause_of}
 use Rattle.pcm_base.specs.Run.{Answers, BreaksBy}
 use Rattle.pcm_base.specs.Studio as model
-use Rattle.editor_core.specs.Studios.{shown}
-use Rattle.editor_core.specs.Took.{number_behind}
+use Rattle.editor_state.specs.Studios.{shown}
+use Rattle.editor_state.specs.Took.{number_behind}
 use Rattle.model_laws.proofs.Answered.{carried_is}
 use Rattle.studio_seats.specs.Deeds.{commits}
 

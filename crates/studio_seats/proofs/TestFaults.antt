@@ -13,7 +13,7 @@ use Rattle.pcm_base.specs.declared.refusal.Refusal.TheVariants as refusal
 use Rattle.pcm_base.specs.declared.wav.WavFault.{WavFault}
 use Rattle.pcm_base.specs.Cells.{cells_at, longest, tracks_from}
 use Rattle.pcm_base.specs.Counters.{commits_of, counter_tests, generations_of, no_room, pins_of, places_of, record_test}
-use Rattle.pcm_base.specs.Counters.{tracks_of}
+use Rattle.pcm_base.specs.Counters.{layouts_of, tracks_of}
 use Rattle.pcm_base.specs.Edits.{source_count}
 use Rattle.pcm_base.specs.Outside.{Outside}
 use Rattle.pcm_base.specs.Refusals.{◌otherwise◌, bad_columns, bad_range, bad_view, call_tests, channel_tests}
@@ -27,8 +27,8 @@ use Rattle.pcm_base.specs.Shape.{View, Cells, Frames, Columns, Tracks, shape_of}
 use Rattle.pcm_base.specs.State.{State, clip_of, current}
 use Rattle.pcm_base.specs.Studio as model
 use Rattle.pcm_base.specs.Wave.{Sound, wav_of}
-use Rattle.editor_core.specs.Applied.{reply_of}
-use Rattle.editor_core.proofs.Entries.{plain, plain_result}
+use Rattle.editor_state.specs.Applied.{reply_of}
+use Rattle.editor_state.proofs.Calls.RunEntries.{plain, plain_result}
 use Rattle.studio_seats.specs.Desks.{spent}
 use Rattle.studio_seats.specs.Faults.{IsServed}
 use Rattle.studio_seats.proofs.Refused.{stopped_not}
@@ -164,7 +164,8 @@ module _ (stopped : Option ℕ) where
       (either (no_room t.state.commit (commits_of c)) _ (room t.state.commit (commits_of c))
       (either (no_room t.state.next_pin (pins_of c)) _ (room t.state.next_pin (pins_of c))
       (either (no_room t.journal_end (places_of c len)) _ (room t.journal_end (places_of c len))
-      (room t.generation (generations_of c))))))
+      (either (no_room t.generation (generations_of c)) _ (room t.generation (generations_of c))
+      (room t.next_layout (layouts_of out t.state c)))))))
 
 pub going : (stopped : Option ℕ) (c : Call) → Tells stopped (stop_test stopped c)
 going None (call.Line c) = tt

@@ -15,8 +15,9 @@ use Rattle.pin_turn.specs.declared.view.Spent.{Spent}
 use Rattle.pin_turn.specs.declared.view.View.{View}
 use Rattle.pin_turn.specs.Calls.{TakesAtMut, FitsTurn, TookTurn, addition, called_as, meaning}
 use Rattle.pin_turn.specs.Rule.{ByOthers}
-use Rattle.editor_core.specs.Core.{Core, core_of}
-use Rattle.editor_core.specs.Studios.{IsStudio}
+use Rattle.editor_state.specs.Core.{Core}
+use Rattle.editor_core.specs.Core.{core_of}
+use Rattle.editor_state.specs.Studios.{IsStudio}
 use Rattle.studio_seats.specs.declared.deed.Deed.{Deed}
 use Rattle.studio_seats.specs.declared.held.Held.{Held}
 use Rattle.studio_seats.specs.Deeds.{actor_of, deed, number_after, raised_by}
@@ -28,32 +29,33 @@ use Rattle.studio_seats.proofs.Grown.{leads}
 
 module _ {D V : Type 0} (disk : Ghosts D) (vaults : vault.Ghosts V) where
   -- the studio of a turn
-  abbrev core : Held D V → Core D
+  abbrev core : Held D V disk → Core D
   core x = core_of x.studio
 
   -- a call may be made of the studio that a turn finds, through a reference
-  pub is_studio : (start x y : Held D V) (deeds : List Deed) → HeldFor disk vaults start x deeds → y ≡ x
+  pub is_studio : (start x y : Held D V disk) (deeds : List Deed) → HeldFor disk vaults start x deeds → y ≡ x
       → IsStudio disk (core y)
-  is_studio start x y deeds stands is = subst (λ (z : Held D V). IsStudio disk (core z)) (sym is)
+  is_studio start x y deeds stands is = subst (λ (z : Held D V disk). IsStudio disk (core z)) (sym is)
       (leads (origin disk vaults (core start)) (core x) deeds stands).studio
 
   -- what a call did, shown and left through a reference
-  does_at : (s t s' t' : Held D V) (d : Deed) → Does disk (AllTell vaults) (core s') d (core t') → s' ≡ s → t' ≡ t
+  does_at : (s t s' t' : Held D V disk) (d : Deed) → Does disk (AllTell vaults) (core s') d (core t') → s' ≡ s → t' ≡ t
       → Does disk (AllTell vaults) (core s) d (core t)
   does_at s t s' t' d does a b =
-      subst (λ (z : Held D V × Held D V). Does disk (AllTell vaults) (core z.0) d (core z.1)) (λ i. (a i, b i)) does
+      subst (λ (z : Held D V disk × Held D V disk). Does disk (AllTell vaults) (core z.0) d (core z.1))
+      (λ i. (a i, b i)) does
 
-  module _ {F A : Type 0} (start : Held D V) (v : View (Held D V) Deed)
-      (g : Mut F (MutBor (Held D V) × Unit {0}) (Said A × (MutBor (Held D V) × Unit {0}))) (f : F)
+  module _ {F A : Type 0} (start : Held D V disk) (v : View (Held D V disk) Deed)
+      (g : Mut F (MutBor (Held D V disk) × Unit {0}) (Said A × (MutBor (Held D V disk) × Unit {0}))) (f : F)
       (call : Call) (what : Said A → F → Result Reply Refusal) (sound : F → SoundMove) where
     -- what the turn adds
     abbrev done : Said A → F → Deed
     done s f' = deed v.number call (what s f') (sound f')
 
     -- the closure may be called at what the turn finds, and is one call of the studio
-    pub fits : ((more : List Deed) (x : Held D V) → ByOthers actor_of (v.number ∷ []) more
+    pub fits : ((more : List Deed) (x : Held D V disk) → ByOthers actor_of (v.number ∷ []) more
         → HeldFor disk vaults start x (v.seen ++ more) → TakesAtMut g f x)
-        → ((s : Said A) (f' : F) (x x' : Held D V) (called : CalledAtMut g f x s f' x')
+        → ((s : Said A) (f' : F) (x x' : Held D V disk) (called : CalledAtMut g f x s f' x')
         → Does disk (AllTell vaults) (core called.shown.now) (done s f') (core called.left.now))
         → FitsTurn (meaning (HeldFor disk vaults) actor_of start) v g f (λ s f'. done s f' ∷ [])
     fits may does = record {
@@ -66,14 +68,14 @@ module _ {D V : Type 0} (disk : Ghosts D) (vaults : vault.Ghosts V) where
     }
 
     -- what the closure says of a call, which is told to the caller in other words
-    pub record Called (f' : F) (s : Said A) (x x' : Held D V) (said_what : Said A → Result Reply Refusal)
+    pub record Called (f' : F) (s : Said A) (x x' : Held D V disk) (said_what : Said A → Result Reply Refusal)
         (said_sound : SoundMove) : Type 0 where
       pub does : Does disk (AllTell vaults) (core x) (done s f') (core x')
       pub number : s.at ≡ (core x').commit_number
       pub what_is : what s f' ≡ said_what s
       pub sound_is : sound f' ≡ said_sound
 
-    turned : (s : Said A) (f' : F) (w : View (Held D V) Deed) (said_what : Said A → Result Reply Refusal)
+    turned : (s : Said A) (f' : F) (w : View (Held D V disk) Deed) (said_what : Said A → Result Reply Refusal)
         (said_sound : SoundMove)
         (took : TookTurn (meaning (HeldFor disk vaults) actor_of start) g (called_as f s f')
         (addition v (done s f' ∷ []) w))
@@ -96,17 +98,18 @@ module _ {D V : Type 0} (disk : Ghosts D) (vaults : vault.Ghosts V) where
           does = does;
           stands = extends (origin disk vaults (core start)) (core took.value) (core took.value')
               (v.seen ++ took.between) took.stood (done s f') does;
-          number = at.number ∙ ap (λ (z : Held D V). (core z).commit_number) took.called.leaves;
+          number = at.number ∙ ap (λ (z : Held D V disk). (core z).commit_number) took.called.leaves;
         }
 
     -- what the seat then says
-    pub says : (f' : F) (said_what : Said A → Result Reply Refusal) (said_sound : SoundMove) (w : View (Held D V) Deed)
+    pub says : (f' : F) (said_what : Said A → Result Reply Refusal) (said_sound : SoundMove)
+        (w : View (Held D V disk) Deed)
         (result : Result (Said A) Spent) (said : Said A)
         → MatchResult result (λ s. TookTurn (meaning (HeldFor disk vaults) actor_of start) g (called_as f s f')
         (addition v (done s f' ∷ []) w))
         (λ _. (w ≡ record v { used_up = true }) × (f' ≡ f))
         → MatchResult result (λ s. said ≡ s) (λ _. (said.at ≡ 0) × (said.what ≡ Err spent))
-        → ((s : Said A) (x x' : Held D V) (called : CalledAtMut g f x s f' x')
+        → ((s : Said A) (x x' : Held D V disk) (called : CalledAtMut g f x s f' x')
         → Called f' s called.shown.now called.left.now said_what said_sound)
         → Says (origin disk vaults (core start)) (asked call (said_what said) said_sound) said (views v w)
     says f' said_what said_sound w (Ok s) said took same at =
@@ -116,48 +119,48 @@ module _ {D V : Type 0} (disk : Ghosts D) (vaults : vault.Ghosts V) where
     says f' said_what said_sound w (Err y) said h none at = inr record { at = none.0; what = none.1; view = h.0 }
 
     -- a fact of the call, where the turn was taken
-    pub if_taken : (f' : F) (w : View (Held D V) Deed) (result : Result (Said A) Spent) (said : Said A)
+    pub if_taken : (f' : F) (w : View (Held D V disk) Deed) (result : Result (Said A) Spent) (said : Said A)
         (P : Said A → Type 0)
         → MatchResult result (λ s. TookTurn (meaning (HeldFor disk vaults) actor_of start) g (called_as f s f')
         (addition v (done s f' ∷ []) w))
         (λ _. (w ≡ record v { used_up = true }) × (f' ≡ f))
         → MatchResult result (λ s. said ≡ s) (λ _. (said.at ≡ 0) × (said.what ≡ Err spent))
-        → ((s : Said A) (x x' : Held D V) (called : CalledAtMut g f x s f' x') → P s)
+        → ((s : Said A) (x x' : Held D V disk) (called : CalledAtMut g f x s f' x') → P s)
         → w.used_up ≡ false → P said
     if_taken f' w (Ok s) said P took same met unspent = subst P (sym same) (met s took.value took.value' took.called)
     if_taken f' w (Err y) said P h none met unspent =
-        absurd (true≢false (sym (ap (λ (z : View (Held D V) Deed). z.used_up) h.0) ∙ unspent))
+        absurd (true≢false (sym (ap (λ (z : View (Held D V disk) Deed). z.used_up) h.0) ∙ unspent))
 
     -- and where there was none, the closure is as it was
-    pub if_spent : (f' : F) (w : View (Held D V) Deed) (result : Result (Said A) Spent) (said : Said A)
+    pub if_spent : (f' : F) (w : View (Held D V disk) Deed) (result : Result (Said A) Spent) (said : Said A)
         → MatchResult result (λ s. TookTurn (meaning (HeldFor disk vaults) actor_of start) g (called_as f s f')
         (addition v (done s f' ∷ []) w))
         (λ _. (w ≡ record v { used_up = true }) × (f' ≡ f))
         → MatchResult result (λ s. said ≡ s) (λ _. (said.at ≡ 0) × (said.what ≡ Err spent))
         → w.used_up ≡ true → f' ≡ f
     if_spent f' w (Ok s) said took same used =
-        absurd (true≢false (sym used ∙ ap (λ (z : View (Held D V) Deed). z.used_up) took.view ∙ took.unspent))
+        absurd (true≢false (sym used ∙ ap (λ (z : View (Held D V disk) Deed). z.used_up) took.view ∙ took.unspent))
     if_spent f' w (Err y) said h none used = h.1
 
     -- taken or not
-    pub either_way : (f' : F) (w : View (Held D V) Deed) (result : Result (Said A) Spent) (P : Type 0)
+    pub either_way : (f' : F) (w : View (Held D V disk) Deed) (result : Result (Said A) Spent) (P : Type 0)
         → MatchResult result (λ s. TookTurn (meaning (HeldFor disk vaults) actor_of start) g (called_as f s f')
         (addition v (done s f' ∷ []) w))
         (λ _. (w ≡ record v { used_up = true }) × (f' ≡ f))
-        → (f' ≡ f → P) → ((s : Said A) (x x' : Held D V) (called : CalledAtMut g f x s f' x') → P) → P
+        → (f' ≡ f → P) → ((s : Said A) (x x' : Held D V disk) (called : CalledAtMut g f x s f' x') → P) → P
     either_way f' w (Ok s) P took still met = met s took.value took.value' took.called
     either_way f' w (Err y) P h still met = still h.1
 
   -- the same where the call itself is known only after the turn, by what the closure left
-  module _ {F A : Type 0} (start : Held D V) (v : View (Held D V) Deed)
-      (g : Mut F (MutBor (Held D V) × Unit {0}) (Said A × (MutBor (Held D V) × Unit {0}))) (f : F)
+  module _ {F A : Type 0} (start : Held D V disk) (v : View (Held D V disk) Deed)
+      (g : Mut F (MutBor (Held D V disk) × Unit {0}) (Said A × (MutBor (Held D V disk) × Unit {0}))) (f : F)
       (call : F → Call) (what : Said A → F → Result Reply Refusal) (sound : F → SoundMove) where
     abbrev done_by : Said A → F → Deed
     done_by s f' = deed v.number (call f') (what s f') (sound f')
 
-    pub fits_by : ((more : List Deed) (x : Held D V) → ByOthers actor_of (v.number ∷ []) more
+    pub fits_by : ((more : List Deed) (x : Held D V disk) → ByOthers actor_of (v.number ∷ []) more
         → HeldFor disk vaults start x (v.seen ++ more) → TakesAtMut g f x)
-        → ((s : Said A) (f' : F) (x x' : Held D V) (called : CalledAtMut g f x s f' x')
+        → ((s : Said A) (f' : F) (x x' : Held D V disk) (called : CalledAtMut g f x s f' x')
         → Does disk (AllTell vaults) (core called.shown.now) (done_by s f') (core called.left.now))
         → FitsTurn (meaning (HeldFor disk vaults) actor_of start) v g f (λ s f'. done_by s f' ∷ [])
     fits_by may does = record {
@@ -169,7 +172,7 @@ module _ {D V : Type 0} (disk : Ghosts D) (vaults : vault.Ghosts V) where
       by_seat = λ s f'. (done_by s f', refl, refl);
     }
 
-    pub record CalledBy (f' : F) (s : Said A) (x x' : Held D V) (said_call : Call)
+    pub record CalledBy (f' : F) (s : Said A) (x x' : Held D V disk) (said_call : Call)
         (said_what : Said A → Result Reply Refusal) (said_sound : SoundMove) : Type 0 where
       pub does : Does disk (AllTell vaults) (core x) (done_by s f') (core x')
       pub number : s.at ≡ (core x').commit_number
@@ -177,7 +180,7 @@ module _ {D V : Type 0} (disk : Ghosts D) (vaults : vault.Ghosts V) where
       pub what_is : what s f' ≡ said_what s
       pub sound_is : sound f' ≡ said_sound
 
-    turned_by : (s : Said A) (f' : F) (w : View (Held D V) Deed) (said_call : Call)
+    turned_by : (s : Said A) (f' : F) (w : View (Held D V disk) Deed) (said_call : Call)
         (said_what : Said A → Result Reply Refusal) (said_sound : SoundMove)
         (took : TookTurn (meaning (HeldFor disk vaults) actor_of start) g (called_as f s f')
         (addition v (done_by s f' ∷ []) w))
@@ -200,16 +203,16 @@ module _ {D V : Type 0} (disk : Ghosts D) (vaults : vault.Ghosts V) where
           does = does;
           stands = extends (origin disk vaults (core start)) (core took.value) (core took.value')
               (v.seen ++ took.between) took.stood (done_by s f') does;
-          number = at.number ∙ ap (λ (z : Held D V). (core z).commit_number) took.called.leaves;
+          number = at.number ∙ ap (λ (z : Held D V disk). (core z).commit_number) took.called.leaves;
         }
 
     pub says_by : (f' : F) (said_call : Call) (said_what : Said A → Result Reply Refusal) (said_sound : SoundMove)
-        (w : View (Held D V) Deed) (result : Result (Said A) Spent) (said : Said A)
+        (w : View (Held D V disk) Deed) (result : Result (Said A) Spent) (said : Said A)
         → MatchResult result (λ s. TookTurn (meaning (HeldFor disk vaults) actor_of start) g (called_as f s f')
         (addition v (done_by s f' ∷ []) w))
         (λ _. (w ≡ record v { used_up = true }) × (f' ≡ f))
         → MatchResult result (λ s. said ≡ s) (λ _. (said.at ≡ 0) × (said.what ≡ Err spent))
-        → ((s : Said A) (x x' : Held D V) (called : CalledAtMut g f x s f' x')
+        → ((s : Said A) (x x' : Held D V disk) (called : CalledAtMut g f x s f' x')
         → CalledBy f' s called.shown.now called.left.now said_call said_what said_sound)
         → Says (origin disk vaults (core start)) (asked said_call (said_what said) said_sound) said (views v w)
     says_by f' said_call said_what said_sound w (Ok s) said took same at =
@@ -220,11 +223,11 @@ module _ {D V : Type 0} (disk : Ghosts D) (vaults : vault.Ghosts V) where
         inr record { at = none.0; what = none.1; view = h.0 }
 
     -- taken or not
-    pub either_by : (f' : F) (w : View (Held D V) Deed) (result : Result (Said A) Spent) (P : Type 0)
+    pub either_by : (f' : F) (w : View (Held D V disk) Deed) (result : Result (Said A) Spent) (P : Type 0)
         → MatchResult result (λ s. TookTurn (meaning (HeldFor disk vaults) actor_of start) g (called_as f s f')
         (addition v (done_by s f' ∷ []) w))
         (λ _. (w ≡ record v { used_up = true }) × (f' ≡ f))
-        → (f' ≡ f → P) → ((s : Said A) (x x' : Held D V) (called : CalledAtMut g f x s f' x') → P) → P
+        → (f' ≡ f → P) → ((s : Said A) (x x' : Held D V disk) (called : CalledAtMut g f x s f' x') → P) → P
     either_by f' w (Ok s) P took still met = met s took.value took.value' took.called
     either_by f' w (Err y) P h still met = still h.1
 
@@ -241,43 +244,45 @@ number_on n [] more = number_grows n more
 number_on n (d ∷ ds) more = number_on (raised_by d n) ds more
 
 -- the number that a turn tells is that to which the deeds lead
-pub turned_number : {D V : Type 0} {o : Origin D V} {a : Asked} {at : ℕ} {seat : Views D V} (x : Turned o a at seat)
+pub turned_number : {D V : Type 0} {disk : Ghosts D} {o : Origin D V} {a : Asked} {at : ℕ} {seat : Views D V disk}
+    (x : Turned o a at seat)
     → x.after.commit_number ≡ number_after o.start.commit_number
     ((seat.before.seen ++ x.between) ++ deed_of seat.before.number a ∷ [])
 turned_number {o = o} x = (leads o x.after _ x.stands).number
 
 -- a tag that is no higher than a number to which deeds lead stays so
-pub tag_fits : {D V : Type 0} (disk : Ghosts D) (vaults : vault.Ghosts V) (start x y : Held D V) (tag : ℕ)
+pub tag_fits : {D V : Type 0} (disk : Ghosts D) (vaults : vault.Ghosts V) (start x y : Held D V disk) (tag : ℕ)
     (ds more : List Deed)
     → tag ≤ number_after start.studio.commit_number ds → HeldFor disk vaults start x (ds ++ more) → y ≡ x
     → tag ≤ y.studio.commit_number
 tag_fits {D} {V} disk vaults start x y tag ds more low stands is =
     let on = number_on start.studio.commit_number ds more in
     let at = (leads (origin disk vaults (core_of start.studio)) (core_of x.studio) (ds ++ more) stands).number in
-    let same : y.studio.commit_number ≡ x.studio.commit_number = ap (λ (z : Held D V). z.studio.commit_number) is in
+    let same : y.studio.commit_number ≡ x.studio.commit_number =
+    ap (λ (z : Held D V disk). z.studio.commit_number) is in
     omega (arith, low, on, at, same)
 
 -- a call leaves the seat's number, and what is away from it
 pub seat_stays : {D V A : Type 0} (disk : Ghosts D) (vaults : vault.Ghosts V) (start : Core D)
-    (v w : View (Held D V) Deed) (call : Call) (what : Result Reply Refusal) (sound : SoundMove) (said : Said A)
+    (v w : View (Held D V disk) Deed) (call : Call) (what : Result Reply Refusal) (sound : SoundMove) (said : Said A)
     → Says (origin disk vaults start) (asked call what sound) said (views v w)
     → (w.number ≡ v.number) × (w.away ≡ v.away)
 seat_stays {D} {V} {A} disk vaults start v w call what sound said h = ⊎_elim
     (λ (x : Turned (origin disk vaults start) (asked call what sound) said.at (views v w)).
-    (ap (λ (z : View (Held D V) Deed). z.number) x.view, ap (λ (z : View (Held D V) Deed). z.away) x.view))
+    (ap (λ (z : View (Held D V disk) Deed). z.number) x.view, ap (λ (z : View (Held D V disk) Deed). z.away) x.view))
     (λ (x : Spends v said w).
-    (ap (λ (z : View (Held D V) Deed). z.number) x.view, ap (λ (z : View (Held D V) Deed). z.away) x.view))
+    (ap (λ (z : View (Held D V disk) Deed). z.number) x.view, ap (λ (z : View (Held D V disk) Deed). z.away) x.view))
     h
 
 -- the number that is told is none above that to which the deeds lead that the seat has seen
 pub said_number : {D V A : Type 0} (disk : Ghosts D) (vaults : vault.Ghosts V) (start : Core D)
-    (v w : View (Held D V) Deed) (call : Call) (what : Result Reply Refusal) (sound : SoundMove) (said : Said A)
+    (v w : View (Held D V disk) Deed) (call : Call) (what : Result Reply Refusal) (sound : SoundMove) (said : Said A)
     → Says (origin disk vaults start) (asked call what sound) said (views v w)
     → said.at ≤ number_after start.commit_number w.seen
 said_number {D} {V} {A} disk vaults start v w call what sound said h = ⊎_elim
     (λ (x : Turned (origin disk vaults start) (asked call what sound) said.at (views v w)).
     let same : said.at ≡ number_after start.commit_number w.seen = x.number ∙ turned_number x
-    ∙ sym (ap (λ (z : View (Held D V) Deed). number_after start.commit_number z.seen) x.view) in
+    ∙ sym (ap (λ (z : View (Held D V disk) Deed). number_after start.commit_number z.seen) x.view) in
     omega (arith, same))
     (λ (x : Spends v said w). let none = x.at in omega (arith, none))
     h

@@ -3,6 +3,7 @@ use Rattle.std.proofs.Common.{◌≡◌, inl, inr, ℕ, Bool, true, List, [], �
 use Rattle.std.proofs.Common.{subst, append_assoc}
 use Rattle.pcm_base.specs.declared.command.Call.{Call}
 use Rattle.pcm_base.specs.declared.refusal.Refusal.{Refusal}
+use Rattle.disk_model.specs.declared.store.Store.{Ghosts}
 use Rattle.pin_turn.specs.declared.view.View.{View}
 use Rattle.pin_turn.specs.Rule.{ByOthers}
 use Rattle.studio_seats.specs.declared.held.Held.{Held}
@@ -13,7 +14,8 @@ use Rattle.studio_seats.specs.Onward.{Asks, EndsBy, Onward}
 use Rattle.studio_seats.proofs.MergeLemmas.{own_order}
 
 -- after one turn more
-pub own_turn : {D V : Type 0} (fits : Call → Type 0) (a v : View (Held D V) Deed) (h : Onward fits a v)
+pub own_turn : {D V : Type 0} {disk : Ghosts D} (fits : Call → Type 0) (a v : View (Held D V disk) Deed)
+    (h : Onward fits a v)
     (between : List Deed) (d : Deed) → d.actor ≡ v.number → ByOthers actor_of (v.number ∷ []) between
     → deeds_of (by_seat a.number) (h.added ++ (between ++ d ∷ [])) ≡ deeds_of (by_seat a.number) h.added ++ d ∷ []
 own_turn fits a v h between d own others =
@@ -27,7 +29,7 @@ abbrev pub asks_as : (one two : Call → Type 0) → ((c : Call) → one c → t
 asks_as one two f seat [] h = tt
 asks_as one two f seat (d ∷ ds) h = ((λ is. f d.call (h.0 is)), asks_as one two f seat ds h.1)
 
-abbrev pub onward_as : {D V : Type 0} (one two : Call → Type 0) (v w : View (Held D V) Deed)
+abbrev pub onward_as : {D V : Type 0} {disk : Ghosts D} (one two : Call → Type 0) (v w : View (Held D V disk) Deed)
     → ((c : Call) → one c → two c) → Onward one v w → Onward two v w
 onward_as one two v w f h = record {
   added = h.added;

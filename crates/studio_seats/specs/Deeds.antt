@@ -6,7 +6,7 @@ use Rattle.pcm_base.specs.declared.entry.Entry.{Entry}
 use Rattle.pcm_base.specs.declared.entry.SoundMove.{SoundMove}
 use Rattle.pcm_base.specs.declared.refusal.Refusal.{Refusal}
 use Rattle.pcm_base.specs.Counters.{commits_of}
-use Rattle.editor_core.specs.Applied.{reply_of}
+use Rattle.editor_state.specs.Applied.{reply_of}
 use Rattle.studio_seats.specs.declared.deed.Deed.{Deed}
 
 abbrev pub deed : ℕ → Call → Result Reply Refusal → SoundMove → Deed

@@ -7,11 +7,13 @@ use Rattle.pcm_base.specs.declared.entry.SoundMove.{SoundMove}
 use Rattle.pcm_base.specs.declared.refusal.Refusal.{Refusal}
 use Rattle.pcm_base.specs.declared.refusal.Refusal.TheVariants.{Spent}
 use Rattle.pcm_base.specs.declared.said.Said.{Said}
+use Rattle.disk_model.specs.declared.store.Store.{Ghosts}
 use Rattle.pin_turn.specs.declared.view.Seat.{Seat}
 use Rattle.pin_turn.specs.declared.view.View.{View}
 use Rattle.pin_turn.specs.Calls.{IsOf, start_of}
 use Rattle.pin_turn.specs.Rule.{ByOthers}
-use Rattle.editor_core.specs.Core.{Core, core_of}
+use Rattle.editor_state.specs.Core.{Core}
+use Rattle.editor_core.specs.Core.{core_of}
 use Rattle.studio_seats.specs.declared.deed.Deed.{Deed}
 use Rattle.studio_seats.specs.declared.desk.Desk.{Desk}
 use Rattle.studio_seats.specs.declared.held.Held.{Held}
@@ -29,31 +31,32 @@ pub record Asked : Type 0 where
   pub sound : SoundMove
 
 -- what a seat knew before a call, and what it knows after it
-pub record Views (D V : Type 0) : Type 0 where
-  pub before : View (Held D V) Deed
-  pub after : View (Held D V) Deed
+pub record Views (D V : Type 0) (disk : Ghosts D) : Type 0 where
+  pub before : View (Held D V disk) Deed
+  pub after : View (Held D V disk) Deed
 
 abbrev pub asked : Call → Result Reply Refusal → SoundMove → Asked
 asked call what sound = record { call = call; what = what; sound = sound }
 
-abbrev pub views : {D V : Type 0} → View (Held D V) Deed → View (Held D V) Deed → Views D V
+abbrev pub views : {D V : Type 0} {disk : Ghosts D} → View (Held D V disk) Deed → View (Held D V disk) Deed
+    → Views D V disk
 views before after = record { before = before; after = after }
 
 -- the deed of the call of a seat of this number
 abbrev pub deed_of : ℕ → Asked → Deed
 deed_of seat a = deed seat a.call a.what a.sound
 
-module _ {D V : Type 0} where
+module _ {D V : Type 0} {disk : Ghosts D} where
   -- the seat is of this desk
-  abbrev pub IsAt : Desk D V → Seat (Held D V) Deed → Type 0
+  abbrev pub IsAt : Desk D V disk → Seat (Held D V disk) Deed → Type 0
   IsAt d s = IsOf d.turn s
 
   -- the studio with which the desk began
-  abbrev pub start_at : Desk D V → Core D
+  abbrev pub start_at : Desk D V disk → Core D
   start_at d = core_of (start_of d.turn).studio
 
   -- the first seat, which has seen nothing yet
-  pub record IsFirst (v : View (Held D V) Deed) : Type 0 where
+  pub record IsFirst (v : View (Held D V disk) Deed) : Type 0 where
     pub number : v.number ≡ 0
     pub seen : v.seen ≡ []
     pub mine : v.mine ≡ []
@@ -62,7 +65,7 @@ module _ {D V : Type 0} where
 
   -- A turn of a seat: after all that it had seen it has seen deeds of others, and then its own, by which the studio
   -- went from `before` to `after`. It reports the commit number after the turn.
-  pub record Turned (o : Origin D V) (a : Asked) (at : ℕ) (seat : Views D V) : Type 0 where
+  pub record Turned (o : Origin D V) (a : Asked) (at : ℕ) (seat : Views D V disk) : Type 0 where
     pub between : List Deed
     pub by_others : ByOthers actor_of (seat.before.number ∷ []) between
     pub few : length (seat.before.seen ++ between) < COUNTER_LIMIT
@@ -79,10 +82,11 @@ module _ {D V : Type 0} where
     pub number : at ≡ after.commit_number
 
   -- no turn was left, and nothing was asked
-  pub record Spends {A : Type 0} (v : View (Held D V) Deed) (said : Said A) (w : View (Held D V) Deed) : Type 0 where
+  pub record Spends {A : Type 0} (v : View (Held D V disk) Deed) (said : Said A)
+      (w : View (Held D V disk) Deed) : Type 0 where
     pub at : said.at ≡ 0
     pub what : said.what ≡ Err spent
     pub view : w ≡ record v { used_up = true }
 
-  abbrev pub Says : {A : Type 0} → Origin D V → Asked → Said A → Views D V → Type 0
+  abbrev pub Says : {A : Type 0} → Origin D V → Asked → Said A → Views D V disk → Type 0
   Says o a said seat = Turned o a said.at seat ⊎ Spends seat.before said seat.after

@@ -7,6 +7,7 @@ use Rattle.studio_seats.specs.declared.deed.Deed.{Deed}
 use Rattle.studio_seats.specs.declared.held.Held.{Held}
 use Rattle.studio_seats.specs.Stands.{StandsFor, origin}
 
-abbrev pub HeldFor : {D V : Type 0} → Ghosts D → vault.Ghosts V → Held D V → Held D V → List Deed → Type 0
+abbrev pub HeldFor : {D V : Type 0} (disk : Ghosts D) → vault.Ghosts V → Held D V disk → Held D V disk → List Deed
+    → Type 0
 HeldFor disk vaults start now deeds =
     StandsFor (origin disk vaults (core_of start.studio)) (core_of now.studio) deeds

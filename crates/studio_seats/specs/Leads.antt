@@ -15,13 +15,13 @@ use Rattle.edit_ports.specs.declared.vault.Vault as vault
 use Rattle.pin_turn.specs.Counts.{Each}
 use Rattle.project_journal.specs.Gate.{EachNow, EachSince}
 use Rattle.record_body.specs.Kept.{Keeps}
-use Rattle.editor_core.specs.Applied.{reply_of}
-use Rattle.editor_core.specs.Core.{Core}
-use Rattle.editor_core.specs.Events.{KeepsPrefix}
-use Rattle.editor_core.specs.Left.{LeavesForeign}
-use Rattle.editor_core.specs.Packing.{packed_by}
-use Rattle.editor_core.specs.Studios.{IsHeld, IsStudio, shown, studio_of}
-use Rattle.editor_core.specs.Took.{InFlight, asks, exchange_of}
+use Rattle.editor_state.specs.Applied.{reply_of}
+use Rattle.editor_state.specs.Core.{Core}
+use Rattle.editor_state.specs.Events.{KeepsPrefix}
+use Rattle.editor_state.specs.Left.{LeavesForeign}
+use Rattle.editor_state.specs.Packing.{packed_by}
+use Rattle.editor_state.specs.Studios.{IsHeld, IsStudio, shown, studio_of}
+use Rattle.editor_state.specs.Took.{InFlight, asks, exchange_of}
 use Rattle.studio_seats.specs.declared.deed.Deed.{Deed}
 use Rattle.studio_seats.specs.Deeds.{entries_of, number_after}
 use Rattle.studio_seats.specs.Desks.{spent}

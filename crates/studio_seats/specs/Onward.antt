@@ -8,6 +8,7 @@ use Rattle.pin_turn.specs.Counts.{Each}
 use Rattle.studio_seats.specs.declared.held.Held.{Held}
 use Rattle.pcm_base.specs.declared.command.Call.{Call}
 use Rattle.pcm_base.specs.declared.command.Call.TheVariants.{Line, Piece, ReadPin}
+use Rattle.disk_model.specs.declared.store.Store.{Ghosts}
 use Rattle.studio_seats.specs.declared.deed.Deed.{Deed}
 use Rattle.studio_seats.specs.Desks.{spent}
 use Rattle.studio_seats.specs.Merge.{by_seat}
@@ -23,7 +24,8 @@ Asks fits seat ds = Each (λ d. d.actor ≡ seat → fits d.call) ds
 
 -- The seat has seen these deeds more, of which its own are its turns and fit. Where it had found that no turn is left,
 -- it still knows.
-pub record Onward {D V : Type 0} (fits : Call → Type 0) (v w : View (Held D V) Deed) : Type 0 where
+pub record Onward {D V : Type 0} {disk : Ghosts D} (fits : Call → Type 0)
+    (v w : View (Held D V disk) Deed) : Type 0 where
   pub added : List Deed
   pub seen : w.seen ≡ v.seen ++ added
   pub asks : Asks fits v.number added
@@ -57,11 +59,11 @@ EndsBy used_up None ds = AreDone ds
 EndsBy used_up (Some why) ds = AreDoneTo why ds ⊎ AreSpent used_up why ds
 
 -- what a seat knows that gives frames, and the first refusal that it was answered
-pub record Worker (D V : Type 0) : Type 0 where
-  pub view : View (Held D V) Deed
+pub record Worker (D V : Type 0) (disk : Ghosts D) : Type 0 where
+  pub view : View (Held D V disk) Deed
   pub refused : Option Refusal
 
-abbrev pub worker : {D V : Type 0} → View (Held D V) Deed → Option Refusal → Worker D V
+abbrev pub worker : {D V : Type 0} {disk : Ghosts D} → View (Held D V disk) Deed → Option Refusal → Worker D V disk
 worker view refused = record { view = view; refused = refused }
 
 -- a line

@@ -5,6 +5,7 @@ use Rattle.pcm_base.specs.declared.answer.Reply.TheVariants.{Frames}
 use Rattle.pcm_base.specs.declared.command.Call.TheVariants.{ReadPin}
 use Rattle.pcm_base.specs.declared.refusal.Refusal.{Refusal}
 use Rattle.pcm_base.specs.declared.sound.Frame.{Frame}
+use Rattle.disk_model.specs.declared.store.Store.{Ghosts}
 use Rattle.edit_ports.specs.Answers.{AtEnd, NextAt, Reading, RefusedAt, most_frames}
 use Rattle.studio_seats.specs.declared.deed.Deed.{Deed}
 use Rattle.studio_seats.specs.Desks.{spent}
@@ -61,7 +62,7 @@ pub record ReadsTo (used_up : Bool) (pin : ℕ) (refused : Option Refusal) (read
     pub ends : EndReads used_up pin place refused reading last
 
 -- The seat of a worker that nothing had been refused went on by reads of a pin from its first frame on.
-pub record ReadsOn {D V : Type 0} (pin : ℕ) (reading : Reading) (v w : Worker D V) : Type 0 where
+pub record ReadsOn {D V : Type 0} {disk : Ghosts D} (pin : ℕ) (reading : Reading) (v w : Worker D V disk) : Type 0 where
   pub onward : Onward (IsReadOf pin) v.view w.view
   pub reads : v.refused ≡ None
       → ReadsTo w.view.used_up pin w.refused reading (deeds_of (by_seat v.view.number) onward.added)

@@ -6,10 +6,10 @@ use Rattle.pcm_base.specs.Run.{name_in}
 use Rattle.disk_model.specs.declared.store.Store.{Ghosts}
 use Rattle.edit_ports.specs.declared.vault.Vault as vault
 use Rattle.pin_turn.specs.Counts.{Each}
-use Rattle.editor_core.specs.Applied.{Imported, Lasts}
-use Rattle.editor_core.specs.Core.{Core}
-use Rattle.editor_core.specs.Studios.{IsStudio}
-use Rattle.editor_core.specs.Took.{Took, exchange_of}
+use Rattle.editor_state.specs.Applied.{Imported, Lasts}
+use Rattle.editor_state.specs.Core.{Core}
+use Rattle.editor_state.specs.Studios.{IsStudio}
+use Rattle.editor_state.specs.Took.{Took, exchange_of}
 use Rattle.studio_seats.specs.declared.deed.Deed.{Deed}
 
 -- where a desk began

@@ -7,7 +7,7 @@ use pin_turn::{Seat, Stands};
 use std::marker::PhantomData;
 
 /// A studio in a turn, and the type of the vaults that its lines name sounds of.
-pub struct Held<S, V> {
+pub struct Held<S: Store, V> {
     pub(crate) studio: Studio<S>,
     pub(crate) vaults: PhantomData<V>,
 }

@@ -5,9 +5,9 @@ ghost use Rattle.pcm_base.specs.declared.command.Call.TheVariants.{Line};
 ghost use Rattle.pcm_base.specs.declared.command.Command.TheVariants.{Compact};
 ghost use Rattle.pin_turn.specs.Calls.{known};
 ghost use Rattle.editor_core.specs.Core.{core_of};
-ghost use Rattle.editor_core.specs.Compacts.{Compacts};
-ghost use Rattle.editor_core.specs.Studios.{IsStudio};
-ghost use Rattle.editor_core.specs.Took.{silent, told_by};
+ghost use Rattle.editor_cleanup.specs.Compacts.{Compacts};
+ghost use Rattle.editor_state.specs.Studios.{IsStudio};
+ghost use Rattle.editor_state.specs.Took.{silent, told_by};
 ghost use Rattle.studio_seats.specs.Desks.{IsAt, Says, asked, start_at, views};
 ghost use Rattle.studio_seats.specs.Stands.{origin};
 

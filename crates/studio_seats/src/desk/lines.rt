@@ -5,11 +5,11 @@ ghost use Rattle.pcm_base.specs.declared.command.Call.TheVariants.{Line};
 ghost use Rattle.pcm_base.specs.Form.{IsInForm, IsTurn};
 ghost use Rattle.pcm_base.specs.Run.{Heard, name_in_line};
 ghost use Rattle.pin_turn.specs.Calls.{known};
-ghost use Rattle.editor_core.specs.Applied.{Applies, IsTold, move_of};
+ghost use Rattle.editor_state.specs.Applied.{Applies, IsTold, move_of};
 ghost use Rattle.editor_core.specs.Core.{core_of};
-ghost use Rattle.editor_core.specs.Imports.{VaultCounted};
-ghost use Rattle.editor_core.specs.Studios.{IsStudio};
-ghost use Rattle.editor_core.specs.Took.{told_by};
+ghost use Rattle.editor_state.specs.Vaults.{VaultCounted};
+ghost use Rattle.editor_state.specs.Studios.{IsStudio};
+ghost use Rattle.editor_state.specs.Took.{told_by};
 ghost use Rattle.studio_seats.specs.Desks.{IsAt, Says, asked, start_at, views};
 ghost use Rattle.studio_seats.specs.Stands.{origin};
 

@@ -6,7 +6,7 @@ ghost use Rattle.pin_turn.specs.Counts.{times, once_below};
 ghost use Rattle.pin_turn.specs.Rule.{IsNewNumber};
 ghost use Rattle.pin_turn.specs.Views.{joined};
 ghost use Rattle.editor_core.specs.Core.{core_of};
-ghost use Rattle.editor_core.specs.Studios.{IsStudio};
+ghost use Rattle.editor_state.specs.Studios.{IsStudio};
 ghost use Rattle.studio_seats.specs.Deeds.{actor_of};
 ghost use Rattle.studio_seats.specs.Desks.{IsAt, IsFirst, start_at};
 ghost use Rattle.studio_seats.specs.Stands.{StandsFor, origin};

@@ -8,7 +8,7 @@ use Rattle.pcm_base.specs.declared.sound.Cell.TheVariants.{Gap}
 use Rattle.clip_track.specs.Clips.{layout_blocks}
 use Rattle.clip_track.specs.Clips.{end_of}
 use Rattle.cell_view.specs.declared.places.View.{View}
-use Rattle.block_cache.proofs.CacheLaws.{keeps_more}
+use Rattle.block_cache.proofs.ReaderLaws.{reads_more}
 use Rattle.cell_view.specs.Rests.{rest_blocks}
 use Rattle.cell_view.specs.Seen.{place_in}
 use Rattle.cell_view.specs.Stored.{stored_of}
@@ -19,24 +19,17 @@ use Rattle.cell_view.proofs.ahead.read_ahead.Goals as goal
 
 pub returns-in_err-put_rest-clause-sound : goal.returns-in_err-put_rest-clause-sound
 returns-in_err-put_rest-clause-sound g c = λ told whole.
-    let files : Files = g.S.Store.reads c.args.store.now in
+    let files : Files = g.S.Store.reads c.args.reader.now.store in
     let p = err_from_is_err_and c.from_residual.result c.from_residual.ensures.1 in
     rw (p.1, p.2)
     (sound_in files (layout_blocks c.args.layout.now) _ whole
     (fault_among files (rest_blocks c.args.rest.now) (layout_blocks c.args.layout.now) _ c.requires.rest.blocks
-    (c.in_err-put_rest.ensures.damaged told)))
-
-pub returns-in_err-put_rest-clause-damaged : goal.returns-in_err-put_rest-clause-damaged
-returns-in_err-put_rest-clause-damaged g c = λ told.
-    let p = err_from_is_err_and c.from_residual.result c.from_residual.ensures.1 in
-    rw (p.1, p.2)
-    (fault_among (g.S.Store.reads c.args.store.now) (rest_blocks c.args.rest.now) (layout_blocks c.args.layout.now) _
-    c.requires.rest.blocks (c.in_err-put_rest.ensures.damaged told))
+    (c.in_err-put_rest.ensures.reads.damaged told)))
 
 pub returns-clause-stored : goal.returns-clause-stored
 returns-clause-stored g c = λ told.
     let a = c.args in
-    let files : Files = g.S.Store.reads c.args.store.now in
+    let files : Files = g.S.Store.reads c.args.reader.now.store in
     let count = c.place_in-count.result in
     let mid = c.put_rest.new.out in
     let k = length mid - count in
@@ -51,14 +44,16 @@ returns-clause-stored g c = λ told.
 
 pub returns-clause-read : goal.returns-clause-read
 returns-clause-read g c = λ told whole k lt.
-    let files : Files = g.S.Store.reads c.args.store.now in
+    let files : Files = g.S.Store.reads c.args.reader.now.store in
     returns-clause-stored g c told k lt
     ∙ ap (λ (cs : List Cell). get_or cs (c.args.from + k) Gap) (stored_cells files 0 c.args.layout.now whole)
 
-pub returns-in_err-put_rest-clause-cache : goal.returns-in_err-put_rest-clause-cache
-returns-in_err-put_rest-clause-cache g c = keeps_more _ _ (rest_blocks c.args.rest.now)
-    (layout_blocks c.args.layout.now) _ _ c.requires.rest.blocks c.put_rest.ensures.cache
+pub returns-in_err-put_rest-clause-reads : goal.returns-in_err-put_rest-clause-reads
+returns-in_err-put_rest-clause-reads g c =
+    let p = err_from_is_err_and c.from_residual.result c.from_residual.ensures.1 in
+    rw (p.1, p.2) (reads_more (rest_blocks c.args.rest.now) (layout_blocks c.args.layout.now) _ _ _
+    c.requires.rest.blocks c.in_err-put_rest.ensures.reads)
 
-pub returns-clause-cache : goal.returns-clause-cache
-returns-clause-cache g c = keeps_more _ _ (rest_blocks c.args.rest.now)
-    (layout_blocks c.args.layout.now) _ _ c.requires.rest.blocks c.put_rest.ensures.cache
+pub returns-clause-reads : goal.returns-clause-reads
+returns-clause-reads g c = reads_more (rest_blocks c.args.rest.now) (layout_blocks c.args.layout.now) _ _ _
+    c.requires.rest.blocks c.in_ok-put_rest.ensures.reads

@@ -4,11 +4,10 @@ use Rattle.std.proofs.Common.{◌∙◌, length-drop}
 use Rattle.std.proofs.lemmas.List.{length-map, length-take}
 use Rattle.std.proofs.lemmas.Result.{on_ok_weaker}
 use Rattle.disk_model.specs.Disk.{Files}
-use Rattle.disk_model.proofs.Frames.{kept_none}
 use Rattle.pcm_base.specs.declared.sound.Cell.TheVariants.{Sample}
 use Rattle.pcm_base.specs.Pieces.{stretch}
 use Rattle.pcm_base.proofs.Pieces.{length-stretch}
-use Rattle.block_cache.proofs.CacheLaws.{keeps_same, same_none}
+use Rattle.block_cache.proofs.ReaderLaws.{reads_none}
 use Rattle.cell_view.specs.Seen.{place_in}
 use Rattle.cell_view.specs.Stored.{stored_on}
 use Rattle.cell_view.proofs.SeenLaws.{puts_none, puts_mid}
@@ -17,7 +16,7 @@ use Rattle.cell_view.proofs.blocks.put_block.Goals as goal
 
 pub returns-then-start-end-clause-stored : goal.returns-then-start-end-clause-stored
 returns-then-start-end-clause-stored g c = λ told.
-    let f : ℕ → ℤ = stored_on (g.S.Store.reads c.args.store.now) c.args.block.id in
+    let f : ℕ → ℤ = stored_on (g.S.Store.reads c.args.reader.now.store) c.args.block.id in
     let samples = stretch f 0 c.args.block.len in
     let size : length (map Sample samples) ≡ c.args.block.len =
     length-map samples Sample ∙ length-stretch f 0 c.args.block.len in
@@ -25,17 +24,14 @@ returns-then-start-end-clause-stored g c = λ told.
     (omega (arith, c.requires.size)) size
     (omega (arith, c.place_in-start.ensures, c.if-start-end.true, c.place_in-end.ensures))
 
-pub returns-then-start-end-clause-cache : goal.returns-then-start-end-clause-cache
-returns-then-start-end-clause-cache g c = keeps_same _ _ _ _ _ (same_none _)
-
-pub returns-then-start-end-clause-kept : goal.returns-then-start-end-clause-kept
-returns-then-start-end-clause-kept g c = kept_none _ (g.met.S.Store.may_fewer _)
+pub returns-then-start-end-clause-reads : goal.returns-then-start-end-clause-reads
+returns-then-start-end-clause-reads g c = reads_none _ _ tt (g.met.S.Store.may_fewer _)
 
 pub returns-clause-stored : goal.returns-clause-stored
 returns-clause-stored g c = λ told.
     let a = c.args in
     let b = c.args.block in
-    let files : Files = g.S.Store.reads c.args.store.now in
+    let files : Files = g.S.Store.reads c.args.reader.now.store in
     let start = c.place_in-start.result in
     let skip = c.saturating_sub-skip.result in
     let k = c.place_in-end.result - start in

@@ -1,15 +1,12 @@
 -- One block more is put.
 use Rattle.std.proofs.Common.{◌≡◌, ℕ, ◌+◌, ℤ, List, [], ◌∷◌, ◌++◌, length, drop, map, get_or, refl, sym, ap, subst, ◌∙◌}
-use Rattle.std.proofs.Common.{arith, Bool}
+use Rattle.std.proofs.Common.{arith}
 use Rattle.std.proofs.lemmas.List.{length-map}
-use Rattle.std.specs.Prelude.{IsTrue}
 use Rattle.std.proofs.lemmas.List.{drop_more, drop_all, map-append}
-use Rattle.disk_model.specs.Disk.{Files, bytes_of}
+use Rattle.disk_model.specs.Disk.{Files}
 use Rattle.std.specs.Prelude.{Contains}
 use Rattle.std.proofs.lemmas.List.Elements.{Contains-append_left, Contains-append_right}
-use Rattle.block_cache.proofs.CacheLaws.{cached_on, keeps_before, keeps_more, keeps_same, keeps_turn, same_none}
-use Rattle.block_store.specs.Reads.{IsFault, IsFaultIn}
-use Rattle.disk_model.proofs.Frames.{kept_none, kept_turn}
+use Rattle.block_cache.proofs.ReaderLaws.{reads_more, reads_none, reads_then, told_on}
 use Rattle.pcm_base.specs.declared.block.BlockRef.{BlockRef}
 use Rattle.pcm_base.specs.declared.sound.Cell.{Cell}
 use Rattle.pcm_base.specs.declared.sound.Cell.TheVariants.{Sample}
@@ -19,18 +16,15 @@ use Rattle.pcm_base.proofs.Pieces.{length-stretch}
 use Rattle.sample_block.specs.Sources.{AllNamed}
 use Rattle.cell_view.specs.Seen.{place_in, Puts}
 use Rattle.cell_view.specs.Stored.{stored_on, stored_of}
-use Rattle.cell_view.proofs.SeenLaws.{fault_later, puts_turn, puts_none}
+use Rattle.cell_view.proofs.SeenLaws.{puts_turn, puts_none}
 use Rattle.cell_view.proofs.blocks.put_blocks.Goals as goal
 
 pub rows-init : goal.rows-init
 rows-init g c = record {
   left = refl;
   named = c.requires.named;
-  kept = kept_none _ (g.met.S.Store.may_fewer _);
-  cache = keeps_same _ _ _ _ _ (same_none _);
+  reads = reads_none _ _ tt (g.met.S.Store.may_fewer _);
   among = λ b has. has;
-  count = refl;
-  rest_fault = λ why h. h;
   stored = λ told new puts. puts;
 }
 
@@ -62,24 +56,6 @@ overflow_add-place g c =
     let few = c.requires.few in
     grind arith
 
-pub returns-in-Err-clause-damaged : goal.returns-in-Err-clause-damaged
-returns-in-Err-clause-damaged g c = λ told.
-    let bs = c.args.blocks.now in
-    let i = c.rows.block-index in
-    let e : drop i bs ≡ get_or bs i (record { id = 0; len = 0 }) ∷ drop (i + 1) bs =
-    drop_more bs i (record { id = 0; len = 0 }) c.rows-test.true in
-    let inv = c.rows.invariant in
-    let files : Files = g.S.Store.reads c.args.store.now in
-    let still : IsTrue (g.S.Store.tells c.rows.store) = subst (λ (b : Bool). IsTrue b) (sym inv.kept.same_tells) told in
-    let at : BlockRef = get_or bs i (record { id = 0; len = 0 }) in
-    let D : Files → Type 0 = λ f. IsFault at.id at.len (bytes_of (f at.id)) c.in-Err.fault in
-    let F : List BlockRef → Type 0 = λ qs. IsFaultIn files qs c.in-Err.fault in
-    inv.rest_fault c.in-Err.fault
-    (subst F (sym e) (at, (0, omega arith, refl), subst D inv.kept.same_reads (c.in-Err.ensures.damaged still)))
-
-pub returns-in-Err-clause-kept : goal.returns-in-Err-clause-kept
-returns-in-Err-clause-kept g c = kept_turn c.rows.invariant.kept c.put_block.ensures.kept
-
 pub rows-preserved : goal.rows-preserved
 rows-preserved g c =
     let bs = c.args.blocks.now in
@@ -88,26 +64,19 @@ rows-preserved g c =
     let rest = drop (i + 1) bs in
     let e : drop i bs ≡ b ∷ rest = drop_more bs i (record { id = 0; len = 0 }) c.rows-test.true in
     let inv = c.rows.invariant in
-    let files : Files = g.S.Store.reads c.args.store.now in
+    let files : Files = g.S.Store.reads c.args.reader.now.store in
     let N : List BlockRef → Type 0 = AllNamed in
     record {
       left = omega (arith, ap blocks_len e, inv.left);
       named = (subst N e inv.named).1;
-      kept = kept_turn inv.kept c.put_block.ensures.kept;
-      cache = keeps_turn _ _ _ _ _ _ inv.cache (keeps_before c.args.store.now c.rows.store _ _ _ inv.kept
-          (keeps_more _ _ (b ∷ []) bs _ _ (λ d has. inv.among d (subst (λ qs. Contains qs d) (sym e)
-          (Contains-append_left (b ∷ []) rest d has))) c.put_block.ensures.cache));
+      reads = reads_then _ _ _ _ tt _ inv.reads (reads_more (b ∷ []) bs _ _ _ (λ d has. inv.among d
+          (subst (λ qs. Contains qs d) (sym e) (Contains-append_left (b ∷ []) rest d has))) c.in_default.ensures.reads);
       among = λ d has. inv.among d (subst (λ qs. Contains qs d) (sym e) (Contains-append_right (b ∷ []) rest d has));
-      count = c.in_default.ensures.faults ∙ inv.count;
-      rest_fault = λ why f.
-          let F : List BlockRef → Type 0 = λ qs. IsFaultIn files qs why in
-          inv.rest_fault why (subst F (sym e) (fault_later files (b ∷ []) rest why f));
       stored = λ told new puts.
-          let still : IsTrue (g.S.Store.tells c.rows.store) =
-          subst (λ (t : Bool). IsTrue t) (sym inv.kept.same_tells) told in
+          let still = told_on _ _ _ _ inv.reads told in
           let P : Files → Type 0 = λ f. Puts c.args.view c.rows.place
           (map Sample (stretch (stored_on f b.id) 0 b.len)) c.rows.out c.put_block.new.out in
-          let one = subst P inv.kept.same_reads (c.in_default.ensures.stored still) in
+          let one = subst P inv.reads.kept.same_reads (c.in_default.ensures.stored still) in
           let xs : List ℤ = stretch (stored_on files b.id) 0 b.len in
           let ys : List ℤ = block_samples (stored_of files) rest in
           let size : length (map Sample xs) ≡ b.len =
@@ -128,7 +97,7 @@ returns-clause-stored g c = λ told.
     let i = c.rows.block-index in
     let none : drop i bs ≡ [] = drop_all i bs (omega arith) in
     let inv = c.rows.invariant in
-    let files : Files = g.S.Store.reads c.args.store.now in
+    let files : Files = g.S.Store.reads c.args.reader.now.store in
     let R : List BlockRef → Type 0 = λ qs. Puts c.args.view c.rows.place
     (map Sample (block_samples (stored_of files) qs)) c.rows.out c.rows.out in
     let stop : c.rows.place ≡ c.rows.place + 0 = omega arith in
@@ -138,24 +107,18 @@ returns-clause-stored g c = λ told.
 -- the blocks that are left stand after the view
 pub returns-then-place-view-clause-stored : goal.returns-then-place-view-clause-stored
 returns-then-place-view-clause-stored g c = λ told.
-    let files : Files = g.S.Store.reads c.args.store.now in
+    let files : Files = g.S.Store.reads c.args.reader.now.store in
     let left : List Cell = map Sample (block_samples (stored_of files) (drop c.rows.block-index c.args.blocks.now)) in
     c.rows.invariant.stored told c.rows.out (puts_none c.args.view c.rows.place (length left) left c.rows.out
     (omega (arith, c.requires.size)) refl (omega arith))
 
-pub put_block-requires-clause-cached : goal.put_block-requires-clause-cached
-put_block-requires-clause-cached g c =
-    cached_on c.args.store.now c.rows.store _ c.args.cache.now c.rows.cache c.rows.invariant.kept
-    c.rows.invariant.cache c.requires.cached
-
-pub returns-in-Err-clause-cache : goal.returns-in-Err-clause-cache
-returns-in-Err-clause-cache g c =
+pub returns-in-Err-clause-reads : goal.returns-in-Err-clause-reads
+returns-in-Err-clause-reads g c =
     let bs = c.args.blocks.now in
     let i = c.rows.block-index in
     let b : BlockRef = get_or bs i (record { id = 0; len = 0 }) in
     let rest = drop (i + 1) bs in
     let e : drop i bs ≡ b ∷ rest = drop_more bs i (record { id = 0; len = 0 }) c.rows-test.true in
     let inv = c.rows.invariant in
-    keeps_turn _ _ _ _ _ _ inv.cache (keeps_before c.args.store.now c.rows.store _ _ _ inv.kept
-    (keeps_more _ _ (b ∷ []) bs _ _ (λ d has. inv.among d (subst (λ qs. Contains qs d) (sym e)
-    (Contains-append_left (b ∷ []) rest d has))) c.put_block.ensures.cache))
+    reads_then _ _ _ _ tt _ inv.reads (reads_more (b ∷ []) bs _ _ _ (λ d has. inv.among d
+    (subst (λ qs. Contains qs d) (sym e) (Contains-append_left (b ∷ []) rest d has))) c.in-Err.ensures.reads)

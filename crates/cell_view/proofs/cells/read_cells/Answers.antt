@@ -1,9 +1,11 @@
 -- The cells that are seen from the place on are those of the layout.
 use Rattle.std.proofs.Common.{◌≡◌, ◌-◌, min, List, length, take, drop, arith, ap, ◌∙◌}
 use Rattle.std.proofs.lemmas.List.{length-take}
+use Rattle.std.proofs.lemmas.Result.{err_from_is_err_and}
 use Rattle.disk_model.specs.Disk.{Files}
 use Rattle.pcm_base.specs.declared.sound.Cell.{Cell}
 use Rattle.clip_track.specs.Clips.{layout_cells}
+use Rattle.block_cache.proofs.ReaderLaws.{reads_err, reads_ok}
 use Rattle.cell_view.specs.Stored.{stored_of}
 use Rattle.cell_view.proofs.PartLists.{drop_front}
 use Rattle.cell_view.proofs.RestLaws.{seen_cells}
@@ -13,7 +15,7 @@ use Rattle.cell_view.proofs.cells.read_cells.Goals as goal
 pub returns-clause-stored : goal.returns-clause-stored
 returns-clause-stored g c = λ told.
     let a = c.args in
-    let files : Files = g.S.Store.reads c.args.store.now in
+    let files : Files = g.S.Store.reads c.args.reader.now.store in
     let out : List Cell = a.out.now in
     let count = c.place_in-count.result in
     let size : length (take count out) ≡ count = omega (arith, length-take count out, c.place_in-count.ensures) in
@@ -24,7 +26,7 @@ returns-clause-stored g c = λ told.
 
 pub returns-clause-read : goal.returns-clause-read
 returns-clause-read g c = λ told whole.
-    let files : Files = g.S.Store.reads c.args.store.now in
+    let files : Files = g.S.Store.reads c.args.reader.now.store in
     returns-clause-stored g c told
     ∙ ap (λ (cs : List Cell). take (length c.args.out.now) (drop c.args.from cs))
     (stored_cells files 0 c.args.layout.now whole)
@@ -35,3 +37,11 @@ returns-clause-rest g c =
     let out : List Cell = c.args.out.now in
     let size : length (take count out) ≡ count = omega (arith, length-take count out, c.place_in-count.ensures) in
     drop_front count c.read_ahead.new.out (drop count out) (omega (arith, c.read_ahead.auto.out, size))
+
+pub returns-in_err-read_ahead-clause-reads : goal.returns-in_err-read_ahead-clause-reads
+returns-in_err-read_ahead-clause-reads g c =
+    let p = err_from_is_err_and c.from_residual.result c.from_residual.ensures.1 in
+    rw (p.1, p.2) (reads_err _ _ _ _ c.in_err-read_ahead.ensures.reads)
+
+pub returns-clause-reads : goal.returns-clause-reads
+returns-clause-reads g c = reads_ok _ _ _ _ c.place_in-count.result c.in_ok-read_ahead.ensures.reads

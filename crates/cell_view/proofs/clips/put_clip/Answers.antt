@@ -16,7 +16,7 @@ pub returns-clause-stored : goal.returns-clause-stored
 returns-clause-stored g c = λ told.
     let a = c.args in
     let clip = c.args.clip.now in
-    let src = stored_of (g.S.Store.reads c.args.store.now) in
+    let src = stored_of (g.S.Store.reads c.args.reader.now.store) in
     let gap : List Cell = replicate (clip.start - a.at) cell.Gap in
     let P : List BlockRef → Type 0 = λ bs.
     Puts a.view clip.start (map cell.Sample (block_samples src bs)) c.put_gap.new.out c.put_blocks.new.out in

@@ -1,10 +1,9 @@
 -- One clip more is put.
 use Rattle.std.proofs.Common.{◌≡◌, ℕ, ◌+◌, ◌-◌, ◌≤◌, List, [], ◌∷◌, ◌++◌, length, drop, map, refl, sym, ap, subst, ◌∙◌}
-use Rattle.std.proofs.Common.{arith, Bool, length-append}
-use Rattle.std.specs.Prelude.{IsTrue, replicate}
+use Rattle.std.proofs.Common.{arith, length-append}
+use Rattle.std.specs.Prelude.{replicate}
 use Rattle.std.proofs.lemmas.List.{drop_more, drop_all, length-map, length-replicate}
 use Rattle.disk_model.specs.Disk.{Files}
-use Rattle.disk_model.proofs.Frames.{kept_none, kept_turn}
 use Rattle.pcm_base.specs.declared.sound.Cell.{Cell}
 use Rattle.pcm_base.specs.declared.sound.Cell.TheVariants as cell
 use Rattle.pcm_base.specs.Blocks.{blocks_len, block_samples}
@@ -15,12 +14,11 @@ use Rattle.clip_track.proofs.Layouts.{AreClips-next, end_within}
 use Rattle.clip_track.specs.Clips.{layout_blocks}
 use Rattle.std.specs.Prelude.{Contains}
 use Rattle.std.proofs.lemmas.List.Elements.{Contains-append_left, Contains-append_right}
-use Rattle.block_cache.proofs.CacheLaws.{cached_on, keeps_before, keeps_more, keeps_same, keeps_turn, same_none}
-use Rattle.block_store.specs.Reads.{IsFaultIn}
+use Rattle.block_cache.proofs.ReaderLaws.{reads_more, reads_none, reads_then, told_on}
 use Rattle.sample_block.specs.Sources.{AllNamed}
 use Rattle.cell_view.specs.Seen.{place_in, Puts}
 use Rattle.cell_view.specs.Stored.{stored_of}
-use Rattle.cell_view.proofs.SeenLaws.{puts_turn, puts_none, fault_first, fault_later, named_front, named_back}
+use Rattle.cell_view.proofs.SeenLaws.{puts_turn, puts_none, named_front, named_back}
 use Rattle.cell_view.proofs.clips.put_clips.Goals as goal
 
 pub rows-init : goal.rows-init
@@ -28,11 +26,8 @@ rows-init g c = record {
   apart = c.requires.apart;
   same_end = refl;
   named = c.requires.named;
-  kept = kept_none _ (g.met.S.Store.may_fewer _);
-  cache = keeps_same _ _ _ _ _ (same_none _);
+  reads = reads_none _ _ tt (g.met.S.Store.may_fewer _);
   among = λ b has. has;
-  count = refl;
-  rest_fault = λ why h. h;
   stored = λ told new puts. puts;
 }
 
@@ -95,25 +90,6 @@ overflow_add-at g c =
     let size = c.len.ensures.value in
     grind arith
 
-pub returns-in-Err-clause-damaged : goal.returns-in-Err-clause-damaged
-returns-in-Err-clause-damaged g c = λ told.
-    let cs = c.args.clips.now in
-    let i = c.rows.clip-index in
-    let x : Clip = c.clip-item.result in
-    let rest = drop (i + 1) cs in
-    let inv = c.rows.invariant in
-    let e : drop i cs ≡ x ∷ rest =
-    drop_more cs i x c.rows-test.true ∙ ap (λ (y : Clip). y ∷ rest) (sym c.clip-item.is) in
-    let files : Files = g.S.Store.reads c.args.store.now in
-    let still : IsTrue (g.S.Store.tells c.rows.store) = subst (λ (t : Bool). IsTrue t) (sym inv.kept.same_tells) told in
-    let D : Files → Type 0 = λ f. IsFaultIn f x.blocks c.in-Err.fault in
-    let F : List Clip → Type 0 = λ ds. IsFaultIn files (layout_blocks ds) c.in-Err.fault in
-    inv.rest_fault c.in-Err.fault (subst F (sym e) (fault_first files x.blocks (layout_blocks rest) c.in-Err.fault
-    (subst D inv.kept.same_reads (c.in-Err.ensures.damaged still))))
-
-pub returns-in-Err-clause-kept : goal.returns-in-Err-clause-kept
-returns-in-Err-clause-kept g c = kept_turn c.rows.invariant.kept c.put_clip.ensures.kept
-
 pub rows-preserved : goal.rows-preserved
 rows-preserved g c =
     let cs = c.args.clips.now in
@@ -123,7 +99,7 @@ rows-preserved g c =
     let inv = c.rows.invariant in
     let e : drop i cs ≡ x ∷ rest =
     drop_more cs i x c.rows-test.true ∙ ap (λ (y : Clip). y ∷ rest) (sym c.clip-item.is) in
-    let files : Files = g.S.Store.reads c.args.store.now in
+    let files : Files = g.S.Store.reads c.args.reader.now.store in
     let at = c.rows.at in
     let P : List Clip → Type 0 = λ ds. AreClips at ds in
     let N : List Clip → Type 0 = λ ds. AllNamed (layout_blocks ds) in
@@ -132,23 +108,17 @@ rows-preserved g c =
       apart = AreClips-next at x rest (subst P e inv.apart);
       same_end = sym (ap (end_of at) e) ∙ inv.same_end;
       named = named_back x.blocks (layout_blocks rest) (subst N e inv.named);
-      kept = kept_turn inv.kept c.put_clip.ensures.kept;
-      cache = keeps_turn _ _ _ _ _ _ inv.cache (keeps_before c.args.store.now c.rows.store _ _ _ inv.kept
-          (keeps_more _ _ x.blocks (layout_blocks cs) _ _ (λ d has. inv.among d (subst (λ ds. Contains (layout_blocks
-          ds) d) (sym e)
-          (Contains-append_left x.blocks (layout_blocks rest) d has))) c.put_clip.ensures.cache));
+      reads = reads_then _ _ _ _ tt _ inv.reads (reads_more x.blocks (layout_blocks cs) _ _ _ (λ d has. inv.among d
+          (subst (λ ds. Contains (layout_blocks ds) d) (sym e)
+          (Contains-append_left x.blocks (layout_blocks rest) d has)))
+          c.in_default.ensures.reads);
       among = λ d has. inv.among d (subst (λ ds. Contains (layout_blocks ds) d) (sym e)
           (Contains-append_right x.blocks (layout_blocks rest) d has));
-      count = c.in_default.ensures.faults ∙ inv.count;
-      rest_fault = λ why f.
-          let F : List Clip → Type 0 = λ ds. IsFaultIn files (layout_blocks ds) why in
-          inv.rest_fault why (subst F (sym e) (fault_later files x.blocks (layout_blocks rest) why f));
       stored = λ told new puts.
-          let still : IsTrue (g.S.Store.tells c.rows.store) =
-          subst (λ (t : Bool). IsTrue t) (sym inv.kept.same_tells) told in
+          let still = told_on _ _ _ _ inv.reads told in
           let U : Files → Type 0 = λ f. Puts c.args.view at (replicate (x.start - at) cell.Gap
           ++ map cell.Sample (block_samples (stored_of f) x.blocks)) c.rows.out c.put_clip.new.out in
-          let one = subst U inv.kept.same_reads (c.in_default.ensures.stored still) in
+          let one = subst U inv.reads.kept.same_reads (c.in_default.ensures.stored still) in
           let gap : List Cell = replicate (x.start - at) cell.Gap in
           let sound : List Cell = map cell.Sample (block_samples (stored_of files) x.blocks) in
           let later : at ≤ x.start = (subst P e inv.apart).0 in
@@ -171,7 +141,7 @@ returns-clause-stored g c = λ told.
     let i = c.rows.clip-index in
     let none : drop i cs ≡ [] = drop_all i cs (omega arith) in
     let inv = c.rows.invariant in
-    let files : Files = g.S.Store.reads c.args.store.now in
+    let files : Files = g.S.Store.reads c.args.reader.now.store in
     let R : List Clip → Type 0 =
     λ ds. Puts c.args.view c.rows.at (cells_from (stored_of files) c.rows.at ds) c.rows.out c.rows.out in
     let stop : c.rows.at ≡ c.rows.at + 0 = omega arith in
@@ -181,18 +151,13 @@ returns-clause-stored g c = λ told.
 -- the clips that are left stand after the view
 pub returns-then-at-view-clause-stored : goal.returns-then-at-view-clause-stored
 returns-then-at-view-clause-stored g c = λ told.
-    let files : Files = g.S.Store.reads c.args.store.now in
+    let files : Files = g.S.Store.reads c.args.reader.now.store in
     let left : List Cell = cells_from (stored_of files) c.rows.at (drop c.rows.clip-index c.args.clips.now) in
     c.rows.invariant.stored told c.rows.out (puts_none c.args.view c.rows.at (length left) left c.rows.out
     (omega (arith, c.requires.size)) refl (omega arith))
 
-pub put_clip-requires-clause-cached : goal.put_clip-requires-clause-cached
-put_clip-requires-clause-cached g c =
-    cached_on c.args.store.now c.rows.store _ c.args.cache.now c.rows.cache c.rows.invariant.kept
-    c.rows.invariant.cache c.requires.cached
-
-pub returns-in-Err-clause-cache : goal.returns-in-Err-clause-cache
-returns-in-Err-clause-cache g c =
+pub returns-in-Err-clause-reads : goal.returns-in-Err-clause-reads
+returns-in-Err-clause-reads g c =
     let cs = c.args.clips.now in
     let i = c.rows.clip-index in
     let x : Clip = c.clip-item.result in
@@ -200,7 +165,6 @@ returns-in-Err-clause-cache g c =
     let inv = c.rows.invariant in
     let e : drop i cs ≡ x ∷ rest =
     drop_more cs i x c.rows-test.true ∙ ap (λ (y : Clip). y ∷ rest) (sym c.clip-item.is) in
-    keeps_turn _ _ _ _ _ _ inv.cache (keeps_before c.args.store.now c.rows.store _ _ _ inv.kept
-    (keeps_more _ _ x.blocks (layout_blocks cs) _ _ (λ d has. inv.among d (subst (λ ds. Contains (layout_blocks ds) d)
-    (sym e)
-    (Contains-append_left x.blocks (layout_blocks rest) d has))) c.put_clip.ensures.cache))
+    reads_then _ _ _ _ tt _ inv.reads (reads_more x.blocks (layout_blocks cs) _ _ _ (λ d has. inv.among d
+    (subst (λ ds. Contains (layout_blocks ds) d) (sym e) (Contains-append_left x.blocks (layout_blocks rest) d has)))
+    c.in-Err.ensures.reads)

@@ -2,7 +2,7 @@
 use Rattle.std.proofs.Common.{◌∙◌, ap, refl, List, arith}
 use Rattle.pcm_base.specs.History.{history_of_one}
 use Rattle.project_state.specs.declared.track.Track.{Track}
-use Rattle.editor_core.proofs.Fresh.{fresh_parts}
+use Rattle.editor_core.proofs.NewProjects.{fresh_parts}
 use Rattle.core_examples.proofs.tests.new_studio.Goals as goal
 
 pub assemble-requires : goal.assemble-requires

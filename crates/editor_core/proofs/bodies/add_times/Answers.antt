@@ -3,7 +3,7 @@ use Rattle.std.proofs.Common.{◌≡◌, ◌∙◌, ℕ, List, [], ◌∷◌, �
 use Rattle.std.proofs.lemmas.List.{append-nil}
 use Rattle.project_journal.specs.Journal.{AreWaiting}
 use Rattle.project_journal.proofs.Together.{waiting_more}
-use Rattle.editor_core.proofs.Rows.{times_more}
+use Rattle.editor_commits.proofs.RecordRows.{times_more}
 use Rattle.editor_core.proofs.bodies.add_times.Goals as goal
 
 pub rows-init : goal.rows-init

@@ -5,8 +5,8 @@ use Rattle.block_ledger.specs.Entries.{count_of}
 use Rattle.clip_track.specs.declared.items.Item.{Item}
 use Rattle.clip_track.specs.declared.items.Item.TheVariants.{Gap}
 use Rattle.clip_track.specs.Items.{item_blocks}
-use Rattle.editor_core.specs.Occurrences.{HasAll, Dropped}
-use Rattle.editor_core.proofs.Copying.{strip_flat}
+use Rattle.editor_state.specs.Occurrences.{HasAll, Dropped}
+use Rattle.editor_tracks.proofs.CopyStrips.{strip_flat}
 use Rattle.layout_uses.proofs.Turns.{all_here, dropped_on}
 use Rattle.editor_core.proofs.clipboards.drop_items.Goals as goal
 

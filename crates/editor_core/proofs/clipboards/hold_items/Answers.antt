@@ -5,8 +5,8 @@ use Rattle.block_ledger.specs.Entries.{count_of}
 use Rattle.clip_track.specs.declared.items.Item.{Item}
 use Rattle.clip_track.specs.declared.items.Item.TheVariants.{Gap}
 use Rattle.clip_track.specs.Items.{item_blocks}
-use Rattle.editor_core.specs.Occurrences.{HasIds, Held}
-use Rattle.editor_core.proofs.Copying.{strip_flat}
+use Rattle.editor_state.specs.Occurrences.{HasIds, Held}
+use Rattle.editor_tracks.proofs.CopyStrips.{strip_flat}
 use Rattle.layout_uses.proofs.Times.{Few}
 use Rattle.layout_uses.proofs.Turns.{there_here, few_here, held_on}
 use Rattle.editor_core.proofs.clipboards.hold_items.Goals as goal

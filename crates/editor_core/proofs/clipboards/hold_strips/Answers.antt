@@ -4,10 +4,10 @@ use Rattle.std.proofs.lemmas.Option.{slice_get_read}
 use Rattle.block_ledger.specs.Entries.{count_of}
 use Rattle.clip_track.specs.declared.items.Item.{Item}
 use Rattle.clip_track.specs.Items.{strip_blocks}
-use Rattle.editor_core.specs.Copies.{strips_blocks}
-use Rattle.editor_core.specs.Occurrences.{HasIds, Held}
-use Rattle.editor_core.proofs.Bounds.{named_most}
-use Rattle.editor_core.proofs.Copying.{items_few}
+use Rattle.editor_tracks.specs.Copies.{strips_blocks}
+use Rattle.editor_state.specs.Occurrences.{HasIds, Held}
+use Rattle.editor_state.proofs.Blocks.BlockNumbers.{named_most}
+use Rattle.editor_tracks.proofs.CopyStrips.{items_few}
 use Rattle.layout_uses.proofs.Times.{Few}
 use Rattle.layout_uses.proofs.Turns.{there_here, held_on, next}
 use Rattle.editor_core.proofs.clipboards.hold_strips.Goals as goal

@@ -4,7 +4,7 @@ use Rattle.std.proofs.lemmas.Grind.{flat_map-append}
 use Rattle.std.proofs.lemmas.List.{append-nil}
 use Rattle.clip_track.specs.declared.clips.Clip.{Clip}
 use Rattle.project_state.proofs.Points.{take_some}
-use Rattle.editor_core.specs.Copies.{layouts_at, run_of}
+use Rattle.editor_tracks.specs.Copies.{layouts_at, run_of}
 use Rattle.editor_core.proofs.copies.run_from.Goals as goal
 
 pub loop-i-preserved : goal.loop-i-preserved

@@ -1,6 +1,6 @@
 -- The pieces so far.
 use Rattle.std.proofs.Common.{◌≡◌, map, take}
-use Rattle.editor_core.specs.Imports.{piece_behind}
+use Rattle.editor_imports.specs.Imports.{piece_behind}
 use Rattle.editor_core.proofs.growth.moved_pieces.Given as goal
 
 abbrev pub invariant-loop-piece : goal.invariant-loop-piece

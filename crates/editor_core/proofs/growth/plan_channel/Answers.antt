@@ -6,8 +6,8 @@ use Rattle.clip_track.specs.declared.clips.Clip.{Clip}
 use Rattle.clip_track.specs.Clips.{IsLayout, layout_blocks}
 use Rattle.edit_ops.specs.declared.types.NewBlock.{NewBlock}
 use Rattle.edit_ops.specs.Plans.{IsPlan, Means, start_of}
-use Rattle.editor_core.specs.Imports.{AllFitBehind, block_behind}
-use Rattle.editor_core.proofs.Channels.{channel_plan, fit_blocks}
+use Rattle.editor_imports.specs.Imports.{AllFitBehind, block_behind}
+use Rattle.editor_imports.proofs.ChannelPlans.{channel_plan, fit_blocks}
 use Rattle.editor_core.proofs.growth.plan_channel.Goals as goal
 
 pub moved_blocks-requires : goal.moved_blocks-requires

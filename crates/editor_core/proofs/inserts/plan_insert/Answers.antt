@@ -6,8 +6,8 @@ use Rattle.pcm_base.specs.Refusals.{inserted_length, length_limit}
 use Rattle.clip_track.specs.Clips.{end_of}
 use Rattle.edit_ops.specs.declared.types.Plan.{Plan}
 use Rattle.edit_ops.specs.Plans.{AnswersTest, Means}
-use Rattle.editor_core.specs.Inserts.{IsPlace}
-use Rattle.editor_core.proofs.InsertLaws.{MeansPlace, TestsPlace, end_cells, end_test}
+use Rattle.editor_tracks.specs.Inserts.{IsPlace}
+use Rattle.editor_tracks.proofs.InsertLaws.{MeansPlace, TestsPlace, end_cells, end_test}
 use Rattle.editor_core.proofs.inserts.plan_insert.Goals as goal
 
 pub insert-requires-clause-sum : goal.insert-requires-clause-sum

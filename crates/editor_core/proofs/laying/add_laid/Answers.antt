@@ -3,7 +3,7 @@ use Rattle.std.proofs.Common.{◌≡◌, ◌∙◌, sym, ap, subst, ℕ, get_or,
 use Rattle.std.proofs.lemmas.Option.{slice_get-get_or}
 use Rattle.project_state.specs.declared.track.Track.{Track}
 use Rattle.project_state.specs.Tracks.{AllBelow}
-use Rattle.editor_core.specs.RunEdits.{laid_or}
+use Rattle.editor_tracks.specs.RunEdits.{laid_or}
 use Rattle.editor_core.proofs.laying.add_laid.Goals as goal
 
 pub add-requires : goal.add-requires

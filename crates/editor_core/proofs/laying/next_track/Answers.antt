@@ -1,13 +1,13 @@
 -- Where no plan is left a track stays.
-use Rattle.std.proofs.Common.{◌≡◌, ◌∙◌, refl, sym, ap, subst, List, [], ◌∷◌, ◌++◌, length, Option, arith}
+use Rattle.std.proofs.Common.{◌≡◌, ◌∙◌, refl, sym, ap, subst, ◌+◌, List, [], ◌∷◌, ◌++◌, length, Option, arith}
 use Rattle.std.specs.Vec.Iter.{into_iter_items, into_iter_steps}
 use Rattle.std.proofs.lemmas.List.{nil_from_length}
 use Rattle.std.specs.Option.{option_to_list}
 use Rattle.edit_ops.specs.declared.types.NewBlock.{NewBlock}
 use Rattle.edit_ops.specs.declared.types.Plan.{Plan}
 use Rattle.project_state.specs.declared.track.Track.{Track}
-use Rattle.editor_core.specs.RunEdits.{AreLayouts, laid_from, made_by}
-use Rattle.editor_core.proofs.Laid.{laid_stays}
+use Rattle.editor_tracks.specs.RunEdits.{AreLayouts, laid_from, made_by}
+use Rattle.editor_tracks.proofs.RunLayouts.{laid_stays}
 use Rattle.editor_core.proofs.laying.next_track.Goals as goal
 
 pub returns-in-None-clause-lays : goal.returns-in-None-clause-lays
@@ -29,5 +29,6 @@ returns-in-None-clause-lays c =
           ∙ ap (λ (ps : List Plan). t ∷ laid_from c.args.id ps c.args.number ts) (sym none ∙ same);
       makes = ap (λ (ps : List Plan). makes ++ made_by ps) (sym same);
       layouts = λ h. subst AreLayouts (sym same) h;
+      count = ap (λ (ps : List Plan). c.args.number + length ps) (sym same);
       fits = λ ts fit. omega (arith, ap (λ (ps : List Plan). length ps) (sym same ∙ none));
     }

@@ -9,9 +9,9 @@ use Rattle.project_state.specs.Tracks.{AllBelow}
 use Rattle.project_state.proofs.Points.{drop_some, take_some, below_taken}
 use Rattle.layout_uses.specs.Drawing.{HasNumbers}
 use Rattle.layout_uses.proofs.Draws.{numbers_none}
-use Rattle.editor_core.specs.Copies.{run_of}
-use Rattle.editor_core.specs.RunEdits.{laid_from, laid_or, next_number}
-use Rattle.editor_core.proofs.Laid.{next_most, numbers_laid, place_among}
+use Rattle.editor_tracks.specs.Copies.{run_of}
+use Rattle.editor_tracks.specs.RunEdits.{laid_from, laid_or, next_number}
+use Rattle.editor_tracks.proofs.RunLayouts.{next_most, numbers_laid, place_among}
 use Rattle.editor_core.proofs.laying.planned_run.Goals as goal
 
 abbrev ids : List Track → List ℕ
@@ -51,6 +51,7 @@ loop-i-init c =
       tracks = search rules;
       makes = search rules;
       layouts = search rules;
+      count = search rules;
       fits = search rules;
       clip = refl;
       numbers = subst (λ (z : List Track). HasNumbers ts c.args.first z c.args.first) (sym none)
@@ -131,6 +132,7 @@ loop-i-preserved c =
           ∙ append_assoc point (new ∷ []) (laid_from id left c.number_after-number.result rest));
       makes = lays.makes ∙ c.loop-i.invariant.makes;
       layouts = λ h. c.loop-i.invariant.layouts (lays.layouts h);
+      count = omega (arith, c.loop-i.invariant.count, lays.count, number);
       fits = lays.fits rest (subst (λ (z : List Track). length was ≤ length (run_of id z)) at c.loop-i.invariant.fits);
       clip = c.loop-i.invariant.clip;
       numbers = numbers;

@@ -5,7 +5,7 @@ use Rattle.pcm_base.specs.Step.{line_of_track}
 use Rattle.project_state.specs.declared.track.Track.{Track}
 use Rattle.project_state.specs.Meaning.{meant}
 use Rattle.project_state.proofs.Points.{take_some}
-use Rattle.editor_core.proofs.Telling.{lines_more}
+use Rattle.editor_views.proofs.TrackListing.{lines_more}
 use Rattle.editor_core.proofs.listing.lines_of.Goals as goal
 
 pub loop-i-preserved : goal.loop-i-preserved

@@ -3,9 +3,9 @@ use Rattle.std.proofs.Common.{◌+◌, ◌<◌, length, sym, ap, ◌∙◌, subs
 use Rattle.std.proofs.lemmas.List.{get_or_default, take_all}
 use Rattle.std.proofs.lemmas.Option.{slice_get-get_or}
 use Rattle.project_state.proofs.Points.{take_some}
-use Rattle.editor_core.specs.declared.studio.Pin.{Pin}
-use Rattle.editor_core.specs.Pins.{LacksPin}
-use Rattle.editor_core.proofs.PinNumbers.{around, lacks_more}
+use Rattle.editor_state.specs.declared.pin.Pin.{Pin}
+use Rattle.editor_views.specs.Pins.{LacksPin}
+use Rattle.editor_views.proofs.PinNumbers.{around, lacks_more}
 use Rattle.editor_core.proofs.pins.take_pin.Goals as goal
 
 pub returns-then-index-number : goal.returns-then-index-number

@@ -3,9 +3,9 @@ use Rattle.std.proofs.Common.{◌≡◌, ◌∙◌, List, subst, arith}
 use Rattle.std.specs.Prelude.{Contains, IfNone, IfSome}
 use Rattle.pcm_base.specs.declared.block.BlockRef.{BlockRef}
 use Rattle.project_state.specs.Meaning.{history_blocks}
-use Rattle.editor_core.specs.Scans.{AreIdsOf}
-use Rattle.editor_core.specs.Studios.{ids_of}
-use Rattle.editor_core.proofs.Scanning.{stands}
+use Rattle.editor_views.specs.Scans.{AreIdsOf}
+use Rattle.editor_state.specs.Studios.{ids_of}
+use Rattle.editor_views.proofs.BlockScans.{stands}
 use Rattle.editor_core.proofs.scans.block_at.Goals as goal
 
 pub returns-then-place-len : goal.returns-then-place-len

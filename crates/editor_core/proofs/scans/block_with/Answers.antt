@@ -3,7 +3,7 @@ use Rattle.std.proofs.Common.{◌≢◌, List, subst, arith}
 use Rattle.std.proofs.lemmas.List.{take_all}
 use Rattle.std.specs.List.{AllByRecursion}
 use Rattle.pcm_base.specs.declared.block.BlockRef.{BlockRef}
-use Rattle.editor_core.proofs.Scanning.{none_with}
+use Rattle.editor_views.proofs.BlockScans.{none_with}
 use Rattle.editor_core.proofs.scans.block_with.Goals as goal
 
 pub returns-clause-none : goal.returns-clause-none

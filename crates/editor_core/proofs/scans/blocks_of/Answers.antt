@@ -4,7 +4,7 @@ use Rattle.std.proofs.lemmas.List.{take_all, length-map}
 use Rattle.pcm_base.specs.declared.block.BlockRef.{BlockRef}
 use Rattle.pcm_base.specs.History.{point_of, points_of}
 use Rattle.project_state.specs.Meaning.{point_blocks}
-use Rattle.editor_core.proofs.Scanning.{points_blocks}
+use Rattle.editor_views.proofs.BlockScans.{points_blocks}
 use Rattle.layout_uses.proofs.Turns.{next}
 use Rattle.editor_core.proofs.scans.blocks_of.Goals as goal
 

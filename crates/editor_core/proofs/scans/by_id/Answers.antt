@@ -3,8 +3,8 @@ use Rattle.std.proofs.Common.{rules, sym, subst}
 use Rattle.std.proofs.lemmas.List.Filters.{dedup_is}
 use Rattle.std.proofs.lemmas.List.Sorted.{IsNonDecreasingBy-from_sort_by_key}
 use Rattle.pcm_base.specs.declared.block.BlockRef.{BlockRef}
-use Rattle.editor_core.specs.Scans.{AreListed}
-use Rattle.editor_core.proofs.Rising.{are_listed}
+use Rattle.editor_views.specs.Scans.{AreListed}
+use Rattle.editor_views.proofs.SortedBlocks.{are_listed}
 use Rattle.editor_core.proofs.scans.by_id.Goals as goal
 
 pub returns : goal.returns

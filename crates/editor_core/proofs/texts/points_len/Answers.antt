@@ -4,7 +4,7 @@ use Rattle.std.specs.Prelude.{slice_index}
 use Rattle.pcm_base.specs.History.{tag_of}
 use Rattle.project_state.specs.declared.track.Track.{Track}
 use Rattle.project_state.proofs.Points.{drop_some, take_some}
-use Rattle.editor_core.proofs.PackedTexts.{short_next, size_left, tagged}
+use Rattle.editor_cleanup.proofs.HeaderPoints.{short_next, size_left, tagged}
 use Rattle.editor_core.proofs.texts.points_len.Goals as goal
 
 pub loop-i-preserved : goal.loop-i-preserved

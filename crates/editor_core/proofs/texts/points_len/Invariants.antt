@@ -3,7 +3,7 @@ use Rattle.std.proofs.Common.{◌≡◌, ◌+◌, ◌*◌, ◌^◌, ◌≤◌, t
 use Rattle.project_journal.specs.Journal.{points_size}
 use Rattle.project_journal.specs.Packing.{AreShort}
 use Rattle.record_body.specs.Kept.{point_bytes}
-use Rattle.editor_core.specs.Packing.{points_in}
+use Rattle.editor_state.specs.Packing.{points_in}
 use Rattle.editor_core.proofs.texts.points_len.Given as goal
 
 abbrev pub invariant-loop-i : goal.invariant-loop-i

@@ -10,7 +10,7 @@ use Rattle.project_state.specs.declared.track.Track.{Track}
 use Rattle.record_body.specs.Kept.{point_bytes}
 use Rattle.project_state.proofs.Points.{drop_some, take_some}
 use Rattle.record_body.proofs.Parts.{part_written}
-use Rattle.editor_core.proofs.PackedTexts.{row, rows, short_at, size_left, tagged}
+use Rattle.editor_cleanup.proofs.HeaderPoints.{row, rows, short_at, size_left, tagged}
 use Rattle.editor_core.proofs.texts.write_points.Goals as goal
 
 pub slice_bounds-write_sized-end : goal.slice_bounds-write_sized-end

@@ -3,7 +3,7 @@ use Rattle.std.proofs.Common.{◌≡◌, ◌+◌, length, take, drop, map}
 use Rattle.std.specs.List.{flat_map}
 use Rattle.project_journal.specs.Journal.{points_size}
 use Rattle.record_body.specs.Kept.{point_bytes}
-use Rattle.editor_core.proofs.PackedTexts.{row}
+use Rattle.editor_cleanup.proofs.HeaderPoints.{row}
 use Rattle.editor_core.proofs.texts.write_points.Given as goal
 
 abbrev pub invariant-loop-i : goal.invariant-loop-i

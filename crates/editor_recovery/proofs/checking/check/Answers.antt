@@ -6,7 +6,7 @@ use Rattle.std.proofs.lemmas.Result.{err_from_is_err_and}
 use Rattle.pcm_base.specs.declared.block.BlockRef.{BlockRef}
 use Rattle.project_state.specs.Meaning.{history_blocks}
 use Rattle.editor_core.specs.Core.{core_of}
-use Rattle.editor_core.specs.Scans.{AreListed}
+use Rattle.editor_views.specs.Scans.{AreListed}
 use Rattle.editor_recovery.specs.Checking.{ChecksStudio}
 use Rattle.editor_recovery.proofs.Checked.{all_named, checks_none, checks_studio}
 use Rattle.editor_recovery.proofs.checking.check.Goals as goal

@@ -1,48 +1,40 @@
--- The history with its numbers names the same blocks, and no more of them than can be counted.
-use Rattle.std.proofs.Common.{ℕ, ◌≤◌, List, length, sym, subst, arith}
+-- The history names no more blocks than can be counted.
+use Rattle.std.proofs.Common.{◌≤◌, List, length, arith}
 use Rattle.std.specs.Prelude.{Contains}
-use Rattle.std.specs.List.{AllByRecursion}
 use Rattle.std.proofs.lemmas.List.Elements.{recursion_from_All}
 use Rattle.pcm_base.specs.declared.block.BlockRef.{BlockRef}
 use Rattle.pcm_base.specs.History.{History}
 use Rattle.project_state.specs.declared.track.Track.{Track}
 use Rattle.record_body.specs.KeptSound.{IsSoundTagged}
 use Rattle.editor_recovery.proofs.Ledgers.{times_few, tracks_few}
-use Rattle.editor_recovery.proofs.Plain.{same_blocks, same_many, same_sound}
+use Rattle.editor_recovery.proofs.Plain.{valid_back}
 use Rattle.editor_recovery.proofs.Points.{all_flat}
 use Rattle.editor_recovery.proofs.finding.parts_of.Goals as goal
 
 pub count_layouts-requires-clause-named : goal.count_layouts-requires-clause-named
 count_layouts-requires-clause-named c =
-    let h : History (List Track) = c.args.folded.project.history.history in
-    let n : History (List Track) = c.args.numbered.history.history in
+    let h : History (List Track) = c.args.folded.project.numbered.history.history in
     let Q : BlockRef → Type 0 = λ b. (2 ≤ b.id) × Contains c.args.files.now b.id in
-    subst (AllByRecursion Q) (sym (same_blocks n h c.requires.same)) (all_flat Q h.points c.requires.named)
+    all_flat Q h.points c.requires.named
 
 pub count_layouts-requires-clause-few : goal.count_layouts-requires-clause-few
 count_layouts-requires-clause-few c =
     let f = c.args.folded in
     let k = f.project in
-    let h : History (List Track) = k.history.history in
-    let n : History (List Track) = c.args.numbered.history.history in
-    let same = c.requires.same in
+    let h : History (List Track) = k.numbered.history.history in
     let sound = recursion_from_All (IsSoundTagged f.block_size k.next_block k.next_track k.commit) h.points
-    c.requires.sound.kept.points in
-    let many : length n.points ≤ 65536 =
-    omega (arith, same_many n h same, c.len-points.ensures.whole.few, c.requires.sound.format.depth_most) in
-    times_few f.block_size k.next_block k.next_track k.commit n
-    (same_sound n h same f.block_size k.next_block k.next_track k.commit sound) many
+    (valid_back f.block_size k c.requires.sound.kept).points in
+    let many : length h.points ≤ 65536 =
+    omega (arith, c.len-points.ensures.whole.few, c.requires.sound.format.depth_most) in
+    times_few f.block_size k.next_block k.next_track k.commit h sound many
 
 pub count_layouts-requires-clause-fits : goal.count_layouts-requires-clause-fits
 count_layouts-requires-clause-fits c =
     let f = c.args.folded in
     let k = f.project in
-    let h : History (List Track) = k.history.history in
-    let n : History (List Track) = c.args.numbered.history.history in
-    let same = c.requires.same in
+    let h : History (List Track) = k.numbered.history.history in
     let sound = recursion_from_All (IsSoundTagged f.block_size k.next_block k.next_track k.commit) h.points
-    c.requires.sound.kept.points in
-    let many : length n.points ≤ 65536 =
-    omega (arith, same_many n h same, c.len-points.ensures.whole.few, c.requires.sound.format.depth_most) in
-    tracks_few f.block_size k.next_block k.next_track k.commit n
-    (same_sound n h same f.block_size k.next_block k.next_track k.commit sound) many
+    (valid_back f.block_size k c.requires.sound.kept).points in
+    let many : length h.points ≤ 65536 =
+    omega (arith, c.len-points.ensures.whole.few, c.requires.sound.format.depth_most) in
+    tracks_few f.block_size k.next_block k.next_track k.commit h sound many

@@ -1,35 +1,28 @@
 -- The sizes, and then the parts.
 use Rattle.std.proofs.Common.{arith}
 use Rattle.record_body.proofs.KeptBounds.{sound_blocks}
-use Rattle.record_fold.specs.Folds.{kept_of}
 use Rattle.editor_recovery.proofs.Counted.{causes_none, memory_none}
 use Rattle.editor_recovery.proofs.Opens.{parts_result, unsized}
+use Rattle.editor_recovery.proofs.Plain.{numbered_kept, valid_back}
 use Rattle.editor_recovery.proofs.Refusals.{memory_opens}
 use Rattle.editor_recovery.proofs.SoundParts.{sound_result}
 use Rattle.editor_recovery.proofs.finding.size_parts.Goals as goal
 
-pub test_files-requires : goal.test_files-requires
-test_files-requires g c =
+pub test_files-requires-clause-blocks : goal.test_files-requires-clause-blocks
+test_files-requires-clause-blocks g c =
     let s = c.requires.sound in
-    let kept = kept_of c.args.folded.project in
-    sound_blocks c.args.folded.block_size kept.history.depth kept.commit kept (omega (arith, s.format.block_most)) s.kept
+    let f = c.args.folded in
+    let kept = numbered_kept f.project in
+    sound_blocks f.block_size kept.history.depth kept.commit kept (omega (arith, s.format.block_most))
+    (valid_back f.block_size f.project s.kept)
 
-pub parts_of-requires-clause-same : goal.parts_of-requires-clause-same
-parts_of-requires-clause-same g c = c.in-Ok.ensures.numbers.same
-
-pub parts_of-requires-clause-numbered : goal.parts_of-requires-clause-numbered
-parts_of-requires-clause-numbered g c = c.in-Ok.ensures.numbers.numbered
-
-pub parts_of-requires-clause-drawn : goal.parts_of-requires-clause-drawn
-parts_of-requires-clause-drawn g c = c.in-Ok.ensures.numbers.drawn
-
-pub parts_of-requires-clause-most : goal.parts_of-requires-clause-most
-parts_of-requires-clause-most g c = c.in-Ok.ensures.numbers.most
+pub test_files-requires-clause-numbered : goal.test_files-requires-clause-numbered
+test_files-requires-clause-numbered g c = c.requires.sound.numbers.numbered
 
 pub returns-in-Ok-clause-opens : goal.returns-in-Ok-clause-opens
 returns-in-Ok-clause-opens g c = λ form j tells is fold.
     parts_result (g.S.Store.reads c.args.store.now) form j c.args.files.now c.args.folded c.parts_of.result is fold
-    (c.in-Ok.ensures.tests tells is.listed) c.parts_of.ensures.parts c.parts_of.ensures.memory
+    c.requires.sound (c.in-Ok.ensures.tests tells is.listed) c.parts_of.ensures.parts c.parts_of.ensures.memory
 
 pub returns-in-Err-clause-opens : goal.returns-in-Err-clause-opens
 returns-in-Err-clause-opens g c = λ form j tells is fold.

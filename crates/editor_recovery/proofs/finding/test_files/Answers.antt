@@ -15,7 +15,7 @@ returns-in-Ok-clause-tests g c = λ tells are.
 pub returns-in-Ok-clause-named : goal.returns-in-Ok-clause-named
 returns-in-Ok-clause-named g c =
     named_listed c.args.files.now (size_in c.in-Ok.sizes) c.args.history.now.history.points c.test_blocks.result
-    c.requires c.in-Ok.ensures.listed c.test_blocks.ensures.tests
+    c.requires.blocks c.in-Ok.ensures.listed c.test_blocks.ensures.tests
 
 pub returns-in-Ok-clause-cause : goal.returns-in-Ok-clause-cause
 returns-in-Ok-clause-cause g c = causes_none g.S.Store c.args.store.now c.measure.new.store c.test_blocks.result

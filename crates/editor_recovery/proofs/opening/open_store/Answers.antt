@@ -9,8 +9,8 @@ use Rattle.project_journal.proofs.Kept.{each_has}
 use Rattle.record_body.specs.Kept.{Keeps}
 use Rattle.project_state.specs.Meaning.{history_blocks}
 use Rattle.editor_core.specs.Parts.{assembled}
-use Rattle.editor_core.specs.Scans.{HaveOneLength}
-use Rattle.editor_core.specs.Studios.{shown, studio_of}
+use Rattle.editor_views.specs.Scans.{HaveOneLength}
+use Rattle.editor_state.specs.Studios.{shown, studio_of}
 use Rattle.editor_recovery.specs.Causes.{Causes}
 use Rattle.editor_recovery.specs.Found.{IsNew, found_in}
 use Rattle.editor_recovery.specs.Honest.{FindsKept, IsHonest, OpensHonest}

@@ -1,20 +1,20 @@
 -- The frames, and then what is after them.
-use Rattle.std.proofs.Common.{◌≡◌, ◌*◌, ◌∙◌, ℕ, ℤ, List, Some, length, min, sym, subst, ap, arith}
-use Rattle.std.specs.Prelude.{IsTrue}
+use Rattle.std.proofs.Common.{◌≡◌, ◌*◌, ◌∙◌, ℕ, ℤ, List, Some, length, min, ap, arith}
+use Rattle.std.proofs.lemmas.Result.{err_from_is_err_and}
 use Rattle.disk_model.specs.Disk.{Files}
 use Rattle.sample_block.specs.Blocks.{blocks}
 use Rattle.peak_summary.specs.Peaks.{summary_of}
-use Rattle.block_cache.proofs.CacheLaws.{cached_on, keeps_then}
+use Rattle.block_cache.proofs.ReaderLaws.{reads_err, reads_ok, reads_then, told_on}
 use Rattle.envelope_view.proofs.SumLaws.{stop_same, part_joined, part_end, block_samples_fit, block_samples_few}
 use Rattle.envelope_view.proofs.parts.short_then_samples.Goals as goal
 
 pub returns-clause-read : goal.returns-clause-read
 returns-clause-read g c = λ told xs e len.
-    let files : Files = g.S.Store.reads c.args.store.now in
-    let kept = c.by_frames.ensures.kept in
-    let still : IsTrue (g.S.Store.tells c.by_frames.new.store) = subst IsTrue (sym kept.same_tells) told in
-    let here : blocks (g.S.Store.reads c.by_frames.new.store) c.args.block.id ≡ Some xs =
-    ap (λ (f : Files). blocks f c.args.block.id) kept.same_reads ∙ e in
+    let files : Files = g.S.Store.reads c.args.reader.now.store in
+    let was = c.in_ok-front.ensures.reads in
+    let still = told_on _ _ _ _ was told in
+    let here : blocks (g.S.Store.reads c.by_frames.new.reader.store) c.args.block.id ≡ Some xs =
+    ap (λ (f : Files). blocks f c.args.block.id) was.kept.same_reads ∙ e in
     let from : ℕ = c.min-from.result in
     let start : ℕ = 256 * c.args.first in
     let same : min (256 * c.args.end) (length xs) ≡ min from (length xs) =
@@ -28,17 +28,18 @@ returns-clause-read g c = λ told xs e len.
     (omega (arith, c.min-from.ensures, c.requires.rising, c.requires.behind)) (omega (arith, c.min-from.ensures)) front
     (c.in_ok-back.ensures.read still xs here len)
 
-pub by_samples-requires-clause-cached : goal.by_samples-requires-clause-cached
-by_samples-requires-clause-cached g c =
-    cached_on c.args.store.now c.by_frames.new.store _ c.args.cache.now c.by_frames.new.cache c.by_frames.ensures.kept
-    c.by_frames.ensures.cache c.requires.cached
+pub returns-in_err-front-clause-reads : goal.returns-in_err-front-clause-reads
+returns-in_err-front-clause-reads g c =
+    let p = err_from_is_err_and c.from_residual.result c.from_residual.ensures.1 in
+    rw (p.1, p.2) (reads_err _ _ _ _ c.in_err-front.ensures.reads)
 
-pub returns-in_err-back-clause-cache : goal.returns-in_err-back-clause-cache
-returns-in_err-back-clause-cache g c =
-    keeps_then c.args.store.now c.by_frames.new.store _ _ _ _ c.by_frames.ensures.kept c.by_frames.ensures.cache
-    c.by_samples.ensures.cache
+pub returns-in_err-back-clause-reads : goal.returns-in_err-back-clause-reads
+returns-in_err-back-clause-reads g c =
+    let r = c.from_residual-in_err-back in
+    let p = err_from_is_err_and r.result r.ensures.1 in
+    rw (p.1, p.2) (reads_then _ _ _ _ _ _ c.in_ok-front.ensures.reads
+    (reads_err _ _ _ _ c.in_err-back.ensures.reads))
 
-pub returns-clause-cache : goal.returns-clause-cache
-returns-clause-cache g c =
-    keeps_then c.args.store.now c.by_frames.new.store _ _ _ _ c.by_frames.ensures.kept c.by_frames.ensures.cache
-    c.by_samples.ensures.cache
+pub returns-clause-reads : goal.returns-clause-reads
+returns-clause-reads g c =
+    reads_ok _ _ _ _ _ (reads_then _ _ _ _ _ _ c.in_ok-front.ensures.reads c.in_ok-back.ensures.reads)

@@ -1,9 +1,8 @@
 -- The columns so far, what is left, and that nothing of the disk has changed.
-use Rattle.std.proofs.Common.{◌≡◌, ◌+◌, drop, map}
+use Rattle.std.proofs.Common.{◌≡◌, ◌+◌, drop, map, Ok}
 use Rattle.std.specs.Prelude.{IsTrue, Contains}
-use Rattle.disk_model.specs.Frames.{Kept}
 use Rattle.sample_block.specs.Sources.{AllWhole, sources_of}
-use Rattle.block_cache.specs.Caches.{KeepsCache}
+use Rattle.block_cache.specs.Readers.{Reads}
 use Rattle.pcm_base.specs.Arithmetic.{counted_from}
 use Rattle.pcm_base.specs.Edits.{part}
 use Rattle.pcm_base.specs.Envelope.{edge, scan_of}
@@ -19,12 +18,10 @@ invariant-rows g l = record {
   stretch : IsInBlock l.ahead.stretch;
   blocks : (b : BlockRef) → Contains (ahead_blocks l.ahead) b → Contains (layout_blocks l.layout) b;
   cells : (src : Sources) → ahead_cells src l.ahead ≡ drop (edge l.from l.to l.columns l.i) (layout_cells src l.layout);
-  kept : Kept g.S.Store l.fn.store l.store;
-  cache : KeepsCache (g.S.Store.tells l.fn.store) (g.S.Store.reads l.fn.store) (layout_blocks l.layout) l.fn.cache
-      l.cache;
-  known : IsTrue (g.S.Store.tells l.fn.store) → IsKnown (g.S.Store.reads l.fn.store) l.known;
-  faults : g.S.Store.read_fault_count l.store ≡ g.S.Store.read_fault_count l.fn.store;
-  read : IsTrue (g.S.Store.tells l.fn.store) → AllWhole (g.S.Store.reads l.fn.store) (layout_blocks l.layout)
+  reads : Reads (layout_blocks l.layout) l.fn.reader l.reader (Ok (tt {0}));
+  known : IsTrue (g.S.Store.tells l.fn.reader.store) → IsKnown (g.S.Store.reads l.fn.reader.store) l.known;
+  read : IsTrue (g.S.Store.tells l.fn.reader.store)
+      → AllWhole (g.S.Store.reads l.fn.reader.store) (layout_blocks l.layout)
       → l.scans.items ≡ map (λ i. scan_of (part (edge l.from l.to l.columns i) (edge l.from l.to l.columns (i + 1))
-      (layout_cells (sources_of (g.S.Store.reads l.fn.store)) l.layout))) (counted_from 0 l.i);
+      (layout_cells (sources_of (g.S.Store.reads l.fn.reader.store)) l.layout))) (counted_from 0 l.i);
 }

@@ -1,16 +1,18 @@
 -- The front that was known, and what was read after it.
 use Rattle.std.proofs.Common.{◌≡◌, ◌∙◌, ℕ, Some, length, sym, ap}
+use Rattle.std.proofs.lemmas.Result.{err_from_is_err_and}
 use Rattle.disk_model.specs.Disk.{Files}
 use Rattle.pcm_base.specs.declared.block.BlockRef.{BlockRef}
 use Rattle.pcm_base.specs.Edits.{part}
 use Rattle.sample_block.specs.Blocks.{blocks}
 use Rattle.peak_summary.specs.Peaks.{summary_of}
+use Rattle.block_cache.proofs.ReaderLaws.{reads_err, reads_ok}
 use Rattle.envelope_view.proofs.SumLaws.{part_joined, block_samples_fit, block_samples_few}
 use Rattle.envelope_view.proofs.sweep.summarize_block.Goals as goal
 
 pub returns-clause-read : goal.returns-clause-read
 returns-clause-read g c = λ told xs e len.
-    let files : Files = g.S.Store.reads c.args.store.now in
+    let files : Files = g.S.Store.reads c.args.reader.now.store in
     let front = c.front_of-front.result in
     let is = c.front_of-front.ensures in
     let its : blocks files front.block.id ≡ Some xs = ap (λ (b : BlockRef). blocks files b.id) is.block ∙ e in
@@ -21,3 +23,11 @@ returns-clause-read g c = λ told xs e len.
     ∙ part_joined c.args.from front.to c.args.to xs front.summary c.in_ok-back.back
     (block_samples_fit files c.args.block.id xs e) (block_samples_few files c.args.block.id xs e)
     is.rising is.within known (c.in_ok-back.ensures.read told xs e len)
+
+pub returns-in_err-back-clause-reads : goal.returns-in_err-back-clause-reads
+returns-in_err-back-clause-reads g c =
+    let p = err_from_is_err_and c.from_residual.result c.from_residual.ensures.1 in
+    rw (p.1, p.2) (reads_err _ _ _ _ c.in_err-back.ensures.reads)
+
+pub returns-clause-reads : goal.returns-clause-reads
+returns-clause-reads g c = reads_ok _ _ _ _ _ c.in_ok-back.ensures.reads

@@ -1,15 +1,14 @@
 -- Some cells more, and what is left where all of them are swept or none is left.
 use Rattle.std.proofs.Common.{◌≡◌, ◌∷◌, ◌-◌, ◌≤◌, ℕ, ℤ, List, [], ◌++◌, take, drop, refl, sym, ap, subst, ◌∙◌, arith}
-use Rattle.std.specs.Prelude.{IsTrue, Contains}
+use Rattle.std.specs.Prelude.{Contains}
 use Rattle.std.proofs.lemmas.List.Elements.{Contains-append_left}
 use Rattle.std.proofs.lemmas.Result.{err_from_is_err_and}
 use Rattle.disk_model.specs.Disk.{Files}
-use Rattle.disk_model.proofs.Frames.{kept_turn, kept_none}
 use Rattle.pcm_base.specs.declared.block.BlockRef.{BlockRef}
 use Rattle.pcm_base.specs.declared.sound.Cell.{Cell}
 use Rattle.pcm_base.specs.Pieces.{Sources}
 use Rattle.sample_block.specs.Sources.{sources_of}
-use Rattle.block_cache.proofs.CacheLaws.{cached_on, keeps_more, keeps_same, keeps_then, same_none}
+use Rattle.block_cache.proofs.ReaderLaws.{reads_err, reads_more, reads_none, reads_ok, reads_then, told_on}
 use Rattle.block_store.specs.Scans.{samples_among}
 use Rattle.peak_summary.specs.declared.stretch.Summary.{Summary}
 use Rattle.peak_summary.specs.Peaks.{summary_of}
@@ -20,7 +19,6 @@ use Rattle.envelope_view.specs.Ahead.{IsInBlock, ahead_blocks, ahead_cells, stre
 use Rattle.envelope_view.specs.Halves.{IsKnown}
 use Rattle.envelope_view.specs.Named.{AreWhole}
 use Rattle.envelope_view.proofs.AheadLaws.{among_few, front_fits, step_heard, step_passed, none_heard, none_passed}
-use Rattle.envelope_view.proofs.NamedLaws.{fault_wider}
 use Rattle.envelope_view.proofs.Running.{Running, running_start, running_more, running_end}
 use Rattle.envelope_view.proofs.sweep.sweep.Goals as goal
 
@@ -30,10 +28,8 @@ stretches-init g c = record {
   stretch = c.requires.stretch;
   blocks = λ b there. there;
   passed = λ src. refl;
-  kept = kept_none _ (g.met.S.Store.may_fewer _);
-  cache = keeps_same _ _ _ _ _ (same_none _);
+  reads = reads_none _ _ tt (g.met.S.Store.may_fewer _);
   known = c.requires.known;
-  faults = refl;
   read = λ told whole. running_start _ _;
 }
 
@@ -56,44 +52,10 @@ behind-ahead-requires-clause-stretch g c = subst IsInBlock (sym c.in-Some.ensure
 pub returns-in_err-part-clause-blocks : goal.returns-in_err-part-clause-blocks
 returns-in_err-part-clause-blocks g c = λ b there. c.stretches.invariant.blocks b (c.next.ensures.blocks b there)
 
-pub returns-in_err-part-clause-kept : goal.returns-in_err-part-clause-kept
-returns-in_err-part-clause-kept g c = kept_turn c.stretches.invariant.kept c.summarize_stretch.ensures.kept
-
-pub returns-in_err-part-clause-damaged : goal.returns-in_err-part-clause-damaged
-returns-in_err-part-clause-damaged g c = λ told.
-    let inv = c.stretches.invariant in
-    let s : Stretch = c.in-Some.stretch in
-    let rest = strip_blocks c.next.new.self.rest in
-    let still : IsTrue (g.S.Store.tells c.stretches.store) = subst IsTrue (sym inv.kept.same_tells) told in
-    let there : (b : BlockRef) → Contains (stretch_blocks s) b → Contains (ahead_blocks c.args.ahead.now) b =
-    λ b is. inv.blocks b (c.next.ensures.blocks b
-    (subst (λ (x : Stretch). Contains (stretch_blocks x ++ rest) b) c.in-Some.ensures.found.0
-    (Contains-append_left (stretch_blocks s) rest b is))) in
-    let p = err_from_is_err_and c.from_residual.result c.from_residual.ensures.1 in
-    rw (p.1, p.2) (fault_wider (g.S.Store.reads c.args.store.now) (g.S.Store.reads c.stretches.store) (stretch_blocks s)
-    (ahead_blocks c.args.ahead.now) _ inv.kept.same_reads there (c.in_err-part.ensures.damaged still))
-
-pub summarize_stretch-requires-clause-cached : goal.summarize_stretch-requires-clause-cached
-summarize_stretch-requires-clause-cached g c =
-    cached_on c.args.store.now c.stretches.store _ c.args.cache.now c.stretches.cache c.stretches.invariant.kept
-    c.stretches.invariant.cache c.requires.cached
-
-pub returns-in_err-part-clause-cache : goal.returns-in_err-part-clause-cache
-returns-in_err-part-clause-cache g c =
-    let inv = c.stretches.invariant in
-    let s : Stretch = c.in-Some.stretch in
-    let rest = strip_blocks c.next.new.self.rest in
-    keeps_then c.args.store.now c.stretches.store _ _ _ _ inv.kept inv.cache
-    (keeps_more _ _ (stretch_blocks s) (ahead_blocks c.args.ahead.now) _ _
-    (λ b is. inv.blocks b (c.next.ensures.blocks b
-    (subst (λ (x : Stretch). Contains (stretch_blocks x ++ rest) b) c.in-Some.ensures.found.0
-    (Contains-append_left (stretch_blocks s) rest b is))))
-    c.summarize_stretch.ensures.cache)
-
 pub stretches-preserved : goal.stretches-preserved
 stretches-preserved g c =
     let inv = c.stretches.invariant in
-    let files : Files = g.S.Store.reads c.args.store.now in
+    let files : Files = g.S.Store.reads c.args.reader.now.store in
     let all_src : Sources = sources_of files in
     let s : Stretch = c.in-Some.stretch in
     let rest = c.next.new.self.rest in
@@ -115,25 +77,22 @@ stretches-preserved g c =
           (subst (λ (bs : List BlockRef). Contains (bs ++ strip_blocks rest) b) c.behind-ahead.ensures.blocks is);
       passed = λ src. step_passed src s c.behind-ahead.result rest (ahead_cells src c.stretches.ahead) left size within
           part c.behind-ahead.ensures.item (cells src) ∙ inv.passed src;
-      kept = kept_turn inv.kept c.summarize_stretch.ensures.kept;
-      cache = keeps_then c.args.store.now c.stretches.store _ _ _ _ inv.kept inv.cache
-          (keeps_more _ _ (stretch_blocks s) (ahead_blocks c.args.ahead.now) _ _
+      reads = reads_then _ _ _ _ tt _ inv.reads
+          (reads_ok _ _ _ _ tt (reads_more (stretch_blocks s) (ahead_blocks c.args.ahead.now) _ _ _
           (λ b is. there b (Contains-append_left (stretch_blocks s) (strip_blocks rest) b is))
-          c.summarize_stretch.ensures.cache);
+          c.in_ok-part.ensures.reads));
       known = λ told.
-          let still : IsTrue (g.S.Store.tells c.stretches.store) = subst IsTrue (sym inv.kept.same_tells) told in
-          subst (λ (f : Files). IsKnown f c.summarize_stretch.new.known) inv.kept.same_reads
-          (c.summarize_stretch.ensures.known still);
-      faults = c.in_ok-part.ensures.faults ∙ inv.faults;
+          subst (λ (f : Files). IsKnown f c.summarize_stretch.new.known) inv.reads.kept.same_reads
+          (c.summarize_stretch.ensures.known (told_on _ _ _ _ inv.reads told));
       read = λ told whole.
-          let still : IsTrue (g.S.Store.tells c.stretches.store) = subst IsTrue (sym inv.kept.same_tells) told in
+          let still = told_on _ _ _ _ inv.reads told in
           let whole_s : AreWhole files (stretch_blocks s) =
           λ b is. whole b (there b (Contains-append_left (stretch_blocks s) (strip_blocks rest) b is)) in
-          let here = subst (λ (f : Files). AreWhole f (stretch_blocks s)) (sym inv.kept.same_reads) whole_s in
+          let here = subst (λ (f : Files). AreWhole f (stretch_blocks s)) (sym inv.reads.kept.same_reads) whole_s in
           let ok = subst IsInBlock (sym same) c.next.ensures.stretch in
           let got : c.in_ok-part.part ≡ summary_of (samples_among (take size (stretch_cells all_src s))) =
           c.in_ok-part.ensures.read still here ∙ ap (λ (f : Files).
-          summary_of (samples_among (take size (stretch_cells (sources_of f) s)))) inv.kept.same_reads in
+          summary_of (samples_among (take size (stretch_cells (sources_of f) s)))) inv.reads.kept.same_reads in
           let target : List ℤ = samples_among (take c.args.count (ahead_cells all_src c.args.ahead.now)) in
           let xs : List ℤ = samples_among (take size (stretch_cells all_src s)) in
           let more : List ℤ =
@@ -159,7 +118,7 @@ returns-in_default-clause-passed g c = λ src.
 
 pub returns-in_default-clause-read : goal.returns-in_default-clause-read
 returns-in_default-clause-read g c = λ told whole.
-    let src : Sources = sources_of (g.S.Store.reads c.args.store.now) in
+    let src : Sources = sources_of (g.S.Store.reads c.args.reader.now.store) in
     let cells : List Cell = ahead_cells src c.stretches.ahead in
     let none : cells ≡ [] = sym (c.next.ensures.cells src) ∙ c.in_default.ensures.found src in
     running_end c.stretches.all c.args.count c.stretches.left (samples_among (take c.stretches.left cells)) _
@@ -172,8 +131,27 @@ returns-clause-passed g c = λ src.
 
 pub returns-clause-read : goal.returns-clause-read
 returns-clause-read g c = λ told whole.
-    let src : Sources = sources_of (g.S.Store.reads c.args.store.now) in
+    let src : Sources = sources_of (g.S.Store.reads c.args.reader.now.store) in
     let none : c.stretches.left ≡ 0 = omega (arith, c.stretches-test.false) in
     let cells : List Cell = ahead_cells src c.stretches.ahead in
     running_end c.stretches.all c.args.count c.stretches.left (samples_among (take c.stretches.left cells)) _
     (ap (λ (k : ℕ). samples_among (take k cells)) none) (c.stretches.invariant.read told whole)
+
+pub returns-in_err-part-clause-reads : goal.returns-in_err-part-clause-reads
+returns-in_err-part-clause-reads g c =
+    let inv = c.stretches.invariant in
+    let s : Stretch = c.in-Some.stretch in
+    let rest = strip_blocks c.next.new.self.rest in
+    let p = err_from_is_err_and c.from_residual.result c.from_residual.ensures.1 in
+    rw (p.1, p.2) (reads_then _ _ _ _ tt _ inv.reads
+    (reads_err _ _ _ _ (reads_more (stretch_blocks s) (ahead_blocks c.args.ahead.now) _ _ _
+    (λ b is. inv.blocks b (c.next.ensures.blocks b
+    (subst (λ (x : Stretch). Contains (stretch_blocks x ++ rest) b) c.in-Some.ensures.found.0
+    (Contains-append_left (stretch_blocks s) rest b is))))
+    c.in_err-part.ensures.reads)))
+
+pub returns-in_default-clause-reads : goal.returns-in_default-clause-reads
+returns-in_default-clause-reads g c = reads_ok _ _ _ tt _ c.stretches.invariant.reads
+
+pub returns-clause-reads : goal.returns-clause-reads
+returns-clause-reads g c = reads_ok _ _ _ tt _ c.stretches.invariant.reads

@@ -1,9 +1,8 @@
 -- The summary so far, what is left, and that nothing of the disk has changed.
-use Rattle.std.proofs.Common.{◌≡◌, ◌≤◌, take, drop}
+use Rattle.std.proofs.Common.{◌≡◌, ◌≤◌, take, drop, Ok}
 use Rattle.std.specs.Prelude.{IsTrue, Contains}
-use Rattle.disk_model.specs.Frames.{Kept}
 use Rattle.sample_block.specs.Sources.{sources_of}
-use Rattle.block_cache.specs.Caches.{KeepsCache}
+use Rattle.block_cache.specs.Readers.{Reads}
 use Rattle.block_store.specs.Scans.{samples_among}
 use Rattle.pcm_base.specs.Pieces.{Sources}
 use Rattle.pcm_base.specs.declared.block.BlockRef.{BlockRef}
@@ -19,15 +18,14 @@ invariant-stretches g l = record {
   stretch : IsInBlock l.ahead.stretch;
   blocks : (b : BlockRef) → Contains (ahead_blocks l.ahead) b → Contains (ahead_blocks l.fn.ahead) b;
   passed : (src : Sources) → drop l.left (ahead_cells src l.ahead) ≡ drop l.fn.count (ahead_cells src l.fn.ahead);
-  kept : Kept g.S.Store l.fn.store l.store;
-  cache : KeepsCache (g.S.Store.tells l.fn.store) (g.S.Store.reads l.fn.store) (ahead_blocks l.fn.ahead) l.fn.cache
-      l.cache;
-  known : IsTrue (g.S.Store.tells l.fn.store) → IsKnown (g.S.Store.reads l.fn.store) l.known;
-  faults : g.S.Store.read_fault_count l.store ≡ g.S.Store.read_fault_count l.fn.store;
-  read : IsTrue (g.S.Store.tells l.fn.store) → AreWhole (g.S.Store.reads l.fn.store) (ahead_blocks l.fn.ahead)
+  reads : Reads (ahead_blocks l.fn.ahead) l.fn.reader l.reader (Ok (tt {0}));
+  known : IsTrue (g.S.Store.tells l.fn.reader.store) → IsKnown (g.S.Store.reads l.fn.reader.store) l.known;
+  read : IsTrue (g.S.Store.tells l.fn.reader.store)
+      → AreWhole (g.S.Store.reads l.fn.reader.store) (ahead_blocks l.fn.ahead)
       → Running l.all l.fn.count l.left
-      (samples_among (take l.left (ahead_cells (sources_of (g.S.Store.reads l.fn.store)) l.ahead)))
-      (samples_among (take l.fn.count (ahead_cells (sources_of (g.S.Store.reads l.fn.store)) l.fn.ahead)));
+      (samples_among (take l.left (ahead_cells (sources_of (g.S.Store.reads l.fn.reader.store)) l.ahead)))
+      (samples_among (take l.fn.count
+      (ahead_cells (sources_of (g.S.Store.reads l.fn.reader.store)) l.fn.ahead)));
 }
 
 abbrev pub decreases-stretches : goal.decreases-stretches

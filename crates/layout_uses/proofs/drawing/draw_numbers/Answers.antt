@@ -20,7 +20,7 @@ pub draw_track-requires-clause-above : goal.draw_track-requires-clause-above
 draw_track-requires-clause-above c =
     let ts = c.args.tracks.now in
     below_same _ c.loop-i.point (take c.loop-i.i ts) c.loop-i.invariant.1
-    (taken_below ts c.loop-i.i c.len-i-end.ensures.rising _ c.track_at.ensures)
+    (taken_below ts c.loop-i.i c.len-i-end.ensures.rising _ c.track_at-track.ensures)
 
 pub draw_track-requires-clause-few : goal.draw_track-requires-clause-few
 draw_track-requires-clause-few c =
@@ -46,6 +46,6 @@ loop-i-preserved c =
           ∙ ap (λ (z : List Track). z ++ unnumbered t ∷ []) c.loop-i.invariant.1
           ∙ ap (λ (z : Track). map unnumbered (take c.loop-i.i ts) ++ z ∷ []) is.2
           ∙ sym (map-append unnumbered (take c.loop-i.i ts) (_ ∷ []))
-          ∙ ap (map unnumbered) (sym (take_some ts c.loop-i.i _ c.track_at.ensures)),
+          ∙ ap (map unnumbered) (sym (take_some ts c.loop-i.i _ c.track_at-track.ensures)),
       omega (arith, c.next_after-after.ensures.most, c.loop-i.invariant.2),
     )

@@ -1,32 +1,27 @@
--- A track more has a current one's number: it is that one, or it has that one's layout.
-use Rattle.std.proofs.Common.{inl, refl, sym, ap, ◌∙◌}
+-- A track that has a number is the current one.
+use Rattle.std.proofs.Common.{inl, refl, sym, subst, ◌∙◌}
 use Rattle.project_state.specs.declared.track.Track.{Track}
-use Rattle.layout_uses.proofs.Draws.{at_among, same_but_number}
+use Rattle.project_state.specs.Tracks.{AllBelow}
+use Rattle.project_state.proofs.Points.{some_is}
+use Rattle.layout_uses.proofs.Draws.{kept_among}
 use Rattle.layout_uses.proofs.drawing.draw_track.Goals as goal
 
-pub returns-then-same_settings : goal.returns-then-same_settings
-returns-then-same_settings c =
-    let old : Track = c.track_at-old.result.now in
-    let here = c.track_at-old.ensures in
-    let like = c.in-Some.ensures.like old here in
-    let heard = c.same_settings.ensures c.if-same_settings.true in (
-      old,
-      c.in_ok-share.ensures.added old here,
-      same_but_number old c.args.track.now like.0 heard.0 heard.1 heard.2 like.1,
-      refl,
-      inl (old, at_among c.args.current.now c.in-Some.i old here, refl, refl),
-    )
+pub share-requires-clause-above : goal.share-requires-clause-above
+share-requires-clause-above c = λ t there.
+    subst (λ (x : Track). AllBelow x.id c.args.point.now) (some_is c.args.track.now t (sym c.requires.here ∙ there))
+    c.requires.above
 
-pub returns : goal.returns
-returns c =
-    let old : Track = c.track_at-old.result.now in
-    let new : Track = c.in_ok-with_layout-2.field-0 in
-    let here = c.track_at-old.ensures in
-    let like = c.in-Some.ensures.like old here in
-    let is = c.in_ok-with_layout-2.ensures in (
-      new,
-      c.in_ok-push-2.ensures.added,
-      ap (λ (t : Track). record t { number = 0 }) is ∙ (λ k. record c.args.track.now { number = 0; layout = like.1 k }),
-      ap (λ (t : Track). t.number) is,
-      inl (old, at_among c.args.current.now c.in-Some.i old here, sym (ap (λ (t : Track). t.layout) is), refl),
+pub returns-then-number-gt0 : goal.returns-then-number-gt0
+returns-then-number-gt0 c =
+    let t : Track = c.args.track.now in (
+      t,
+      c.in_ok-share.ensures.added t c.requires.here,
+      refl,
+      refl,
+      inl (
+        t,
+        kept_among c.args.current.now c.args.tracks.now c.args.i t c.requires.here c.requires.kept c.if-number-gt0.true,
+        refl,
+        refl,
+      ),
     )

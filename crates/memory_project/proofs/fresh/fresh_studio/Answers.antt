@@ -9,7 +9,7 @@ use Rattle.memory_project.proofs.fresh.fresh_studio.Goals as goal
 pub returns-in-Ok : goal.returns-in-Ok
 returns-in-Ok c =
     let e = c.in-Ok.ensures in
-    let history = c.in-Ok.studio.store.log.history in
+    let history = c.in-Ok.studio.reader.store.log.history in
     is_fresh _ c.args.project.now c.requires c.in_ok-store.store c.in_ok-store.ensures (core_of c.in-Ok.studio)
     (record {
       opens = e.opens;

@@ -5,7 +5,7 @@ use Rattle.pcm_base.specs.declared.answer.Reply.TheVariants.{Done}
 use Rattle.pcm_base.specs.declared.command.Call.TheVariants.{Line}
 use Rattle.pcm_base.specs.declared.command.Command.TheVariants.{Ramp}
 use Rattle.editor_core.specs.Core.{core_of}
-use Rattle.editor_core.specs.Took.{Took, quietly, told_by}
+use Rattle.editor_state.specs.Took.{Took, quietly, told_by}
 use Rattle.memory_project.proofs.LineLemmas.{told_ends, told_sound}
 use Rattle.memory_project.proofs.lines.ask_ramp.Goals as goal
 

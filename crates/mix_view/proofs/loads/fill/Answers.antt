@@ -21,7 +21,7 @@ pub returns-clause-stored : goal.returns-clause-stored
 returns-clause-stored g c = λ told.
     let ts : List Track = c.args.point.now in
     let len : ℕ = c.args.loaded.now.len in
-    let src : Sources = stored_of (g.S.Store.reads c.args.store.now) in
+    let src : Sources = stored_of (g.S.Store.reads c.args.reader.now.store) in
     let xs : List Cell = c.read_front.new.cells in
     let P : ℕ → Type 0 = λ n. AreStretches c.args.from len (unmuted (meant src ts)) (take (n * len) xs) in
     let Q : List Cell → Type 0 = λ cs. AreStretches c.args.from len (unmuted (meant src ts))

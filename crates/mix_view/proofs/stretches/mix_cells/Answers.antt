@@ -8,7 +8,7 @@ use Rattle.mix_view.proofs.stretches.mix_cells.Goals as goal
 
 pub returns : goal.returns
 returns c = λ src from are.
-    let ts = c.args.reader.now.point.now in
+    let ts = c.args.mix.now.point.now in
     let h = c.requires.heard in
     c.mix_into.ensures.heard from (meant src ts)
     (h.gains ∙ sym (ap gains_of (unmuted_meant src ts) ∙ gains_meant src (heard_tracks ts)))

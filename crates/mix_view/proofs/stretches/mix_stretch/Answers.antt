@@ -6,12 +6,12 @@ use Rattle.mix_view.proofs.stretches.mix_stretch.Goals as goal
 
 pub returns-clause-stored : goal.returns-clause-stored
 returns-clause-stored g c = λ told.
-    c.mix_cells.ensures (stored_of (g.S.Store.reads c.args.store.now)) c.args.reader.now.at
+    c.mix_cells.ensures (stored_of (g.S.Store.reads c.args.reader.now.store)) c.args.mix.now.at
     (c.in_ok-read_stretches.ensures.stored told)
 
 pub returns-clause-reader : goal.returns-clause-reader
 returns-clause-reader g c =
-    let r = c.args.reader.now in
+    let r = c.args.mix.now in
     record {
       heard = c.requires.reader.heard;
       rests = rests_later r.at (r.at + length c.mix_cells.new.out) r.point.now c.read_stretches.new.passes
@@ -20,5 +20,5 @@ returns-clause-reader g c =
 
 pub read_stretches-requires-clause-tracks : goal.read_stretches-requires-clause-tracks
 read_stretches-requires-clause-tracks g c =
-    let r = c.args.reader.now in
+    let r = c.args.mix.now in
     rests_few r.at r.point.now r.passes c.requires.reader.rests

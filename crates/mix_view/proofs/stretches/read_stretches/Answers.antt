@@ -1,12 +1,10 @@
 -- One track more is read, from the last to the first.
-use Rattle.std.proofs.Common.{◌≡◌, ℕ, ◌+◌, ◌-◌, ◌*◌, ◌≤◌, ◌<◌, List, ◌∷◌, length, take, drop, get_or, refl, sym}
-use Rattle.std.proofs.Common.{ap, subst, ◌∙◌, arith, length-drop, slice_get, Some, Bool, false}
-use Rattle.std.specs.Prelude.{IsTrue}
+use Rattle.std.proofs.Common.{◌≡◌, ℕ, ◌+◌, ◌-◌, ◌*◌, ◌≤◌, ◌<◌, List, ◌∷◌, length, take, drop, get_or, sym}
+use Rattle.std.proofs.Common.{ap, subst, ◌∙◌, arith, length-drop, slice_get, Some, false}
 use Rattle.std.proofs.lemmas.List.{drop_all, drop-drop, length-take, take_all}
 use Rattle.std.proofs.lemmas.Option.{get_or_from_slice_get}
 use borrow.Rule.Slice.PartMut.{put_mid}
 use Rattle.disk_model.specs.Disk.{Files}
-use Rattle.disk_model.proofs.Frames.{kept_none, kept_turn}
 use Rattle.pcm_base.specs.declared.sound.Cell.{Cell}
 use Rattle.pcm_base.specs.Cells.{Project}
 use Rattle.pcm_base.specs.Mix.{unmuted}
@@ -14,15 +12,13 @@ use Rattle.clip_track.specs.Clips.{layout_blocks}
 use Rattle.project_state.specs.declared.track.Track.{Track}
 use Rattle.project_state.proofs.Points.{drop_some}
 use Rattle.project_state.specs.Meaning.{meant, meant_track, point_blocks}
-use Rattle.block_store.specs.Reads.{IsFaultIn}
-use Rattle.block_cache.proofs.CacheLaws.{cached_on, keeps_before, keeps_more, keeps_same, keeps_turn, same_none}
+use Rattle.block_cache.proofs.ReaderLaws.{reads_more, reads_none, reads_then, told_on}
 use Rattle.cell_view.specs.Stored.{stored_of}
 use Rattle.mix_view.specs.declared.passes.TrackPass.{TrackPass}
 use Rattle.cell_view.specs.Rests.{IsRestOf}
-use Rattle.cell_view.proofs.SeenLaws.{fault_first}
 use Rattle.mixdown.specs.Stretches.{IsStretch, AreStretches}
 use Rattle.mix_view.specs.Tracks.{heard_tracks}
-use Rattle.mix_view.proofs.TrackLaws.{blocks_at, rests_at, rests_set, fault_drop, stretch_put}
+use Rattle.mix_view.proofs.TrackLaws.{blocks_at, rests_at, rests_set, stretch_put}
 use Rattle.mix_view.proofs.TrackLaws.{heard_count_more, heard_count_same, unmuted_loud, unmuted_silent}
 use Rattle.mix_view.proofs.stretches.read_stretches.Goals as goal
 
@@ -39,7 +35,7 @@ pub rows-init : goal.rows-init
 rows-init g c =
     let P : List Track
     → Type 0 = λ ts. AreStretches c.args.from c.args.len
-    (unmuted (meant (stored_of (g.S.Store.reads c.args.store.now)) ts))
+    (unmuted (meant (stored_of (g.S.Store.reads c.args.reader.now.store)) ts))
     (drop (length c.args.cells.now) c.args.cells.now) in
     record {
       within = omega (arith, c.len-i.ensures.value);
@@ -48,9 +44,7 @@ rows-init g c =
           (sym (take_all c.len-i.result c.args.point.now (omega (arith, c.len-i.ensures.value))));
       fits = omega arith;
       rests = c.requires.rests;
-      cache = keeps_same _ _ _ _ _ (same_none _);
-      kept = kept_none _ (g.met.S.Store.may_fewer _);
-      count = refl;
+      reads = reads_none _ _ tt (g.met.S.Store.may_fewer _);
       stored =
           λ told. subst P (sym (drop_all c.len-i.result c.args.point.now (omega (arith, c.len-i.ensures.value)))) tt;
     }
@@ -83,11 +77,6 @@ read_track-requires-clause-rest g c =
     subst I (get_or_from_slice_get c.args.point.now k t t c.track_at-track.ensures)
     (rests_at c.args.from c.args.point.now c.rows.passes k t p below c.rows.invariant.rests)
 
-pub read_track-requires-clause-cached : goal.read_track-requires-clause-cached
-read_track-requires-clause-cached g c =
-    cached_on c.args.store.now c.rows.store _ c.args.cache.now c.rows.cache c.rows.invariant.kept c.rows.invariant.cache
-    c.requires.cached
-
 pub returns-in-Err-clause-rests : goal.returns-in-Err-clause-rests
 returns-in-Err-clause-rests g c =
     let k = c.rows.i - 1 in
@@ -98,34 +87,6 @@ returns-in-Err-clause-rests g c =
     (omega (arith, c.rows.invariant.within, c.rows-test.true)) c.rows.invariant.rests
     (subst I (sym (get_or_from_slice_get ts k t t c.track_at-track.ensures)) c.read_track.ensures.rest)
 
-pub returns-in-Err-clause-cache : goal.returns-in-Err-clause-cache
-returns-in-Err-clause-cache g c =
-    let ts : List Track = c.args.point.now in
-    let k = c.rows.i - 1 in
-    let t : Track = c.track_at-track.result.now in
-    let inv = c.rows.invariant in
-    keeps_turn _ _ _ _ _ _ inv.cache (keeps_before c.args.store.now c.rows.store _ _ _ inv.kept
-    (keeps_more _ _ (layout_blocks t.layout) (point_blocks ts) _ _
-    (λ b has. blocks_at k ts (drop (k + 1) ts) t b (drop_some ts k t c.track_at-track.ensures) has)
-    c.read_track.ensures.cache))
-
-pub returns-in-Err-clause-damaged : goal.returns-in-Err-clause-damaged
-returns-in-Err-clause-damaged g c = λ told.
-    let ts : List Track = c.args.point.now in
-    let k = c.rows.i - 1 in
-    let t : Track = c.track_at-track.result.now in
-    let inv = c.rows.invariant in
-    let files : Files = g.S.Store.reads c.args.store.now in
-    let e : drop k ts ≡ t ∷ drop (k + 1) ts = drop_some ts k t c.track_at-track.ensures in
-    let still : IsTrue (g.S.Store.tells c.rows.store) = subst (λ (b : Bool). IsTrue b) (sym inv.kept.same_tells) told in
-    let D : Files → Type 0 = λ f. IsFaultIn f (layout_blocks t.layout) c.in-Err.fault in
-    let F : List Track → Type 0 = λ us. IsFaultIn files (point_blocks us) c.in-Err.fault in
-    fault_drop files c.in-Err.fault k ts (subst F (sym e) (fault_first files (layout_blocks t.layout)
-    (point_blocks (drop (k + 1) ts)) c.in-Err.fault (subst D inv.kept.same_reads (c.in-Err.ensures.damaged still))))
-
-pub returns-in-Err-clause-kept : goal.returns-in-Err-clause-kept
-returns-in-Err-clause-kept g c = kept_turn c.rows.invariant.kept c.read_track.ensures.kept
-
 pub rows-preserved : goal.rows-preserved
 rows-preserved g c =
     let ts : List Track = c.args.point.now in
@@ -135,7 +96,7 @@ rows-preserved g c =
     let t : Track = c.track_at-track.result.now in
     let inv = c.rows.invariant in
     let loud = c.if-track.false in
-    let files : Files = g.S.Store.reads c.args.store.now in
+    let files : Files = g.S.Store.reads c.args.reader.now.store in
     let below : k < length ts = omega (arith, inv.within, c.rows-test.true) in
     let next : k + 1 ≡ c.rows.i = omega (arith, c.rows-test.true) in
     let e : drop k ts ≡ t ∷ drop c.rows.i ts =
@@ -151,19 +112,15 @@ rows-preserved g c =
       fits = omega (arith, fits);
       rests = rests_set c.args.from ts c.rows.passes k t c.read_track.new.left below inv.rests
           (subst I (sym (get_or_from_slice_get ts k t t c.track_at-track.ensures)) c.read_track.ensures.rest);
-      cache = keeps_turn _ _ _ _ _ _ inv.cache (keeps_before c.args.store.now c.rows.store _ _ _ inv.kept
-          (keeps_more _ _ (layout_blocks t.layout) (point_blocks ts) _ _
+      reads = reads_then _ _ _ _ tt _ inv.reads (reads_more (layout_blocks t.layout) (point_blocks ts) _ _ _
           (λ b has. blocks_at k ts (drop (k + 1) ts) t b (drop_some ts k t c.track_at-track.ensures) has)
-          c.read_track.ensures.cache));
-      kept = kept_turn inv.kept c.read_track.ensures.kept;
-      count = c.in_default.ensures.faults ∙ inv.count;
+          c.in_default.ensures.reads);
       stored = λ told.
-          let still : IsTrue (g.S.Store.tells c.rows.store) =
-          subst (λ (b : Bool). IsTrue b) (sym inv.kept.same_tells) told in
+          let still = told_on _ _ _ _ inv.reads told in
           let P : Files → Type 0 =
           λ f. IsStretch c.args.from (length (take (at + len - at) (drop at c.rows.cells)))
           (meant_track (stored_of f) t) c.read_track.new.out in
-          let one = subst P inv.kept.same_reads (c.in_default.ensures.stored still) in
+          let one = subst P inv.reads.kept.same_reads (c.in_default.ensures.stored still) in
           let Q : ℕ → Type 0 = λ n. IsStretch c.args.from n (meant_track (stored_of files) t) c.read_track.new.out in
           let from : drop c.rows.at c.rows.cells ≡ drop len (drop at c.rows.cells) =
           (let start : c.rows.at ≡ at + len = omega (arith, place) in
@@ -187,7 +144,7 @@ rows-preserved-then-track g c =
     let t : Track = c.track_at-track.result.now in
     let inv = c.rows.invariant in
     let silent = c.if-track.true in
-    let files : Files = g.S.Store.reads c.args.store.now in
+    let files : Files = g.S.Store.reads c.args.reader.now.store in
     let next : k + 1 ≡ c.rows.i = omega (arith, c.rows-test.true) in
     let e : drop k ts ≡ t ∷ drop c.rows.i ts =
     drop_some ts k t c.track_at-track.ensures ∙ ap (λ n. t ∷ drop n ts) next in
@@ -198,9 +155,7 @@ rows-preserved-then-track g c =
           ∙ ap (λ (n : ℕ). n * c.args.len) (heard_count_same ts k t c.track_at-track.ensures silent);
       fits = inv.fits;
       rests = inv.rests;
-      cache = inv.cache;
-      kept = inv.kept;
-      count = inv.count;
+      reads = inv.reads;
       stored = λ told. subst S (sym (ap (λ us. unmuted (meant (stored_of files) us)) e
           ∙ unmuted_silent (stored_of files) t (meant (stored_of files) (drop c.rows.i ts)) silent)) (inv.stored told);
     }
@@ -213,8 +168,17 @@ returns-clause-stored g c = λ told.
     let start : c.rows.at ≡ 0 =
     omega (arith, c.rows.invariant.place, ap (λ (n : ℕ). n * c.args.len) first) in
     let P : ℕ → Type 0 = λ n. AreStretches c.args.from c.args.len
-    (unmuted (meant (stored_of (g.S.Store.reads c.args.store.now)) (drop n c.args.point.now)))
+    (unmuted (meant (stored_of (g.S.Store.reads c.args.reader.now.store)) (drop n c.args.point.now)))
     (drop c.rows.at c.rows.cells) in
     let Q : ℕ → Type 0 = λ n. AreStretches c.args.from c.args.len
-    (unmuted (meant (stored_of (g.S.Store.reads c.args.store.now)) c.args.point.now)) (drop n c.rows.cells) in
+    (unmuted (meant (stored_of (g.S.Store.reads c.args.reader.now.store)) c.args.point.now)) (drop n c.rows.cells) in
     subst Q start (subst P none (c.rows.invariant.stored told))
+
+pub returns-in-Err-clause-reads : goal.returns-in-Err-clause-reads
+returns-in-Err-clause-reads g c =
+    let ts : List Track = c.args.point.now in
+    let k : ℕ = c.rows.i - 1 in
+    let t : Track = c.track_at-track.result.now in
+    reads_then _ _ _ _ tt _ c.rows.invariant.reads (reads_more (layout_blocks t.layout) (point_blocks ts) _ _ _
+    (λ b has. blocks_at k ts (drop (k + 1) ts) t b (drop_some ts k t c.track_at-track.ensures) has)
+    c.in-Err.ensures.reads)

@@ -1,25 +1,28 @@
 -- The track at hand stands in front of those that are left.
 use Rattle.std.proofs.Common.{◌≡◌, List, ◌+◌, ◌-◌, ◌<◌, ◌++◌, ◌∷◌, [], Option, Some, length, map, refl, sym, ap, ap₂, subst}
 use Rattle.std.proofs.Common.{◌∙◌, arith, length-append}
-use Rattle.std.proofs.lemmas.List.{map-append}
 use Rattle.std.proofs.lemmas.Result.{err_from_is_err_and}
 use Rattle.project_journal.specs.Fields.{field}
 use Rattle.project_state.specs.declared.track.Track.{Track}
-use Rattle.record_body.specs.ChangePlaces.{told_at, told_size, all_told_at}
+use Rattle.project_state.specs.Numbers.{AreNewOrCurrent, IsNewOrCurrent, unnumbered}
+use Rattle.project_state.specs.Tracks.{AllBelow, track_of}
+use Rattle.record_body.specs.ChangePlaces.{all_told_at, told_at, told_size}
 use Rattle.record_body.specs.ChangeTests.{told_tests, all_told_tests}
-use Rattle.project_state.specs.Tracks.{AllBelow}
+use Rattle.record_body.specs.Told.{AddsTold, AreTold}
+use Rattle.record_body.proofs.KeptBounds.{all_append}
 use Rattle.record_body.proofs.Passing.{all_pass}
 use Rattle.project_state.proofs.Points.{AllBelow-higher, AllBelow-push}
 use Rattle.record_body.proofs.Steps.{step_passes, step_finds, finds_alike, step_adds}
+use Rattle.record_body.proofs.ToldAdds.{last_is, passed_all, said_all, said_more}
 use Rattle.record_body.proofs.ToldTracks.{have_first, have_rest, known_mark, id_bounds, told_id, told_whole}
 use Rattle.record_body.proofs.changes_reading.read_all_told.Goals as goal
 
-pub read_told-requires-clause-within : goal.read_told-requires-clause-within
-read_told-requires-clause-within c = have_first (c.args.count - c.loop.counter) c.loop.next c.args.bytes.now
+pub add_told-requires-clause-within : goal.add_told-requires-clause-within
+add_told-requires-clause-within c = have_first (c.args.count - c.loop.counter) c.loop.next c.args.bytes.now
     (omega (arith, c.loop-test.true)) c.loop.invariant.within
 
-pub returns-in_err-track : goal.returns-in_err-track
-returns-in_err-track c =
+pub returns-in_err-add_told : goal.returns-in_err-add_told
+returns-in_err-add_told c =
     let p = err_from_is_err_and c.from_residual.result c.from_residual.ensures.1 in
     let bytes = c.args.bytes.now in
     let l = c.args.limits in
@@ -27,13 +30,24 @@ returns-in_err-track c =
     let at = c.loop.next in
     let from = c.loop.from in
     let n = c.args.count - c.loop.counter in
-    let found : Track → Type 0 = λ t. told_at now at bytes ≡ Some t in
-    let all : List Track → Type 0 = λ p. map Some p ≡ all_told_at now c.args.count c.args.at bytes in
+    let adds : Unit {0} → Type 0 =
+    λ _. AddsTold now (track_of (field at 8 bytes) now) at bytes c.loop.point c.add_told.new.point in
+    let all : List Track → Type 0 = λ p. AreTold now c.args.count c.args.at bytes p in
     let here = step_finds (λ j. all_told_tests l now j from at bytes) (λ j. all_told_tests l now j
     (field at 8 bytes + 1) (at + told_size at bytes) bytes) (told_tests l now from at bytes) (λ j. refl)
-    found all n c.in_err-track.field-0.0 (omega (arith, c.loop-test.true)) c.in_err-track.ensures in
+    adds all n c.in_err-add_told.field-0.0 (omega (arith, c.loop-test.true)) c.in_err-add_told.ensures in
     rw (p.1, p.2) (finds_alike all all (all_told_tests l now n from at bytes)
-    (all_told_tests l now c.args.count 0 c.args.at bytes) c.in_err-track.field-0.0 c.loop.invariant.tests here)
+    (all_told_tests l now c.args.count 0 c.args.at bytes) c.in_err-add_told.field-0.0 c.loop.invariant.tests here)
+
+pub overflow_sub-last : goal.overflow_sub-last
+overflow_sub-last c =
+    let one = c.in_ok-add_told.ensures.1 in
+    omega (arith, c.len-last.ensures.value, ap length one.added, length-append c.loop.point (one.track ∷ []))
+
+pub track_at-track-requires : goal.track_at-track-requires
+track_at-track-requires c =
+    let one = c.in_ok-add_told.ensures.1 in
+    omega (arith, c.len-last.ensures.value, ap length one.added, length-append c.loop.point (one.track ∷ []))
 
 pub told_len_at-next-requires-clause-within : goal.told_len_at-next-requires-clause-within
 told_len_at-next-requires-clause-within c = have_first (c.args.count - c.loop.counter) c.loop.next c.args.bytes.now
@@ -43,17 +57,22 @@ pub told_len_at-next-requires-clause-known : goal.told_len_at-next-requires-clau
 told_len_at-next-requires-clause-known c =
     known_mark c.args.limits c.args.current.now c.loop.from c.loop.next c.args.bytes.now
     (all_pass (told_tests c.args.limits c.args.current.now c.loop.from c.loop.next c.args.bytes.now)
-    c.in_ok-track.ensures.0)
+    c.in_ok-add_told.ensures.0)
 
 pub told_len_at-next-requires-clause-whole : goal.told_len_at-next-requires-clause-whole
-told_len_at-next-requires-clause-whole c = λ one.
-    told_whole c.args.current.now c.loop.next c.args.bytes.now c.in_ok-track.track c.in_ok-track.ensures.1 one
+told_len_at-next-requires-clause-whole c = λ mark.
+    let one = c.in_ok-add_told.ensures.1 in
+    let track : Track = c.track_at-track.result.now in
+    let same : track ≡ one.track = last_is c.loop.point c.add_told.new.point one.track track c.len-last.result one.added
+    c.len-last.ensures.value c.track_at-track.ensures in
+    ap unnumbered same
+    ∙ told_whole c.args.current.now c.loop.next c.args.bytes.now (unnumbered one.track) one.said mark
 
 pub overflow_add-next : goal.overflow_add-next
 overflow_add-next c =
     let bytes = c.args.bytes.now in
     let pass = all_pass (told_tests c.args.limits c.args.current.now c.loop.from c.loop.next bytes)
-    c.in_ok-track.ensures.0 in
+    c.in_ok-add_told.ensures.0 in
     let known = known_mark c.args.limits c.args.current.now c.loop.from c.loop.next bytes pass in
     let has = have_first (c.args.count - c.loop.counter) c.loop.next bytes (omega (arith, c.loop-test.true))
     c.loop.invariant.within in
@@ -63,17 +82,17 @@ pub overflow_add-from : goal.overflow_add-from
 overflow_add-from c =
     let bytes = c.args.bytes.now in
     let bounds = id_bounds c.args.limits c.args.current.now c.loop.from c.loop.next bytes
-    (all_pass (told_tests c.args.limits c.args.current.now c.loop.from c.loop.next bytes) c.in_ok-track.ensures.0) in
-    omega (arith, bounds.2, told_id c.args.current.now c.loop.next bytes c.in_ok-track.track c.in_ok-track.ensures.1)
-
-pub push-requires-clause-above : goal.push-requires-clause-above
-push-requires-clause-above c =
-    let bytes = c.args.bytes.now in
-    let bounds = id_bounds c.args.limits c.args.current.now c.loop.from c.loop.next bytes
-    (all_pass (told_tests c.args.limits c.args.current.now c.loop.from c.loop.next bytes) c.in_ok-track.ensures.0) in
-    let id = told_id c.args.current.now c.loop.next bytes c.in_ok-track.track c.in_ok-track.ensures.1 in
-    AllBelow-higher c.loop.from c.in_ok-track.track.id c.loop.point (omega (arith, bounds.1, id))
-    c.loop.invariant.below
+    (all_pass (told_tests c.args.limits c.args.current.now c.loop.from c.loop.next bytes) c.in_ok-add_told.ensures.0) in
+    let one = c.in_ok-add_told.ensures.1 in
+    let track : Track = c.track_at-track.result.now in
+    let same : track ≡ one.track = last_is c.loop.point c.add_told.new.point one.track track c.len-last.result one.added
+    c.len-last.ensures.value c.track_at-track.ensures in
+    omega (
+      arith,
+      bounds.2,
+      ap (λ (t : Track). t.id) same,
+      told_id c.args.current.now c.loop.next bytes (unnumbered one.track) one.said,
+    )
 
 pub loop-preserved : goal.loop-preserved
 loop-preserved c =
@@ -81,34 +100,54 @@ loop-preserved c =
     let l = c.args.limits in
     let now = c.args.current.now in
     let at = c.loop.next in
-    let track = c.in_ok-track.track in
+    let one = c.in_ok-add_told.ensures.1 in
+    let new : Track = one.track in
+    let plain : Track = unnumbered one.track in
+    let track : Track = c.track_at-track.result.now in
+    let same : track ≡ new = last_is c.loop.point c.add_told.new.point new track c.len-last.result one.added
+    c.len-last.ensures.value c.track_at-track.ensures in
     let n = c.args.count - c.loop.counter in
     let k = c.args.count - (c.loop.counter + 1) in
     let next = at + c.told_len_at-next.result in
     let some : 0 < n = omega (arith, c.loop-test.true) in
     let less : k ≡ n - 1 = omega arith in
     let behind : at + told_size at bytes ≡ next = ap (λ i. at + i) (sym c.told_len_at-next.ensures) in
-    let told = c.in_ok-track.ensures.1 in
-    let id : field at 8 bytes ≡ track.id = sym (told_id now at bytes track told) in
-    let pass = all_pass (told_tests l now c.loop.from at bytes) c.in_ok-track.ensures.0 in
+    let told : told_at now at bytes ≡ Some plain = one.said in
+    let id : field at 8 bytes ≡ track.id =
+    sym (told_id now at bytes plain told) ∙ ap (λ (t : Track). t.id) (sym same) in
+    let pass = all_pass (told_tests l now c.loop.from at bytes) c.in_ok-add_told.ensures.0 in
     let bounds = id_bounds l now c.loop.from at bytes pass in
-    let adds = step_adds (λ j. all_told_at now j at bytes) (λ j. all_told_at now j next bytes) (Some track)
-    (λ j. ap₂ (λ (x : Option Track) a. x ∷ all_told_at now j a bytes) told behind) (map Some c.loop.point) n k some
-    less in
+    let adds = step_adds (λ j. all_told_at now j at bytes) (λ j. all_told_at now j next bytes) (Some plain)
+    (λ j. ap₂ (λ (x : Option Track) a. x ∷ all_told_at now j a bytes) told behind)
+    (map Some (map unnumbered c.loop.point)) n k some less in
     let passes = step_passes (λ j. all_told_tests l now j c.loop.from at bytes)
     (λ j. all_told_tests l now j (track.id + 1) next bytes) (told_tests l now c.loop.from at bytes)
     (λ j. ap₂ (λ b a. told_tests l now c.loop.from at bytes ++ all_told_tests l now j (b + 1) a bytes) id behind) n k
-    some less c.in_ok-track.ensures.0 in
-    let point = c.in_ok-push.ensures.added in
-    let more : map Some c.push.new.self ≡ map Some c.loop.point ++ Some track ∷ [] =
-    ap (λ (ts : List Track). map Some ts) point ∙ map-append Some c.loop.point (track ∷ []) in
+    some less c.in_ok-add_told.ensures.0 in
+    let more = said_more c.loop.point c.add_told.new.point new one.added in
     record {
       told = ap (λ xs. xs ++ all_told_at now k next bytes) more ∙ adds ∙ c.loop.invariant.told;
       tests = passes ∙ c.loop.invariant.tests;
       within = have_rest n k at next bytes some less (sym behind) (known_mark l now c.loop.from at bytes pass)
           c.loop.invariant.within;
-      below = subst (AllBelow (track.id + 1)) (sym point) (AllBelow-push (track.id + 1) c.loop.point track
+      below = subst (AllBelow (track.id + 1)) (sym one.added) (AllBelow-push (track.id + 1) c.loop.point new
           (AllBelow-higher c.loop.from (track.id + 1) c.loop.point (omega (arith, bounds.1, id))
-          c.loop.invariant.below) (omega arith));
-      many = omega (arith, ap length point, length-append c.loop.point (track ∷ []), c.loop.invariant.many);
+          c.loop.invariant.below) (omega (arith, ap (λ (t : Track). t.id) same)));
+      many = omega (arith, ap length one.added, length-append c.loop.point (new ∷ []), c.loop.invariant.many);
+      numbers = subst (AreNewOrCurrent now) (sym one.added)
+          (all_append (IsNewOrCurrent now) c.loop.point (new ∷ []) c.loop.invariant.numbers (one.number, tt));
     }
+
+pub returns : goal.returns
+returns c =
+    let bytes = c.args.bytes.now in
+    let l = c.args.limits in
+    let now = c.args.current.now in
+    let n = c.args.count - c.loop.counter in
+    let none : n ≡ 0 = omega (arith, c.loop-test.false) in (
+      passed_all l now n c.loop.from c.loop.next bytes _ none c.loop.invariant.tests,
+      record {
+        said = said_all now n c.loop.next bytes (map Some (map unnumbered c.loop.point)) _ none c.loop.invariant.told;
+        numbers = c.loop.invariant.numbers;
+      },
+    )

@@ -12,7 +12,9 @@ use Rattle.record_body.specs.ChangeTests.{delta_tests}
 use Rattle.record_body.specs.DeltaBodies.{SaysBody}
 use Rattle.record_body.specs.FirstFault.{Finds}
 use Rattle.record_body.specs.Laws.{HasShortEnds}
+use Rattle.record_body.specs.Numbers.{unnumbered_body}
 use Rattle.record_body.specs.Sound.{IsSound, IsSoundPoint}
+use Rattle.record_body.specs.Told.{BodyShares, ReadsBody}
 use Rattle.record_body.proofs.DeltaBack.{delta_read_back}
 use Rattle.record_body.proofs.Numbers.{AreBytes}
 use Rattle.record_body.proofs.SaysOnce.{says_once}
@@ -20,19 +22,33 @@ use Rattle.record_body.proofs.ToldBack.{are_short}
 use Rattle.record_body.proofs.ToldSound.{delta_sound}
 use Rattle.record_body.proofs.delta_reading.read_delta_body.Goals as goal
 
+found_of : (m : ℕ) (b : Before) (current : List Track) (bytes : List ℕ) (r : Result Body BadBody)
+    → Finds (delta_tests m b current bytes) (ReadsBody current bytes) r
+    → Finds (delta_tests m b current bytes) (λ x. SaysBody current bytes (unnumbered_body x)) r
+found_of m b current bytes (Ok body) found = (found.0, found.1.0)
+found_of m b current bytes (Err bad.NoMemory) found = tt
+found_of m b current bytes (Err (bad.Damaged fault)) found = found
+
+shared_of : (m : ℕ) (b : Before) (current : List Track) (bytes : List ℕ) (r : Result Body BadBody)
+    → Finds (delta_tests m b current bytes) (ReadsBody current bytes) r → IfOk r (BodyShares current)
+shared_of m b current bytes (Ok body) found = found.1.1
+shared_of m b current bytes (Err e) found = tt
+
 valid : (m : ℕ) (b : Before) (current : List Track) (bytes : List ℕ) → AreBytes bytes → (r : Result Body BadBody)
-    → Finds (delta_tests m b current bytes) (SaysBody current bytes) r → (next : ℕ)
-    → IsSoundPoint m b.next_block next current → IfOk r (λ x. IsSound m b x)
-valid m b current bytes fit (Ok body) found next is = delta_sound m b next current bytes body fit is found.0 found.1
+    → Finds (delta_tests m b current bytes) (ReadsBody current bytes) r → (next : ℕ)
+    → IsSoundPoint m b.next_block next current → IfOk r (λ x. IsSound m b (unnumbered_body x))
+valid m b current bytes fit (Ok body) found next is =
+    delta_sound m b next current bytes (unnumbered_body body) fit is found.0 found.1.0
 valid m b current bytes fit (Err e) found next is = tt
 
 back : (m : ℕ) (b : Before) (current : List Track) (bytes : List ℕ) (body : Body) → delta_spelling current body ≡ bytes
     → IsSound m b body → 4 ≤ m → m < 2 ^ 32 → b.commits < 2 ^ 62 → HasShortEnds current → (r : Result Body BadBody)
-    → Finds (delta_tests m b current bytes) (SaysBody current bytes) r
-    → MatchResult r (λ x. x ≡ body) (λ e. e ≡ bad.NoMemory)
+    → Finds (delta_tests m b current bytes) (ReadsBody current bytes) r
+    → MatchResult r (λ x. unnumbered_body x ≡ body) (λ e. e ≡ bad.NoMemory)
 back m b current bytes body e sound least most room short (Ok x) found =
     let read = delta_read_back m b current body least most room (are_short current short) sound in
-    says_once current bytes x body found.1 (subst (λ (bs : List ℕ). SaysBody current bs body) e read.says)
+    says_once current bytes (unnumbered_body x) body found.1.0
+    (subst (λ (bs : List ℕ). SaysBody current bs body) e read.says)
 back m b current bytes body e sound least most room short (Err bad.NoMemory) found = refl
 back m b current bytes body e sound least most room short (Err (bad.Damaged fault)) found =
     let read = delta_read_back m b current body least most room (are_short current short) sound in
@@ -42,6 +58,14 @@ back m b current bytes body e sound least most room short (Err (bad.Damaged faul
   where
     none_some : None ≡ Some fault → ⊥
     none_some q = cc
+
+pub returns-clause-found : goal.returns-clause-found
+returns-clause-found c =
+    found_of c.args.m c.args.before c.args.current.now c.args.bytes.now c.read_by.result c.read_by.ensures
+
+pub returns-clause-shared : goal.returns-clause-shared
+returns-clause-shared c =
+    shared_of c.args.m c.args.before c.args.current.now c.args.bytes.now c.read_by.result c.read_by.ensures
 
 pub returns-clause-valid : goal.returns-clause-valid
 returns-clause-valid c = λ next is. valid c.args.m c.args.before c.args.current.now c.args.bytes.now

@@ -1,14 +1,14 @@
 -- The fields in front, and the tracks.
-use Rattle.std.proofs.Common.{◌≡◌, ℕ, List, Some, map, ap₂, ◌∙◌, sym, arith}
+use Rattle.std.proofs.Common.{◌≡◌, ℕ, List, ap, ap₂, ◌∙◌, sym, arith}
 use Rattle.std.proofs.lemmas.Result.{err_from_is_err_and}
 use Rattle.project_journal.specs.Header.{first_failed}
 use Rattle.record_body.specs.declared.limits.Limits.{Limits}
 use Rattle.project_state.specs.declared.track.Track.{Track}
 use Rattle.record_body.specs.ChangePlaces.{all_told_at}
 use Rattle.record_body.specs.ChangeTests.{all_told_tests, delta_edit_tests}
-use Rattle.record_body.specs.DeltaBodies.{SaysEdit}
 use Rattle.record_body.specs.FirstFault.{head_tests, limits_at}
 use Rattle.record_body.specs.Places.{track_count}
+use Rattle.record_body.specs.Told.{AreTold, ReadsEdit}
 use Rattle.record_body.proofs.Passing.{all_pass, passed, failed}
 use Rattle.record_body.proofs.SoundBodies.{few_tracks}
 use Rattle.record_body.proofs.Steps.{finds_alike}
@@ -47,6 +47,35 @@ returns-in_err-point c =
     ∙ sym (passed (head_tests before bytes)
     (all_told_tests (limits_at c.args.m before bytes) now (track_count bytes) 0 29 bytes) c.in_ok-test_head.ensures.0)
     in
-    let found : List Track → Type 0 = λ x. map Some x ≡ all_told_at now c.u32_at.result 29 bytes in
-    rw (p.1, p.2) (finds_alike found (SaysEdit now bytes) tests
+    let found : List Track → Type 0 = λ x. AreTold now c.u32_at.result 29 bytes x in
+    rw (p.1, p.2) (finds_alike found (ReadsEdit now bytes) tests
     (delta_edit_tests c.args.m before now bytes) c.in_err-point.field-0.0 all c.in_err-point.ensures)
+
+pub returns : goal.returns
+returns c =
+    let bytes = c.args.bytes.now in
+    let before = c.args.before in
+    let now = c.args.current.now in
+    let limits : ℕ → ℕ → Limits =
+    λ block track. record { base = before.at; block_size = c.args.m; next_block = block; next_track = track } in
+    let l = limits c.u64_at-next_block.result c.u64_at-next_track.result in
+    let same : l ≡ limits_at c.args.m before bytes =
+    ap₂ limits c.u64_at-next_block.ensures c.u64_at-next_track.ensures in
+    let tests = all_told_tests l now c.u32_at.result 0 29 bytes in
+    let all : first_failed tests ≡ first_failed (delta_edit_tests c.args.m before now bytes) =
+    ap₂ (λ x n. first_failed (all_told_tests x now n 0 29 bytes)) same c.u32_at.ensures
+    ∙ sym (passed (head_tests before bytes)
+    (all_told_tests (limits_at c.args.m before bytes) now (track_count bytes) 0 29 bytes) c.in_ok-test_head.ensures.0)
+    in
+    let told = c.in_ok-point.ensures.1 in (
+      sym all ∙ c.in_ok-point.ensures.0,
+      (
+        (
+          c.u64_at.ensures,
+          c.u64_at-next_block.ensures,
+          c.u64_at-next_track.ensures,
+          told.said ∙ ap (λ (n : ℕ). all_told_at now n 29 bytes) c.u32_at.ensures,
+        ),
+        told.numbers,
+      ),
+    )

@@ -8,6 +8,7 @@ use Rattle.project_journal.specs.Reader.{Goes, Rises, last_record, reader_form}
 use Rattle.record_body.specs.Kept.{Kept, version_of}
 use Rattle.record_fold.specs.Faults.{says}
 use Rattle.record_fold.specs.Folds.{kept_of}
+use Rattle.record_fold.proofs.Few.{few_more, few_most}
 use Rattle.record_fold.proofs.Stepping.{after_commit}
 use Rattle.record_fold.proofs.Journals.{so_none, so_more, so_done, so_early, so_fault, none_here, none_turn, later_none}
 use Rattle.record_fold.proofs.Journals.{later_turn, step_of, fault_of}
@@ -20,6 +21,8 @@ records-init g c = record {
   placed = c.requires.brought.reading.placed;
   later = later_none c.args.reader.now;
   commits = omega (arith, c.requires.commit);
+  numbers = c.requires.numbers;
+  few = c.requires.few;
   so_far = record {
     brought = c.requires.brought;
     so = so_none g.S.Store c.args.store.now c.args.reader.now (version_of (reader_form c.args.reader.now)) c.args.m
@@ -41,6 +44,8 @@ records-preserved g c =
     let step = step_of c.args.version v c.args.m old new c.next.new.self.window.file r c.requires.version
     c.in_ok-fold_last-in-Whole.ensures.folds in
     let commit = after_commit old (says v old r.1) in
+    let reading = subst (λ (n : Next). Goes g.S.Store c.next.new.store c.next.new.self points so.records n)
+    c.in-Whole.is (c.in_ok-next.ensures.goes points so.records so.reading) in
     record {
       kept = kept_turn inv.kept c.next.ensures.kept;
       no_fault =
@@ -48,12 +53,14 @@ records-preserved g c =
       placed = rises.0;
       later = later_turn c.args.reader.now c.records.reader c.next.new.self inv.later c.in_ok-next.ensures.later;
       commits = omega (arith, ap (λ (k : Kept). k.commit) step.is, commit, rises.1, inv.commits);
+      numbers = c.in_ok-fold_last-in-Whole.ensures.numbers;
+      few = few_more g.S.Store c.records.store c.next.new.store c.records.reader c.next.new.self points so.records
+          c.records.project.numbered.next c.fold_last.new.project.numbered.next c.in_ok-next.ensures.later so.reading
+          reading c.in_ok-fold_last-in-Whole.ensures.few inv.few;
       so_far = record {
         brought = inv.so_far.brought;
         so = so_more g.S.Store c.records.store c.next.new.store c.records.reader c.next.new.self v c.args.m points
-            (kept_of c.args.project) old new so
-            (subst (λ (n : Next). Goes g.S.Store c.next.new.store c.next.new.self points so.records n) c.in-Whole.is
-            (c.in_ok-next.ensures.goes points so.records so.reading)) step;
+            (kept_of c.args.project) old new so reading step;
       };
     }
 
@@ -82,6 +89,7 @@ returns-in-Shut-clause-folds g c =
     let later = later_turn c.args.reader.now c.records.reader c.next.new.self inv.later c.in_ok-next.ensures.later in
     so_done g.S.Store c.args.store.now c.args.reader.now c.args.m (kept_of c.args.project) inv.so_far.brought
     c.requires.size c.next.new.store c.next.new.self later c.records.store c.records.reader c.records.project so
+    inv.numbers inv.few c.in_ok-next.ensures.later
     (subst (λ (n : Next). Goes g.S.Store c.next.new.store c.next.new.self points so.records n) c.in-Shut.is
     (c.in_ok-next.ensures.goes points so.records so.reading))
 
@@ -101,6 +109,11 @@ returns-in-Early-clause-folds g c =
 
 pub fold_last-requires-clause-valid : goal.fold_last-requires-clause-valid
 fold_last-requires-clause-valid g c = c.records.invariant.so_far.so.valid
+
+pub fold_last-requires-clause-layouts : goal.fold_last-requires-clause-layouts
+fold_last-requires-clause-layouts g c =
+    let inv = c.records.invariant in
+    few_most c.records.reader c.records.project.numbered.next inv.placed inv.few
 
 pub returns-in_err-next-clause-kept : goal.returns-in_err-next-clause-kept
 returns-in_err-next-clause-kept g c = kept_turn c.records.invariant.kept c.next.ensures.kept

@@ -4,7 +4,8 @@ use Rattle.disk_model.specs.Frames.{Kept as IsKept}
 use Rattle.project_journal.specs.Answer.{NoFault}
 use Rattle.project_journal.specs.Reader.{IsPlaced, IsLater, reader_form}
 use Rattle.record_body.specs.Kept.{version_of}
-use Rattle.record_fold.specs.Folds.{kept_of}
+use Rattle.record_fold.specs.Folds.{kept_of, HasLayoutNumbers}
+use Rattle.record_fold.specs.Heads.{DrawsFew}
 use Rattle.record_fold.proofs.Journals.{FoldedSoFar}
 use Rattle.record_fold.proofs.folding.fold_records.Given as goal
 
@@ -15,6 +16,8 @@ invariant-records g l = record {
   placed : IsPlaced l.reader;
   later : IsLater l.fn.reader l.reader;
   commits : l.project.commit ≤ 2 ^ 62 + l.reader.at;
+  numbers : HasLayoutNumbers l.project;
+  few : DrawsFew l.project.numbered.next l.reader;
   so_far : FoldedSoFar g.S.Store l.fn.store l.fn.reader l.store l.reader (version_of (reader_form l.fn.reader)) l.fn.m
       (kept_of l.fn.project) (kept_of l.project);
 }

@@ -1,8 +1,10 @@
--- How far the points were read.
-use Rattle.std.proofs.Common.{◌≡◌, length}
+-- How far the points were read. Their layouts have numbers, for each of which the header has 9 bytes so far.
+use Rattle.std.proofs.Common.{◌≡◌, ◌+◌, ◌*◌, ◌≤◌, length}
 use Rattle.disk_model.specs.Frames.{Kept as IsKept}
 use Rattle.project_journal.specs.Answer.{NoFault}
 use Rattle.project_journal.specs.Reader.{IsLater, reader_form}
+use Rattle.project_state.specs.Numbers.{unnumbered_history}
+use Rattle.layout_uses.specs.Drawing.{IsNumbered}
 use Rattle.record_fold.proofs.Pointed.{PointsSoFar}
 use Rattle.record_fold.proofs.heading.read_points.Given as goal
 
@@ -12,7 +14,9 @@ invariant-loop g l = record {
   no_fault : NoFault g.S.Store l.fn.store l.store;
   later : IsLater l.fn.reader l.reader;
   so_far : PointsSoFar g.S.Store l.store l.reader l.fn.m (reader_form l.fn.reader).header_size l.fn.reader.base
-      l.history.history.points;
-  count : length l.history.history.points ≡ l.counter;
-  depth : l.history.history.depth ≡ l.fn.reader.depth;
+      (unnumbered_history l.numbered.history.history).points;
+  count : length l.numbered.history.history.points ≡ l.counter;
+  depth : l.numbered.history.history.depth ≡ l.fn.reader.depth;
+  numbers : IsNumbered l.numbered.history.history l.numbered.next;
+  few : 9 * l.numbered.next + 16 * l.counter + (reader_form l.fn.reader).header_size ≤ 9 + l.reader.at;
 }

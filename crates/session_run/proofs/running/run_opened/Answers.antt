@@ -1,6 +1,7 @@
 -- A session on a studio that was opened.
 use Rattle.std.proofs.Common.{inl, inr, refl, ap, subst, ◌∙◌, ◌≡◌, ◌||◌, ℕ}
-use Rattle.editor_core.specs.Core.{Core, core_of}
+use Rattle.editor_state.specs.Core.{Core}
+use Rattle.editor_core.specs.Core.{core_of}
 use Rattle.script_text.specs.Last.{last_text}
 use Rattle.script_session.specs.Change.{change}
 use Rattle.desk_session.specs.Lent.{kinds}

@@ -1,8 +1,8 @@
 -- The head, and then the frames.
-use Rattle.std.proofs.Common.{◌≡◌, ℕ, ◌++◌, Bool, List, length, Some, sym, ap, subst, ◌∙◌, arith}
+use Rattle.std.proofs.Common.{◌≡◌, ℕ, ◌++◌, Bool, List, length, Some, sym, ap, subst, ◌∙◌, arith, Result}
 use Rattle.std.specs.Prelude.{IsTrue}
 use Rattle.std.proofs.lemmas.Result.{err_from_is_err_and}
-use Rattle.disk_model.proofs.Frames.{kept_none}
+use Rattle.block_store.specs.declared.fault.BlockFault.{BlockFault}
 use Rattle.pcm_base.specs.declared.sound.Frame.{Frame}
 use Rattle.pcm_base.specs.Mix.{mix_of}
 use Rattle.edit_ports.specs.Sounds.{sound_bytes}
@@ -11,22 +11,23 @@ use Rattle.cell_view.specs.Stored.{stored_of}
 use Rattle.wav_pcm.specs.Wavs.{wav_head}
 use Rattle.pcm_base.specs.Recordings.{frame_bytes}
 use Rattle.wav_pcm.specs.Written.{MayBegin}
-use Rattle.block_cache.proofs.CacheLaws.{keeps_same, same_none}
+use Rattle.block_cache.specs.Readers.{Reads}
+use Rattle.block_cache.proofs.ReaderLaws.{reads_none}
 use Rattle.mix_view.specs.Tracks.{mix_length_of}
 use Rattle.mix_view.proofs.TrackLaws.{stored_whole}
 use Rattle.wav_pcm.proofs.GrowLaws.{begun_more, begun_front}
 use Rattle.sound_export.proofs.GrowLaws.{length_mix, whole_text, device_fits, no_damage, start_long}
-use Rattle.sound_export.proofs.GrowLaws.{start_counted, start_sound}
+use Rattle.sound_export.proofs.GrowLaws.{start_counted, start_read, start_sound}
 use Rattle.sound_export.specs.Written.{IsLengthFault}
 use Rattle.sound_export.proofs.export.write_mix.Goals as goal
 
 pub returns-in_err-append_mix-clause-whole : goal.returns-in_err-append_mix-clause-whole
 returns-in_err-append_mix-clause-whole g c =
-    λ whole. stored_whole (g.S.Store.reads c.args.store.now) c.args.point.now whole
+    λ whole. stored_whole (g.S.Store.reads c.args.reader.now.store) c.args.point.now whole
 
 pub returns-in_err-append_mix-clause-failed : goal.returns-in_err-append_mix-clause-failed
 returns-in_err-append_mix-clause-failed g c = λ told mine.
-    let src = stored_of (g.S.Store.reads c.args.store.now) in
+    let src = stored_of (g.S.Store.reads c.args.reader.now.store) in
     let mix : List Frame = mix_of (meant src c.args.point.now) in
     let name = c.args.name.now in
     let old = g.V.Vault.holds c.args.vault.now name in
@@ -54,15 +55,15 @@ pub returns-in_err-append_mix-clause-sound : goal.returns-in_err-append_mix-clau
 returns-in_err-append_mix-clause-sound g c = λ mine whole.
     let p = err_from_is_err_and c.from_residual.result c.from_residual.ensures.1 in
     rw (p.1, p.2)
-    (no_damage (g.S.Store.reads c.args.store.now) (point_blocks c.args.point.now) _ whole
-    (c.in_err-append_mix.ensures.damaged mine))
+    (no_damage (g.S.Store.reads c.args.reader.now.store) (point_blocks c.args.point.now) _ whole
+    (c.in_err-append_mix.ensures.reads.damaged mine))
 
 pub returns-clause-whole : goal.returns-clause-whole
-returns-clause-whole g c = λ whole. stored_whole (g.S.Store.reads c.args.store.now) c.args.point.now whole
+returns-clause-whole g c = λ whole. stored_whole (g.S.Store.reads c.args.reader.now.store) c.args.point.now whole
 
 pub returns-clause-written : goal.returns-clause-written
 returns-clause-written g c = λ told mine.
-    let src = stored_of (g.S.Store.reads c.args.store.now) in
+    let src = stored_of (g.S.Store.reads c.args.reader.now.store) in
     let mix : List Frame = mix_of (meant src c.args.point.now) in
     let len : c.mix_len-len.result ≡ length mix =
     sym (length_mix (meant src c.args.point.now) ∙ c.mix_len-len.ensures.frames src) in
@@ -72,15 +73,12 @@ returns-clause-written g c = λ told mine.
     ∙ ap (λ o. Some (sound_bytes o ++ frame_bytes mix)) (c.in_default.ensures.started told)
     ∙ ap Some (whole_text mix c.args.rate c.mix_len-len.result len)
 
-pub returns-in-Err-clause-kept : goal.returns-in-Err-clause-kept
-returns-in-Err-clause-kept g c = kept_none _ (g.met.S.Store.may_fewer _)
-
 pub returns-in-Err-clause-whole : goal.returns-in-Err-clause-whole
-returns-in-Err-clause-whole g c = λ whole. stored_whole (g.S.Store.reads c.args.store.now) c.args.point.now whole
+returns-in-Err-clause-whole g c = λ whole. stored_whole (g.S.Store.reads c.args.reader.now.store) c.args.point.now whole
 
 pub returns-in-Err-clause-failed : goal.returns-in-Err-clause-failed
 returns-in-Err-clause-failed g c = λ told mine.
-    let src = stored_of (g.S.Store.reads c.args.store.now) in
+    let src = stored_of (g.S.Store.reads c.args.reader.now.store) in
     let mix : List Frame = mix_of (meant src c.args.point.now) in
     let name = c.args.name.now in
     let old = g.V.Vault.holds c.args.vault.now name in
@@ -97,12 +95,25 @@ returns-in-Err-clause-long g c =
     subst L c.mix_len-len.ensures.value
     (start_long c.mix_len-len.result c.in-Err.why c.start_fault.result c.in-Err.ensures.refused c.start_fault.ensures)
 
-pub returns-in-Err-clause-cache : goal.returns-in-Err-clause-cache
-returns-in-Err-clause-cache g c = keeps_same _ _ _ _ _ (same_none _)
+-- nothing was read
+pub returns-in-Err-clause-reads : goal.returns-in-Err-clause-reads
+returns-in-Err-clause-reads g c =
+    subst (λ (r : Result (Unit {0}) BlockFault).
+    Reads (point_blocks c.args.point.now) c.args.reader.now c.args.reader.now r)
+    (sym (start_read c.in-Err.why c.start_fault.result c.start_fault.ensures))
+    (reads_none _ _ tt (g.met.S.Store.may_fewer _))
+
+pub returns-in_err-append_mix-clause-reads : goal.returns-in_err-append_mix-clause-reads
+returns-in_err-append_mix-clause-reads g c =
+    let p = err_from_is_err_and c.from_residual.result c.from_residual.ensures.1 in
+    rw (p.1, p.2) c.in_err-append_mix.ensures.reads
+
+pub returns-clause-reads : goal.returns-clause-reads
+returns-clause-reads g c = c.in_ok-append_mix.ensures.reads
 
 pub returns-in-Err-clause-faults : goal.returns-in-Err-clause-faults
 returns-in-Err-clause-faults g c =
-    start_counted (g.S.Store.read_fault_count c.args.store.now) (g.V.Vault.fault_count c.args.vault.now)
+    start_counted (g.V.Vault.fault_count c.args.vault.now)
     (g.V.Vault.fault_count c.start_wav.new.vault) c.mix_len-len.result c.in-Err.why c.start_fault.result
     c.in-Err.ensures.refused c.in-Err.ensures.faults c.start_fault.ensures
 

@@ -1,10 +1,9 @@
 -- The frames so far are appended.
-use Rattle.std.proofs.Common.{◌≡◌, ◌≤◌, ◌-◌, ◌++◌, take, Some}
+use Rattle.std.proofs.Common.{◌≡◌, ◌≤◌, ◌-◌, ◌++◌, take, Ok, Some}
 use Rattle.std.specs.Prelude.{IsTrue}
-use Rattle.disk_model.specs.Frames.{Kept}
 use Rattle.pcm_base.specs.Outside.{SameElsewhere}
 use Rattle.edit_ports.specs.Sounds.{sound_bytes}
-use Rattle.block_cache.specs.Caches.{KeepsCache}
+use Rattle.block_cache.specs.Readers.{Reads}
 use Rattle.project_state.specs.Meaning.{point_blocks}
 use Rattle.mix_view.specs.Readers.{IsReader}
 use Rattle.mix_view.specs.Tracks.{stored_mix}
@@ -13,21 +12,18 @@ use Rattle.sound_export.proofs.stretch.append_mix.Given as goal
 
 abbrev pub invariant-stretches : goal.invariant-stretches
 invariant-stretches g l = record {
-  within : l.reader.at ≤ l.len;
-  reader : IsReader l.reader;
-  point : l.reader.point.now ≡ l.point;
-  cache : KeepsCache (g.S.Store.tells l.fn.store) (g.S.Store.reads l.fn.store) (point_blocks l.point) l.fn.cache
-      l.cache;
+  within : l.mix.at ≤ l.len;
+  reader : IsReader l.mix;
+  point : l.mix.point.now ≡ l.point;
+  reads : Reads (point_blocks l.point) l.fn.reader l.reader (Ok (tt {0}));
   tells : g.V.Vault.tells l.vault ≡ g.V.Vault.tells l.fn.vault;
   others : IsTrue (g.V.Vault.tells l.fn.vault)
       → SameElsewhere l.name (g.V.Vault.holds l.fn.vault) (g.V.Vault.holds l.vault);
-  kept : Kept g.S.Store l.fn.store l.store;
-  count : g.S.Store.read_fault_count l.store ≡ g.S.Store.read_fault_count l.fn.store;
   faults : g.V.Vault.fault_count l.vault ≡ g.V.Vault.fault_count l.fn.vault;
-  held : IsTrue (g.V.Vault.tells l.fn.vault) → IsTrue (g.S.Store.tells l.fn.store)
+  held : IsTrue (g.V.Vault.tells l.fn.vault) → IsTrue (g.S.Store.tells l.fn.reader.store)
       → g.V.Vault.holds l.vault l.name ≡ Some (sound_bytes (g.V.Vault.holds l.fn.vault l.name)
-      ++ frame_bytes (take l.reader.at (stored_mix (g.S.Store.reads l.fn.store) l.point)));
+      ++ frame_bytes (take l.mix.at (stored_mix (g.S.Store.reads l.fn.reader.store) l.point)));
 }
 
 abbrev pub decreases-stretches : goal.decreases-stretches
-decreases-stretches g l = l.len - l.reader.at
+decreases-stretches g l = l.len - l.mix.at

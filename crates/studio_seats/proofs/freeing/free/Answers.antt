@@ -1,7 +1,7 @@
 -- A reclaim in a turn of the seat.
 use Rattle.pcm_base.specs.declared.answer.Reply.TheVariants.{Freed}
 use Rattle.pin_turn.specs.Calls.{known}
-use Rattle.editor_core.specs.Took.{told_by}
+use Rattle.editor_state.specs.Took.{told_by}
 use Rattle.studio_seats.specs.Desks.{start_at}
 use Rattle.studio_seats.proofs.RecordingLemmas.{frees_turn}
 use Rattle.studio_seats.proofs.freeing.free.Goals as goal

@@ -14,18 +14,19 @@ use Rattle.wav_pcm.specs.declared.heads.WavHead.{WavHead}
 use Rattle.sound_import.specs.Reading.{brought_from}
 use Rattle.edit_ops.specs.declared.types.NewBlock.{NewBlock}
 use Rattle.record_body.specs.Kept.{current_tracks}
-use Rattle.editor_core.specs.Applied.{Lasts}
+use Rattle.editor_state.specs.Applied.{Lasts}
 use Rattle.editor_core.specs.Core.{core_of}
-use Rattle.editor_core.specs.Imports.{IsInsideOr, channels_refusal, left_as, parts_from, total_of}
-use Rattle.editor_core.specs.Made.{AllInOrder}
-use Rattle.editor_core.specs.Took.{Took, told_by, with_sound}
-use Rattle.editor_core.proofs.Applying.{lasts_idle}
-use Rattle.editor_core.proofs.AsksNoVault.{inside_counted, inside_or}
-use Rattle.editor_core.proofs.ChannelLaws.{channels_plain, channels_tell, parts_counts, total_alike}
-use Rattle.editor_core.proofs.ChannelSteps.{channels_refused}
-use Rattle.editor_core.proofs.HeadChannels.{sound_edit, sound_planned}
-use Rattle.editor_core.proofs.ImportRefused.{counted_so, import_wants}
-use Rattle.editor_core.proofs.ImportTests.{channels_pass}
+use Rattle.editor_state.specs.Vaults.{IsInsideOr, left_as}
+use Rattle.editor_imports.specs.Imports.{channels_refusal, parts_from, total_of}
+use Rattle.editor_state.specs.Made.{AllInOrder}
+use Rattle.editor_state.specs.Took.{Took, told_by, with_sound}
+use Rattle.editor_state.proofs.Calls.VaultCalls.{lasts_idle}
+use Rattle.editor_state.proofs.Refusals.VaultRefusals.{inside_counted, inside_or}
+use Rattle.editor_imports.proofs.ChannelLaws.{channels_plain, channels_tell, parts_counts, total_alike}
+use Rattle.editor_imports.proofs.ChannelSteps.{channels_refused}
+use Rattle.editor_imports.proofs.HeadChannels.{sound_edit, sound_planned}
+use Rattle.editor_imports.proofs.ImportRefusals.{counted_so, import_wants}
+use Rattle.editor_imports.proofs.ChannelTests.{channels_pass}
 use Rattle.editor_core.proofs.studio.Studio.add_channels.Goals as goal
 
 -- ---- no memory for the counts

@@ -3,10 +3,10 @@ use Rattle.std.proofs.Common.{refl, subst, Result, Ok, Err}
 use Rattle.pcm_base.specs.declared.answer.Reply.{Reply}
 use Rattle.pcm_base.specs.declared.command.Call.TheVariants.{Line}
 use Rattle.pcm_base.specs.declared.refusal.Refusal.{Refusal}
-use Rattle.editor_core.specs.Applied.{TookOver}
+use Rattle.editor_state.specs.Applied.{TookOver}
 use Rattle.editor_core.specs.Core.{core_of}
-use Rattle.editor_core.specs.Imports.{VaultCounted}
-use Rattle.editor_core.proofs.Applying.{spanned}
+use Rattle.editor_state.specs.Vaults.{VaultCounted}
+use Rattle.editor_state.proofs.Calls.VaultCalls.{spanned}
 use Rattle.editor_core.proofs.studio.Studio.apply.Goals as goal
 
 pub returns-in-Ok-clause-applied : goal.returns-in-Ok-clause-applied

@@ -1,10 +1,10 @@
 -- What the parts make is a studio, which a disk with what they stand for holds.
 use Rattle.std.proofs.Common.{◌≡◌, sym, subst, []}
 use Rattle.block_cache.specs.Caches.{no_entries}
-use Rattle.editor_core.specs.Core.{Core}
+use Rattle.editor_state.specs.Core.{Core}
 use Rattle.editor_core.specs.Parts.{assembled}
-use Rattle.editor_core.specs.Studios.{IsHeld, IsStudio}
-use Rattle.editor_core.proofs.Assembling.{assembles, holds}
+use Rattle.editor_state.specs.Studios.{IsHeld, IsStudio}
+use Rattle.editor_core.proofs.StudioParts.{assembles, holds}
 use Rattle.editor_core.proofs.studio.Studio.assemble.Goals as goal
 
 pub returns-clause-studio : goal.returns-clause-studio
@@ -26,3 +26,7 @@ returns-clause-held g c has =
     subst (λ (z : Core g.row.S.Denot). IsHeld g.S.Store z)
     (λ i. record s { cache = sym none i; pins = sym pins i; block_size = sym size i })
     (holds g.S.Store c.args.store c.args.parts has)
+
+-- a cache without entries is right of any files
+pub invariant_of-reader : goal.invariant_of-reader
+invariant_of-reader g c = record { right = λ told. c.in-Ok.ensures.right (g.S.Store.reads c.args.store) }

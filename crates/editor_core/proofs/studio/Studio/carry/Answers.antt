@@ -4,13 +4,16 @@ use Rattle.std.proofs.Common.{List, length}
 use Rattle.std.proofs.Common.{zero, [], vec_capacity, Err, arith}
 use Rattle.std.proofs.lemmas.Result.{err_from_is_err_and}
 use Rattle.record_body.specs.Kept.{current_tracks}
-use Rattle.editor_core.specs.Edits.{BlockCommit, Carried, IsPrepared, NotPrepared}
-use Rattle.editor_core.specs.Adding.{Adds}
-use Rattle.editor_core.specs.Bodies.{all_bytes, all_len, bodies_by, bytes_by, whole_len, writing}
-use Rattle.editor_core.specs.Core.{Core, core_of}
-use Rattle.editor_core.specs.Imports.{IsInsideOr}
-use Rattle.editor_core.specs.Made.{batch_of, ids_from}
-use Rattle.editor_core.specs.Makes.{AreSynced, Making, RefusedBrought, Stuck}
+use Rattle.block_cache.specs.Caches.{AllPass}
+use Rattle.editor_state.specs.Edits.{BlockCommit, Carried, IsPrepared, NotPrepared}
+use Rattle.editor_state.specs.Adding.{Adds}
+use Rattle.editor_state.specs.Bodies.{all_bytes, all_len, bodies_by, bytes_by, whole_len, writing}
+use Rattle.editor_state.specs.Core.{Core}
+use Rattle.editor_core.specs.Core.{core_of}
+use Rattle.editor_state.specs.Vaults.{IsInsideOr}
+use Rattle.editor_state.specs.Made.{batch_of, ids_from}
+use Rattle.editor_state.specs.Makes.{AreSynced, Making, RefusedBrought, Stuck}
+use Rattle.editor_state.specs.Studios.{is_block, is_given}
 use Rattle.pcm_base.specs.declared.limits.TheConstants.{LONGEST_BODY}
 use Rattle.project_journal.specs.Journal.{AreWaiting, rows_length}
 use Rattle.project_journal.proofs.Together.{opened_length}
@@ -18,11 +21,13 @@ use Rattle.record_body.specs.declared.body.Body.{Body}
 use Rattle.project_state.specs.declared.track.Track.{Track}
 use Rattle.record_body.specs.Batches.{with_point}
 use Rattle.piece_store.proofs.BringLaws.{any_brought}
-use Rattle.editor_core.proofs.AsksNoVault.{adds_counted, adds_inside, inside_counted, inside_or, unprepared_asks}
-use Rattle.editor_core.proofs.BodyBytes.{rows_count}
-use Rattle.editor_core.proofs.CarriedEdits.{carried_by}
-use Rattle.editor_core.proofs.Editing.{current_agrees}
-use Rattle.editor_core.proofs.Serving.{brought_inside}
+use Rattle.editor_state.proofs.Refusals.VaultRefusals.{adds_counted, adds_inside, inside_counted, inside_or}
+use Rattle.editor_state.proofs.Refusals.VaultRefusals.{unprepared_asks}
+use Rattle.editor_commits.proofs.BodyBytes.{rows_count}
+use Rattle.editor_edits.proofs.CarryOrder.{carried_by}
+use Rattle.editor_commits.proofs.CurrentProject.{current_agrees}
+use Rattle.editor_edits.proofs.VaultCuts.{brought_inside}
+use Rattle.editor_state.proofs.Blocks.CachePages.{pages_of_blocks}
 use Rattle.editor_core.proofs.studio.Studio.carry.Goals as goal
 
 -- records that wait, and are short together, are short with the gate and the length of the first
@@ -73,6 +78,25 @@ make_blocks-requires-clause-below g c =
     subst (λ (z : Core g.row.S.Denot). (id : ℕ) → IsSome (z.counts id) → id < z.next_block)
     (sym c.in_ok-prepare.ensures.same) (λ id some. (c.requires.studio.given id some).1)
 
+pub make_blocks-requires-clause-pages : goal.make_blocks-requires-clause-pages
+make_blocks-requires-clause-pages g c =
+    subst (λ (z : Core g.row.S.Denot). AllPass (is_given z.next_block) z.cache) (sym c.in_ok-prepare.ensures.same)
+    c.requires.studio.pages
+
+pub commit_rows-requires-clause-file : goal.commit_rows-requires-clause-file
+commit_rows-requires-clause-file g c =
+    let making = c.in_ok-make_blocks.ensures.made.2.0 in
+    let File : Core g.row.S.Denot → Type 0 = λ z. z.file ≤ 1 in
+    subst File (sym making.is) (subst File (sym c.in_ok-prepare.ensures.same) c.requires.studio.journal.among)
+
+pub commit_rows-requires-clause-pages : goal.commit_rows-requires-clause-pages
+commit_rows-requires-clause-pages g c =
+    let s = core_of c.args.self.now in
+    let making = c.in_ok-make_blocks.ensures.made.2.0 in
+    let Pages : Core g.row.S.Denot → Type 0 = λ z. AllPass is_block z.cache in
+    subst Pages (sym making.is) (subst Pages (sym c.in_ok-prepare.ensures.same)
+    (pages_of_blocks s.next_block s.cache c.requires.studio.pages))
+
 pub make_blocks-requires-clause-size : goal.make_blocks-requires-clause-size
 make_blocks-requires-clause-size g c =
     subst (λ (z : Core g.row.S.Denot). z.block_size ≤ 262144)
@@ -93,6 +117,7 @@ returns-in_err-prepare-clause-carried g c =
       makes = bs;
       given = any.0;
       tracks = c.args.tracks;
+      layouts = c.args.layouts;
       count = suc c.args.more;
       bodies = all_bytes s w;
       whole = whole;
@@ -102,7 +127,7 @@ returns-in_err-prepare-clause-carried g c =
       subst (λ x. Carried g.S.Store s commit x new) (sym (r.1 ∙ ap Err r.2))
           (inl (
             c.in_err-prepare.ensures.same,
-            subst (λ (n : ℕ). NotPrepared s (length bs) c.args.tracks n whole (all_len s w) why) one
+            subst (λ (n : ℕ). NotPrepared s (length bs) c.args.tracks c.args.layouts n whole (all_len s w) why) one
                 c.in_err-prepare.ensures.err,
           )),
     )
@@ -130,7 +155,7 @@ returns-clause-carried g c =
     let room : 1 + length c.make_blocks.new.self.row.items ≤ vec_capacity c.make_blocks.new.self.row =
     omega (arith, ap (λ (l : List ℕ). length l) items, ap vec_capacity row, c.in_ok-prepare.ensures.room) in
     let one : c.args.more + 1 ≡ suc c.args.more = omega arith in
-    let prepared = subst (λ (n : ℕ). IsPrepared s (length bs) c.args.tracks n (all_len s w)) one
+    let prepared = subst (λ (n : ℕ). IsPrepared s (length bs) c.args.tracks c.args.layouts n (all_len s w)) one
     c.in_ok-prepare.ensures.prepared in
     let adds = λ (most : ℕ). subst (λ (n : ℕ). Adds g.S.Store mid bodies n most c.commit_rows.result new) one
     (c.commit_rows.ensures.records most bodies waiting
@@ -139,6 +164,7 @@ returns-clause-carried g c =
       makes = bs;
       given = by.0;
       tracks = c.args.tracks;
+      layouts = c.args.layouts;
       count = suc c.args.more;
       bodies = bodies;
       whole = whole;
@@ -159,8 +185,8 @@ returns-in_err-prepare-clause-device g c =
     let r = err_from_is_err_and c.from_residual.result c.from_residual.ensures.1 in
     let why = c.in_err-prepare.field-0.0 in
     subst (λ x. IfErr x (IsInsideOr b)) (sym (r.1 ∙ ap Err r.2))
-    (inside_or b why (unprepared_asks s (length c.args.makes.now) c.args.tracks (c.args.more + 1) (whole_len s w)
-    (all_len s w) why c.in_err-prepare.ensures.err))
+    (inside_or b why (unprepared_asks s (length c.args.makes.now) c.args.tracks c.args.layouts (c.args.more + 1)
+    (whole_len s w) (all_len s w) why c.in_err-prepare.ensures.err))
 
 pub returns-in_err-prepare-clause-given : goal.returns-in_err-prepare-clause-given
 returns-in_err-prepare-clause-given g c =
@@ -170,8 +196,8 @@ returns-in_err-prepare-clause-given g c =
     let r = err_from_is_err_and c.from_residual.result c.from_residual.ensures.1 in
     let why = c.in_err-prepare.field-0.0 in
     subst (λ x. RefusedBrought x n n) (sym (r.1 ∙ ap Err r.2))
-    (inside_counted why n (unprepared_asks s (length c.args.makes.now) c.args.tracks (c.args.more + 1) (whole_len s w)
-    (all_len s w) why c.in_err-prepare.ensures.err))
+    (inside_counted why n (unprepared_asks s (length c.args.makes.now) c.args.tracks c.args.layouts (c.args.more + 1)
+    (whole_len s w) (all_len s w) why c.in_err-prepare.ensures.err))
 
 pub returns-in_err-prepare-clause-still : goal.returns-in_err-prepare-clause-still
 returns-in_err-prepare-clause-still g c = record { same = refl; goes = λ first follows. follows }
@@ -191,6 +217,7 @@ returns-in_err-make_blocks-clause-carried g c =
       makes = bs;
       given = by.0;
       tracks = c.args.tracks;
+      layouts = c.args.layouts;
       count = suc c.args.more;
       bodies = all_bytes s w;
       whole = whole_len s w;
@@ -199,7 +226,7 @@ returns-in_err-make_blocks-clause-carried g c =
       by.1,
       subst (λ x. Carried g.S.Store s commit x new) (sym (r.1 ∙ ap Err r.2))
           (inr (inl (
-            subst (λ (n : ℕ). IsPrepared s (length bs) c.args.tracks n (all_len s w)) one
+            subst (λ (n : ℕ). IsPrepared s (length bs) c.args.tracks c.args.layouts n (all_len s w)) one
                 c.in_ok-prepare.ensures.prepared,
             subst (λ (z : Core g.row.S.Denot). Stuck g.S.Store z (batch_of by.0 bs) why new)
                 c.in_ok-prepare.ensures.same by.2,

@@ -6,27 +6,28 @@ use Rattle.envelope_view.specs.Answers.{IsUndamaged}
 use Rattle.project_state.specs.declared.track.Track.{Track}
 use Rattle.project_state.specs.Meaning.{point_blocks}
 use Rattle.edit_ops.specs.Plans.{AreNew}
-use Rattle.editor_core.specs.Applied.{Lasts}
+use Rattle.editor_state.specs.Applied.{Lasts}
 use Rattle.pcm_base.specs.History.{History}
 use Rattle.layout_uses.specs.Layouts.{history_tracks}
 use Rattle.layout_uses.specs.Tallies.{MayBecome}
-use Rattle.editor_core.specs.Core.{Core, core_of}
-use Rattle.editor_core.specs.Edits.{IsStill, tagged_by}
-use Rattle.editor_core.specs.Imports.{IfCutShort, IsInsideOr}
-use Rattle.editor_core.specs.Made.{PiecesReadable}
-use Rattle.editor_core.specs.Makes.{RefusedBrought}
-use Rattle.editor_core.specs.Occurrences.{HasIds}
-use Rattle.editor_core.specs.Took.{Took, told_by, with_sound}
-use Rattle.editor_core.proofs.CarriedOut.{carried_at, commit_of, told_point}
-use Rattle.editor_core.proofs.Editing.{came_agrees}
-use Rattle.editor_core.proofs.EditLaws.{pieces_there}
-use Rattle.editor_core.proofs.EditSteps.{edit_err}
-use Rattle.editor_core.proofs.Lasting.{lasts_err}
-use Rattle.editor_core.proofs.Still.{carried_still}
-use Rattle.editor_core.proofs.Serving.{cut_or, serves_so}
-use Rattle.editor_core.proofs.NoDamage.{no_damage}
-use Rattle.editor_core.proofs.TakenEdits.{IsPointed, lasts_so, out_fits, out_named, out_room, out_there}
-use Rattle.editor_core.proofs.TakenEdits.{recorded_counted, recorded_few, recorded_there, took_so}
+use Rattle.editor_state.specs.Core.{Core}
+use Rattle.editor_core.specs.Core.{core_of}
+use Rattle.editor_state.specs.Edits.{IsStill, tagged_by}
+use Rattle.editor_state.specs.Vaults.{IfCutShort, IsInsideOr}
+use Rattle.editor_state.specs.Made.{PiecesReadable}
+use Rattle.editor_state.specs.Makes.{RefusedBrought}
+use Rattle.editor_state.specs.Occurrences.{HasIds}
+use Rattle.editor_state.specs.Took.{Took, told_by, with_sound}
+use Rattle.editor_edits.proofs.EditBodies.{carried_at, commit_of, told_point}
+use Rattle.editor_commits.proofs.CurrentProject.{came_agrees}
+use Rattle.editor_edits.proofs.EditPlans.{pieces_there}
+use Rattle.editor_edits.proofs.EditSteps.{edit_err}
+use Rattle.editor_edits.proofs.EditLasts.{lasts_err}
+use Rattle.editor_edits.proofs.BeforeBlocks.{carried_still}
+use Rattle.editor_edits.proofs.VaultCuts.{cut_or, serves_so}
+use Rattle.editor_blocks.proofs.NoDamage.{no_damage}
+use Rattle.editor_edits.proofs.EditResults.{IsPointed, lasts_so, out_fits, out_named, out_room, out_there}
+use Rattle.editor_edits.proofs.EditResults.{recorded_counted, recorded_few, recorded_there, took_so}
 use Rattle.layout_uses.proofs.Times.{Few}
 use Rattle.editor_core.proofs.studio.Studio.carry_out.Goals as goal
 

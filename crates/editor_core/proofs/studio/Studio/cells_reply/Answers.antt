@@ -7,7 +7,7 @@ use Rattle.pcm_base.specs.declared.command.Command.TheVariants as command
 use Rattle.pcm_base.specs.declared.command.Call.TheVariants.{Line}
 use Rattle.pcm_base.specs.declared.refusal.Refusal.{Refusal}
 use Rattle.editor_core.specs.Core.{core_of}
-use Rattle.editor_core.specs.Took.{Took, quietly}
+use Rattle.editor_state.specs.Took.{Took, quietly}
 use Rattle.editor_core.proofs.studio.Studio.cells_reply.Goals as goal
 
 pub returns-in-Delete : goal.returns-in-Delete

@@ -7,7 +7,7 @@ use Rattle.pcm_base.specs.declared.command.Call.TheVariants.{Line}
 use Rattle.pcm_base.specs.declared.refusal.Refusal.{Refusal}
 use Rattle.pcm_base.specs.Form.{IsInForm}
 use Rattle.editor_core.specs.Core.{core_of}
-use Rattle.editor_core.specs.Took.{Took, quietly}
+use Rattle.editor_state.specs.Took.{Took, quietly}
 use Rattle.editor_core.proofs.studio.Studio.clipboard_reply.Goals as goal
 
 pub returns-in-Cut : goal.returns-in-Cut

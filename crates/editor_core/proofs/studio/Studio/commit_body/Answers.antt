@@ -1,11 +1,14 @@
 -- Nothing was asked of the disk, or the record was added whose body was written.
-use Rattle.std.proofs.Common.{◌∷◌, [], ◌∙◌, refl, sym, ap, subst, List, ℕ, Err}
+use Rattle.std.proofs.Common.{◌≤◌, ◌∷◌, [], ◌∙◌, refl, sym, ap, subst, List, ℕ, Err}
 use Rattle.std.proofs.lemmas.Result.{err_from_is_err_and}
 use Rattle.pcm_base.specs.declared.refusal.Refusal.TheVariants as refusal
-use Rattle.editor_core.specs.Adding.{Adds, AddsBody}
-use Rattle.editor_core.specs.Bodies.{all_bytes, all_len, body_bytes, single, whole_len}
-use Rattle.editor_core.specs.Core.{Core, core_of}
-use Rattle.editor_core.proofs.Idle.{adds_nothing, exceeds}
+use Rattle.editor_state.specs.Adding.{Adds, AddsBody}
+use Rattle.editor_state.specs.Bodies.{all_bytes, all_len, body_bytes, single, whole_len}
+use Rattle.block_cache.specs.Caches.{AllPass}
+use Rattle.editor_state.specs.Core.{Core}
+use Rattle.editor_core.specs.Core.{core_of}
+use Rattle.editor_state.specs.Studios.{is_block}
+use Rattle.editor_commits.proofs.AppendFaults.{adds_nothing, exceeds}
 use Rattle.editor_core.proofs.studio.Studio.commit_body.Goals as goal
 
 pub returns-in_err-may_record-clause-record : goal.returns-in_err-may_record-clause-record
@@ -40,3 +43,11 @@ returns-clause-record g c =
     c.write_record.ensures.same
     (subst (λ (b : List ℕ). Adds g.S.Store (core_of c.write_record.new.self) (b ∷ []) 1 whole
     c.commit_written.result new) c.in_ok-write_record.ensures.body (c.commit_written.ensures.record whole))
+
+pub commit_written-requires-clause-file : goal.commit_written-requires-clause-file
+commit_written-requires-clause-file g c =
+    subst (λ (z : Core g.row.S.Denot). z.file ≤ 1) (sym c.write_record.ensures.same) c.requires.file
+
+pub commit_written-requires-clause-pages : goal.commit_written-requires-clause-pages
+commit_written-requires-clause-pages g c =
+    subst (λ (z : Core g.row.S.Denot). AllPass is_block z.cache) (sym c.write_record.ensures.same) c.requires.pages

@@ -1,8 +1,10 @@
 -- What the journal answers.
 use Rattle.std.proofs.Common.{◌∷◌, [], arith, length, refl}
-use Rattle.editor_core.specs.Core.{core_of, form_at}
-use Rattle.editor_core.proofs.Idle.{settled}
-use Rattle.editor_core.proofs.RowRoom.{undamaged_settle}
+use Rattle.editor_core.specs.Core.{core_of}
+use Rattle.editor_state.specs.Core.{form_at}
+use Rattle.editor_commits.proofs.AppendFaults.{settled}
+use Rattle.editor_commits.proofs.RowRoom.{undamaged_settle}
+use Rattle.editor_state.proofs.Blocks.CachePages.{right_by_record}
 use Rattle.editor_core.proofs.studio.Studio.commit_small.Goals as goal
 
 pub returns-clause-record : goal.returns-clause-record
@@ -18,3 +20,12 @@ returns-clause-record g c =
 pub returns-clause-undamaged : goal.returns-clause-undamaged
 returns-clause-undamaged g c =
     undamaged_settle g.S.Store _ _ c.append_small-added.result c.settle.result _ c.settle.ensures.fields
+
+-- the record is in a file of no block
+pub invariant_of-self : goal.invariant_of-self
+invariant_of-self g c = record {
+  right = right_by_record g.S.Store _ c.args.self.now.reader.store c.append_small-added.new.store
+      c.args.self.now.reader.cache c.args.self.now.file c.requires.file c.append_small-added.ensures.changed
+      c.requires.pages
+      c.args.self.now.reader.right;
+}

@@ -1,8 +1,10 @@
 -- What the journal answers.
 use Rattle.std.proofs.Common.{◌∷◌, [], refl}
-use Rattle.editor_core.specs.Core.{core_of, form_at}
-use Rattle.editor_core.proofs.Idle.{settled}
-use Rattle.editor_core.proofs.RowRoom.{no_want, undamaged_settle}
+use Rattle.editor_core.specs.Core.{core_of}
+use Rattle.editor_state.specs.Core.{form_at}
+use Rattle.editor_commits.proofs.AppendFaults.{settled}
+use Rattle.editor_commits.proofs.RowRoom.{no_want, undamaged_settle}
+use Rattle.editor_state.proofs.Blocks.CachePages.{right_by_record}
 use Rattle.editor_core.proofs.studio.Studio.commit_written.Goals as goal
 
 pub returns-clause-record : goal.returns-clause-record
@@ -22,3 +24,11 @@ returns-clause-memory g c room =
 pub returns-clause-undamaged : goal.returns-clause-undamaged
 returns-clause-undamaged g c =
     undamaged_settle g.S.Store _ _ c.append-added.result c.settle.result _ c.settle.ensures.fields
+
+-- the record is in a file of no block
+pub invariant_of-self : goal.invariant_of-self
+invariant_of-self g c = record {
+  right = right_by_record g.S.Store _ c.args.self.now.reader.store c.append-added.new.store
+      c.args.self.now.reader.cache c.args.self.now.file c.requires.file c.append-added.ensures.changed c.requires.pages
+      c.args.self.now.reader.right;
+}

@@ -1,16 +1,20 @@
 -- The journal put into one header, or why it was not.
 use Rattle.std.proofs.Common.{◌≡◌, ◌∙◌, sym, ap, subst, ℕ, ◌+◌, ◌-◌, ◌^◌, ◌<◌, Bool, List, Result, Some, Err, Ok}
 use Rattle.std.proofs.Common.{length, arith}
+use Rattle.std.specs.Prelude.{IsTrue}
 use Rattle.std.proofs.lemmas.Result.{err_from_is_err_and}
 use Rattle.pcm_base.specs.declared.failed.Failed.{Failed}
 use Rattle.pcm_base.specs.declared.refusal.Refusal.{Refusal}
 use Rattle.pcm_base.specs.declared.refusal.Refusal.TheVariants as refusal
 use Rattle.pcm_base.specs.Causes.{HasCause}
-use Rattle.editor_core.specs.Compacts.{Compacts}
-use Rattle.editor_core.specs.Core.{Core, core_of}
-use Rattle.editor_core.specs.Packing.{packed_core, packed_size, packed_text}
-use Rattle.editor_core.proofs.Compacting.{Packs, compact_done, compact_failed, compact_spent, compact_stopped}
-use Rattle.editor_core.proofs.Compacting.{compact_unread, compact_wanting}
+use Rattle.block_cache.proofs.CacheLaws.{right_before}
+use Rattle.editor_cleanup.specs.Compacts.{Compacts}
+use Rattle.editor_state.specs.Core.{Core}
+use Rattle.editor_core.specs.Core.{core_of}
+use Rattle.editor_state.specs.Packing.{packed_core, packed_size, packed_text}
+use Rattle.editor_cleanup.proofs.CompactAnswers.{Packs, compact_done, compact_failed, compact_spent, compact_stopped}
+use Rattle.editor_cleanup.proofs.CompactAnswers.{compact_unread, compact_wanting}
+use Rattle.editor_state.proofs.Blocks.CachePages.{pages_of_blocks, right_by_packing}
 use Rattle.editor_core.proofs.studio.Studio.compact.Goals as goal
 
 pub returns-in-Some : goal.returns-in-Some
@@ -110,3 +114,26 @@ returns g c =
     there.kept c.in-Ok.there c.in-Ok.ensures.tells later c.in_ok-text.ensures.whole c.in_ok-text.ensures.rate
     c.in_ok-text.ensures.short (omega (arith, size, most)) new (Err c.in-Err.field-0) packs
     packs.faults.failed packs.faults.later)
+
+-- the file was asked for and nothing changed
+pub invariant_of-self : goal.invariant_of-self
+invariant_of-self g c = record {
+  right = λ still.
+      let kept = c.is_there.ensures.kept in
+      let told : IsTrue (g.S.Store.tells c.args.self.now.reader.store) =
+      subst (λ (t : Bool). IsTrue t) kept.same_tells still in
+      right_before c.args.self.now.reader.store c.is_there.new.store c.args.self.now.reader.cache kept
+      (c.args.self.now.reader.right told);
+}
+
+-- the journal is packed, in files of no block
+pub invariant_of-self-2 : goal.invariant_of-self-2
+invariant_of-self-2 g c =
+    let s = core_of c.args.self.now in
+    let kept = c.is_there.ensures.kept in
+    record {
+      right = right_by_packing g.S.Store _ c.is_there.new.store c.compact.new.store s.cache s.file
+          c.requires.journal.among c.compact.ensures.changed (pages_of_blocks s.next_block s.cache c.requires.pages)
+          (λ still. right_before c.args.self.now.reader.store c.is_there.new.store s.cache kept
+          (c.args.self.now.reader.right (subst (λ (t : Bool). IsTrue t) kept.same_tells still)));
+    }

@@ -9,15 +9,16 @@ use Rattle.pcm_base.specs.declared.refusal.Refusal.TheVariants as refusal
 use Rattle.block_ledger.specs.Entries.{count_of}
 use Rattle.envelope_view.specs.Answers.{IsUndamaged}
 use Rattle.project_state.specs.declared.track.Track.{Track}
-use Rattle.editor_core.specs.declared.copies.RunRange.{RunRange}
-use Rattle.editor_core.specs.Copies.{run_of, Copies, AnswersCopy, strips_blocks}
-use Rattle.editor_core.specs.Core.{Core, core_of}
-use Rattle.editor_core.specs.Points.{lacks}
-use Rattle.editor_core.specs.Took.{Took, quietly, told_by}
-use Rattle.editor_core.proofs.Bounds.{named_there}
-use Rattle.editor_core.proofs.Clipping.{clip_counted, clip_room, copy_stopped, copy_lacks, copy_refused, strips_few}
-use Rattle.editor_core.proofs.Clipping.{strips_named, copy_done}
-use Rattle.editor_core.proofs.Undamaged.{copies_tell}
+use Rattle.editor_tracks.specs.declared.run_range.RunRange.{RunRange}
+use Rattle.editor_tracks.specs.Copies.{run_of, Copies, AnswersCopy, strips_blocks}
+use Rattle.editor_state.specs.Core.{Core}
+use Rattle.editor_core.specs.Core.{core_of}
+use Rattle.editor_state.specs.Points.{lacks}
+use Rattle.editor_state.specs.Took.{Took, quietly, told_by}
+use Rattle.editor_state.proofs.Blocks.BlockNumbers.{named_there}
+use Rattle.editor_tracks.proofs.CopySteps.{clip_counted, clip_room, copy_stopped, copy_lacks, copy_refused, strips_few}
+use Rattle.editor_tracks.proofs.CopySteps.{strips_named, copy_done}
+use Rattle.editor_commits.proofs.CallsWithoutReads.{copies_tell}
 use Rattle.editor_core.proofs.studio.Studio.copy.Goals as goal
 
 pub returns-in-Some-clause-took : goal.returns-in-Some-clause-took

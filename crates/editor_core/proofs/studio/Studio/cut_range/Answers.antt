@@ -7,12 +7,12 @@ use Rattle.envelope_view.specs.Answers.{IsUndamaged}
 use Rattle.piece_store.specs.declared.given.Given.TheVariants.{Nothing}
 use Rattle.piece_store.specs.Bringing.{brought, brought_by}
 use Rattle.editor_core.specs.Core.{core_of}
-use Rattle.editor_core.specs.Cuts.{cut_line}
-use Rattle.editor_core.specs.Took.{Took, quietly, silent, told_by, with_sound}
-use Rattle.editor_core.proofs.CutLaws.{no_cut_tells}
-use Rattle.editor_core.proofs.CutRefused.{cut_refused, cut_stopped}
-use Rattle.editor_core.proofs.CutSteps.{cut_edit, cut_planned}
-use Rattle.editor_core.proofs.Knowing.{known_took, planned_any}
+use Rattle.editor_tracks.specs.Cuts.{cut_line}
+use Rattle.editor_state.specs.Took.{Took, quietly, silent, told_by, with_sound}
+use Rattle.editor_tracks.proofs.CutLaws.{no_cut_tells}
+use Rattle.editor_tracks.proofs.CutRefusals.{cut_refused, cut_stopped}
+use Rattle.editor_tracks.proofs.CutSteps.{cut_edit, cut_planned}
+use Rattle.editor_edits.proofs.KnownSamples.{known_took, planned_any}
 use Rattle.editor_core.proofs.studio.Studio.cut_range.Goals as goal
 
 pub returns-in-Some-clause-took : goal.returns-in-Some-clause-took

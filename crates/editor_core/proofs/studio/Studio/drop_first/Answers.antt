@@ -1,9 +1,10 @@
 -- The removals and then the syncs.
 use Rattle.std.proofs.Common.{ap, subst, IsSome}
 use Rattle.block_ledger.specs.Counts.{Counts}
-use Rattle.editor_core.specs.Core.{Core, core_of}
-use Rattle.editor_core.specs.Passes.{RemovesFirst}
-use Rattle.editor_core.proofs.DroppingFirst.{drops_all, drops_fail}
+use Rattle.editor_state.specs.Core.{Core}
+use Rattle.editor_core.specs.Core.{core_of}
+use Rattle.editor_cleanup.specs.Passes.{RemovesFirst}
+use Rattle.editor_cleanup.proofs.RemoveThenSync.{drops_all, drops_fail}
 use Rattle.editor_core.proofs.studio.Studio.drop_first.Goals as goal
 
 pub sync_first-requires : goal.sync_first-requires

@@ -1,14 +1,17 @@
 -- An edit that makes no blocks is a step.
 use Rattle.std.proofs.Common.{◌≡◌, ◌∙◌, refl, sym, ap, subst, ℕ, ◌+◌, ◌≤◌, ◌<◌, ◌^◌, List, length, Err, Ok, IfOk}
-use Rattle.std.proofs.Common.{None, arith}
+use Rattle.std.proofs.Common.{None, ⊎_elim, arith}
 use Rattle.std.specs.Prelude.{IfErr}
 use Rattle.std.proofs.lemmas.Result.{err_from_is_err_and}
 use Rattle.pcm_base.specs.declared.answer.Reply.TheVariants.{Done}
 use Rattle.pcm_base.specs.declared.command.Call.TheVariants.{Line}
 use Rattle.pcm_base.specs.declared.refusal.Refusal.TheVariants as refusal
+use Rattle.pcm_base.specs.Counters.{record_test}
 use Rattle.pcm_base.specs.History.{History, edited}
+use Rattle.pcm_base.specs.Refusals.{◌otherwise◌}
 use Rattle.block_ledger.specs.Counts.{Counts}
 use Rattle.block_ledger.specs.Entries.{count_of}
+use Rattle.block_cache.specs.Caches.{AllPass}
 use Rattle.undo_history.specs.Stored.{Stored}
 use Rattle.envelope_view.specs.Answers.{IsUndamaged}
 use Rattle.record_body.specs.declared.body.Body.TheVariants.{Edit}
@@ -20,24 +23,27 @@ use Rattle.project_state.specs.Tracks.{AllBelow}
 use Rattle.layout_uses.specs.declared.tally.Tally.{Tally}
 use Rattle.layout_uses.specs.Layouts.{history_tracks}
 use Rattle.layout_uses.specs.Tallies.{Becomes, MayBecome}
-use Rattle.editor_core.specs.Adding.{AddsBody, Tested}
-use Rattle.editor_core.specs.Bodies.{all_bytes, single, whole_len}
-use Rattle.editor_core.specs.Core.{Core, core_of}
-use Rattle.editor_core.specs.Occurrences.{HasIds}
-use Rattle.editor_core.specs.Plain.{layouts_by, line_of, tracks_by, refusal_by, IsEdited}
-use Rattle.editor_core.specs.Took.{Took, quietly, silent, told_by}
-use Rattle.editor_core.proofs.Bounds.{few_more, named_there}
-use Rattle.editor_core.proofs.Editing.{current_below}
-use Rattle.editor_core.proofs.Grown.{CountsAfter}
-use Rattle.editor_core.proofs.Moving.{tested_out}
-use Rattle.editor_core.proofs.NoDamage.{TellsNone, undamaged_test}
-use Rattle.editor_core.proofs.PlainEdits.{own_is, needs_none, names, sound, edit_counts, edit_done, edit_fails}
-use Rattle.editor_core.proofs.PlainEdits.{edit_agrees, edit_may}
-use Rattle.editor_core.proofs.PlainLines.{call_by}
-use Rattle.editor_core.proofs.Removing.{commit_removes_none}
-use Rattle.editor_core.proofs.Staying.{wants}
+use Rattle.editor_state.specs.Adding.{AddsBody, AddsDrawn, Tested}
+use Rattle.editor_state.specs.Bodies.{all_bytes, single, whole_len}
+use Rattle.editor_state.specs.Core.{Core}
+use Rattle.editor_core.specs.Core.{core_of}
+use Rattle.editor_state.specs.Occurrences.{HasIds}
+use Rattle.editor_commits.specs.Plain.{layouts_by, line_of, tracks_by, refusal_by, IsEdited}
+use Rattle.editor_state.specs.Studios.{is_block}
+use Rattle.editor_state.specs.Took.{Took, quietly, silent, told_by}
+use Rattle.editor_state.proofs.Blocks.BlockNumbers.{few_more, named_there}
+use Rattle.editor_commits.proofs.CurrentProject.{current_below}
+use Rattle.editor_commits.proofs.CommitStudios.{CountsAfter}
+use Rattle.editor_commits.proofs.MoveSteps.{tested_out}
+use Rattle.editor_state.proofs.Refusals.DamageTests.{TellsNone, outgrowing, undamaged_test}
+use Rattle.editor_commits.proofs.PlainEdits.{own_is, needs_none, names, sound, edit_counts, edit_done, edit_fails}
+use Rattle.editor_commits.proofs.PlainEdits.{edit_agrees, edit_may}
+use Rattle.editor_commits.proofs.PlainLines.{call_by}
+use Rattle.editor_state.proofs.Calls.FileRemovals.{commit_removes_none}
+use Rattle.editor_state.proofs.Refusals.EarlyRefusals.{wants}
 use Rattle.layout_uses.proofs.Times.{Few}
-use Rattle.editor_core.proofs.Undamaged.{adding_tells, refusal_tells}
+use Rattle.editor_commits.proofs.CallsWithoutReads.{adding_tells, refusal_tells}
+use Rattle.editor_state.proofs.Blocks.CachePages.{pages_of_blocks}
 use Rattle.editor_core.proofs.studio.Studio.edit.Goals as goal
 
 pub returns-in_err-may_commit-clause-took : goal.returns-in_err-may_commit-clause-took
@@ -66,9 +72,6 @@ returns-in_err-make_room-clause-took g c =
     subst (λ r. Took g.S.Store s (quietly (Line line) (told_by (λ (n : ℕ). Done) r)) s1) (sym (p.1 ∙ ap Err p.2))
     (subst (λ (z : Core g.row.S.Denot). Took g.S.Store s (quietly (Line line) (Err refusal.NoMemory)) z)
     (sym c.make_room.ensures.same) idle)
-
-pub make_room-requires : goal.make_room-requires
-make_room-requires g c = c.requires.studio.layouts
 
 pub edited-requires-clause-there : goal.edited-requires-clause-there
 edited-requires-clause-there g c =
@@ -110,6 +113,13 @@ commit_point-requires-clause-numbers g c =
     subst (λ (z : Core g.row.S.Denot). AgreeById (current_tracks z.history) p) (sym same)
     (edit_agrees g.S.Store s is e c.requires.good none p ed)
 
+pub commit_point-requires-clause-layouts : goal.commit_point-requires-clause-layouts
+commit_point-requires-clause-layouts g c = omega (
+  arith,
+  c.requires.studio.layouts,
+  ap (λ (z : Core g.row.S.Denot). z.next_layout) c.make_room.ensures.same,
+)
+
 pub returns-in_err-point-2-clause-took : goal.returns-in_err-point-2-clause-took
 returns-in_err-point-2-clause-took g c =
     let r = err_from_is_err_and c.from_residual-in_err-point-2.result c.from_residual-in_err-point-2.ensures.1 in
@@ -126,11 +136,14 @@ returns-in_err-point-2-clause-took g c =
     c.in_ok-point.ensures in
     let mid = core_of c.commit_point.new.self in
     let why = c.in_err-point-2.field-0.0 in
-    let adds' = subst (λ (z : Core g.row.S.Denot). AddsBody {R = List Track} g.S.Store z
+    let layouts = c.layouts_for-layouts.result in
+    let adds'' = subst (λ (z : Core g.row.S.Denot). AddsDrawn {R = List Track} g.S.Store z layouts
     (single (Edit 0 z.next_block (z.next_track + c.tracks_for-tracks.result) p)) (Err why) mid) same
     c.in_err-point-2.ensures.record in
-    let adds = subst (λ (n : ℕ). AddsBody {R = List Track} g.S.Store s
-    (single (Edit 0 s.next_block (s.next_track + n) p)) (Err why) mid) c.tracks_for-tracks.ensures adds' in
+    let adds' = subst (λ (n : ℕ). AddsDrawn {R = List Track} g.S.Store s layouts
+    (single (Edit 0 s.next_block (s.next_track + n) p)) (Err why) mid) c.tracks_for-tracks.ensures adds'' in
+    let adds = subst (λ (n : ℕ). AddsDrawn {R = List Track} g.S.Store s n
+    (single (Edit 0 s.next_block (s.next_track + tracks_by e) p)) (Err why) mid) c.layouts_for-layouts.ensures adds' in
     subst (λ x. Took g.S.Store s (quietly (Line (line_of e)) (told_by (λ (n : ℕ). Done) x))
     mid) (sym (r.1 ∙ ap Err r.2))
     (edit_fails g.S.Store s is e c.requires.good none p ed may.2 may.0 may.3 why mid
@@ -207,9 +220,8 @@ take_point-requires-clause-layouts g c =
     let s = core_of c.args.self.now in
     omega (
       arith,
-      c.in_ok-make_room.ensures.layouts,
-      ap (λ (z : Core g.row.S.Denot). z.next_layout) c.make_room.ensures.same,
-      ap (λ (z : Core g.row.S.Denot). z.next_layout) c.in_ok-point-2.ensures.record.fields.0,
+      c.in_ok-point-2.ensures.record.0,
+      ap (λ (z : Core g.row.S.Denot). z.next_layout) c.in_ok-point-2.ensures.record.1.fields.0,
     )
 
 pub take_point-requires-clause-counted : goal.take_point-requires-clause-counted
@@ -261,7 +273,7 @@ returns-clause-took g c =
     let tracks : c.tracks_for-tracks.result ≡ tracks_by e = c.tracks_for-tracks.ensures in
     let adds' = subst (λ (z : Core g.row.S.Denot). AddsBody {R = List Track} g.S.Store z
     (single (Edit 0 z.next_block (z.next_track + c.tracks_for-tracks.result) p)) (Ok c.in_ok-point-2.point) mid)
-    same c.in_ok-point-2.ensures.record in
+    same c.in_ok-point-2.ensures.record.1 in
     let adds = subst (λ (n : ℕ). AddsBody {R = List Track} g.S.Store s
     (single (Edit 0 s.next_block (s.next_track + n) p)) (Ok c.in_ok-point-2.point) mid) tracks adds' in
     let moved : edited mid.history c.in_ok-point-2.point 0 ≡ edited s.history p 0 = λ i. edited (was i) (p2 i) 0 in
@@ -277,7 +289,12 @@ returns-clause-took g c =
     let next : mid.next_track ≡ s.next_track = ap (λ (z : Core g.row.S.Denot). z.next_track) adds.fields.0 in
     let layout : mid.next_layout ≡ s.next_layout = ap (λ (z : Core g.row.S.Denot). z.next_layout) adds.fields.0 in
     let layouts : c.layouts_for-layouts.result ≡ layouts_by e = c.layouts_for-layouts.ensures in
-    let fits : s.next_layout + layouts_by e ≤ 2 ^ 62 = omega (arith, c.in_ok-make_room.ensures.layouts, layouts) in
+    let fits : s.next_layout + layouts_by e ≤ 2 ^ 62 = omega (
+      arith,
+      c.in_ok-point-2.ensures.record.0,
+      layouts,
+      ap (λ (z : Core g.row.S.Denot). z.next_layout) same,
+    ) in
     let number : mid.next_layout + c.layouts_for-layouts.result ≡ s.next_layout + layouts_by e =
     λ i. layout i + layouts i in
     let counted : CountsAfter s.pins (edited s.history p 0) s.clipboard
@@ -291,7 +308,7 @@ returns-clause-took g c =
     (edit_done g.S.Store s is e c.requires.good none p ed may.2 may.0 may.3 c.in_ok-point-2.point mid
     (edited mid.history c.in_ok-point-2.point 0) (count_of after.uses) (count_of after.ledger)
     (mid.next_track + c.tracks_for-tracks.result) (mid.next_layout + c.layouts_for-layouts.result) adds moved counted
-    (λ i. next i + tracks i))
+    (λ i. next i + tracks i) number)
 
 pub returns-in_err-may_commit-clause-number : goal.returns-in_err-may_commit-clause-number
 returns-in_err-may_commit-clause-number g c =
@@ -338,5 +355,19 @@ returns-in_err-point-2-clause-undamaged g c =
     let s = core_of c.make_room.new.self in
     let body = Edit 0 s.next_block (s.next_track + c.tracks_for-tracks.result) c.in_ok-point.point in
     subst (λ r. IfErr r IsUndamaged) (sym (p.1 ∙ ap Err p.2))
-    (adding_tells g.S.Store s (core_of c.commit_point.new.self) (all_bytes s (single body)) 1
-    (whole_len s (single body)) c.in_err-point-2.field-0.0 c.in_err-point-2.ensures.record)
+    (⊎_elim
+    (λ added. adding_tells g.S.Store s (core_of c.commit_point.new.self) (all_bytes s (single body)) 1
+    (whole_len s (single body)) c.in_err-point-2.field-0.0 added.1)
+    (λ lacks. outgrowing s.journal_end s.next_layout c.layouts_for-layouts.result (whole_len s (single body))
+    c.in_err-point-2.field-0.0 (λ i. (lacks.1 i) otherwise (record_test (whole_len s (single body)))))
+    c.in_err-point-2.ensures.record)
+
+pub commit_point-requires-clause-file : goal.commit_point-requires-clause-file
+commit_point-requires-clause-file g c =
+    subst (λ (z : Core g.row.S.Denot). z.file ≤ 1) (sym c.make_room.ensures.same) c.requires.studio.journal.among
+
+pub commit_point-requires-clause-pages : goal.commit_point-requires-clause-pages
+commit_point-requires-clause-pages g c =
+    let s = core_of c.args.self.now in
+    subst (λ (z : Core g.row.S.Denot). AllPass is_block z.cache) (sym c.make_room.ensures.same)
+    (pages_of_blocks s.next_block s.cache c.requires.studio.pages)

@@ -9,13 +9,14 @@ use Rattle.envelope_view.specs.Answers.{IsUndamaged}
 use Rattle.record_body.specs.Kept.{current_tracks}
 use Rattle.piece_store.specs.Bringing.{brought, brought_by}
 use Rattle.editor_core.specs.Core.{core_of}
-use Rattle.editor_core.specs.Ranges.{range_edit}
-use Rattle.editor_core.specs.Took.{Took, quietly, silent, told_by, with_sound}
-use Rattle.editor_core.proofs.NoDamage.{no_plan_tells, range_tells}
-use Rattle.editor_core.proofs.RangeLaws.{range_call}
-use Rattle.editor_core.proofs.TrackLaws.{track_edit, track_refused, track_stopped}
-use Rattle.editor_core.proofs.TrackPlans.{track_next, track_planned}
-use Rattle.editor_core.proofs.Knowing.{known_took, planned_any}
+use Rattle.editor_tracks.specs.Ranges.{range_edit}
+use Rattle.editor_state.specs.Took.{Took, quietly, silent, told_by, with_sound}
+use Rattle.editor_tracks.proofs.PlanDamage.{no_plan_tells}
+use Rattle.editor_state.proofs.Refusals.DamageTests.{range_tells}
+use Rattle.editor_tracks.proofs.RangeLaws.{range_call}
+use Rattle.editor_tracks.proofs.TrackSteps.{track_edit, track_refused, track_stopped}
+use Rattle.editor_tracks.proofs.TrackPlans.{track_next, track_planned}
+use Rattle.editor_edits.proofs.KnownSamples.{known_took, planned_any}
 use Rattle.editor_core.proofs.studio.Studio.edit_range.Goals as goal
 
 pub returns-in-Some-clause-took : goal.returns-in-Some-clause-took

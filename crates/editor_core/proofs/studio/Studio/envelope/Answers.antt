@@ -6,14 +6,15 @@ use Rattle.pcm_base.specs.declared.command.Call.TheVariants.{Line}
 use Rattle.pcm_base.specs.declared.command.Command.TheVariants.{Envelope}
 use Rattle.pcm_base.specs.declared.refusal.Refusal.TheVariants as refusal
 use Rattle.clip_track.specs.Clips.{layout_blocks}
+use Rattle.envelope_view.proofs.AnswerLaws.{counted_of, damaged_of}
 use Rattle.editor_core.specs.Core.{core_of}
-use Rattle.editor_core.specs.Points.{lacks}
-use Rattle.editor_core.specs.Reads.{Looks}
-use Rattle.editor_core.specs.Took.{told_by}
-use Rattle.editor_core.proofs.Currents.{layout_may_read, layout_named, layout_whole}
-use Rattle.editor_core.proofs.Seeing.{idle_looks, read_looks, unread_looks}
-use Rattle.editor_core.proofs.Showing.{scan_stopped, scan_lacks, scan_done, scan_failed}
-use Rattle.editor_core.proofs.StudioCache.{reads_among}
+use Rattle.editor_state.specs.Points.{lacks}
+use Rattle.editor_state.specs.Reads.{Looks}
+use Rattle.editor_state.specs.Took.{told_by}
+use Rattle.editor_commits.proofs.CursorTracks.{layout_may_read, layout_named, layout_whole}
+use Rattle.editor_state.proofs.Calls.LookAnswers.{idle_looks, read_looks, unread_looks}
+use Rattle.editor_views.proofs.CellViews.{scan_stopped, scan_lacks, scan_done, scan_failed}
+use Rattle.editor_state.proofs.Blocks.CachePages.{reads_among}
 use Rattle.editor_core.proofs.studio.Studio.envelope.Goals as goal
 
 pub returns-in-Some : goal.returns-in-Some
@@ -38,13 +39,12 @@ returns-in_err-layout g c =
     (scan_lacks g.S.Store s c.requires c.args.track c.args.from c.args.to fewer c.args.columns why c.in_default.is
     (ap (lacks c.args.track) c.in_err-layout.ensures.1)))
 
-pub columns-requires-clause-named : goal.columns-requires-clause-named
-columns-requires-clause-named g c =
+pub columns-requires : goal.columns-requires
+columns-requires g c =
     let s = core_of c.args.self.now in
-    layout_may_read g.S.Store s c.requires c.args.track c.in_ok-layout.layout.now c.in_ok-layout.ensures
-
-pub columns-requires-clause-cached : goal.columns-requires-clause-cached
-columns-requires-clause-cached g c = (c.requires.cache c.in_default.is).right
+    record {
+      named = layout_may_read g.S.Store s c.requires c.args.track c.in_ok-layout.layout.now c.in_ok-layout.ensures;
+    }
 
 pub returns-in_err-scans : goal.returns-in_err-scans
 returns-in_err-scans g c =
@@ -52,37 +52,39 @@ returns-in_err-scans g c =
     let s = core_of c.args.self.now in
     let fewer = g.met.S.Store.may_fewer s.store in
     let call = Line (Envelope c.args.track c.args.from c.args.to c.args.columns) in
-    let store = c.columns.new.store in
+    let store = c.columns.new.reader.store in
     let layout = c.in_ok-layout.layout.now in
     let has = c.in_ok-layout.ensures in
-    let cache = c.columns.new.cache in
+    let cache = c.columns.new.reader.cache in
     let keeps = reads_among g.S.Store s (layout_blocks layout) cache
-    (layout_named g.S.Store s c.requires c.args.track layout has) c.columns.ensures.cache in
+    (layout_named g.S.Store s c.requires c.args.track layout has) c.in_err-scans.ensures.reads.cache in
     let why = c.in_err-scans.field-0.0 in
     subst (λ r. Looks g.S.Store s call (told_by reply.Columns r) (record s { store = store; cache = cache })) (sym
     (p.1 ∙ ap Err p.2))
-    (unread_looks g.S.Store s call store c.columns.ensures.kept cache why
+    (unread_looks g.S.Store s call store c.in_err-scans.ensures.reads.kept cache why
     (λ held. c.in_err-scans.ensures.sound held.tells (layout_whole g.S.Store s c.requires c.args.track layout has held))
     (scan_failed g.S.Store s c.requires c.args.track c.args.from c.args.to fewer c.args.columns layout
-    has c.in_default.is store c.columns.ensures.kept cache keeps why c.in_err-scans.ensures.tests
-    c.in_err-scans.ensures.faults
-    c.in_err-scans.ensures.damaged))
+    has c.in_default.is store c.in_err-scans.ensures.reads.kept cache keeps why c.in_err-scans.ensures.tests
+    (counted_of why _ _ c.in_err-scans.ensures.reads.faults)
+    (λ told. damaged_of (g.S.Store.reads s.store) (layout_blocks layout) why
+    (c.in_err-scans.ensures.reads.damaged told))))
 
 pub returns : goal.returns
 returns g c =
     let s = core_of c.args.self.now in
     let fewer = g.met.S.Store.may_fewer s.store in
     let call = Line (Envelope c.args.track c.args.from c.args.to c.args.columns) in
-    let store = c.columns.new.store in
+    let store = c.columns.new.reader.store in
     let layout = c.in_ok-layout.layout.now in
     let has = c.in_ok-layout.ensures in
-    let cache = c.columns.new.cache in
+    let cache = c.columns.new.reader.cache in
     let keeps = reads_among g.S.Store s (layout_blocks layout) cache
-    (layout_named g.S.Store s c.requires c.args.track layout has) c.columns.ensures.cache in
+    (layout_named g.S.Store s c.requires c.args.track layout has) c.in_ok-scans.ensures.reads.cache in
     let found = c.in_ok-scans.scans.items in
     subst (λ xs. Looks g.S.Store s call (Ok (reply.Columns xs)) (record s { store = store; cache = cache })) (sym
     c.new.ensures)
-    (read_looks g.S.Store s call store c.columns.ensures.kept cache (reply.Columns found)
+    (read_looks g.S.Store s call store c.in_ok-scans.ensures.reads.kept cache (reply.Columns found)
     (scan_done g.S.Store s c.requires c.args.track c.args.from c.args.to fewer c.args.columns layout has c.in_default.is
-    store c.columns.ensures.kept cache keeps found c.in_ok-scans.ensures.tests c.in_ok-scans.ensures.faults
+    store c.in_ok-scans.ensures.reads.kept cache keeps found c.in_ok-scans.ensures.tests
+    c.in_ok-scans.ensures.reads.faults
     (λ held. c.in_ok-scans.ensures.read held.tells (layout_whole g.S.Store s c.requires c.args.track layout has held))))

@@ -1,7 +1,7 @@
 -- What is counted as named is what is named.
 use Rattle.std.proofs.Common.{refl}
 use Rattle.editor_core.specs.Core.{core_of}
-use Rattle.editor_core.proofs.Counted.{blocks_are, are_named}
+use Rattle.editor_core.proofs.CountedBlocks.{blocks_are, are_named}
 use Rattle.editor_core.proofs.studio.Studio.facts.Goals as goal
 
 pub returns : goal.returns

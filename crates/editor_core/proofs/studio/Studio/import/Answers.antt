@@ -11,16 +11,16 @@ use Rattle.pcm_base.specs.declared.wav.WavFault.TheVariants.{Truncated}
 use Rattle.piece_store.specs.Brought.{Brought, MayBring}
 use Rattle.sound_import.specs.Imported.{import_refusal}
 use Rattle.sound_import.specs.Reading.{brought_from}
-use Rattle.editor_core.specs.Applied.{Lasts}
+use Rattle.editor_state.specs.Applied.{Lasts}
 use Rattle.editor_core.specs.Core.{core_of}
-use Rattle.editor_core.specs.Imports.{IsCutShort, left_as}
-use Rattle.editor_core.specs.Studios.{IsHeld, IsStudio}
-use Rattle.editor_core.specs.Took.{Took, told_by, with_sound}
-use Rattle.editor_core.proofs.Applying.{lasts_idle}
-use Rattle.editor_core.proofs.CutShort.{did_err, did_ok, known_did}
-use Rattle.editor_core.proofs.HeadChannels.{all_told, bytes_have, told_has}
-use Rattle.editor_core.proofs.ImportRefused.{import_plain, import_refused, import_stopped}
-use Rattle.editor_core.proofs.ImportRefused.{inside_short, told_cut, told_short}
+use Rattle.editor_state.specs.Vaults.{IsCutShort, left_as}
+use Rattle.editor_state.specs.Studios.{IsHeld, IsStudio}
+use Rattle.editor_state.specs.Took.{Took, told_by, with_sound}
+use Rattle.editor_state.proofs.Calls.VaultCalls.{lasts_idle}
+use Rattle.editor_imports.proofs.ShortSounds.{did_err, did_ok, known_did}
+use Rattle.editor_imports.proofs.HeadChannels.{all_told, bytes_have, told_has}
+use Rattle.editor_imports.proofs.ImportRefusals.{import_plain, import_refused, import_stopped, inside_short, told_cut}
+use Rattle.editor_imports.proofs.ImportRefusals.{told_short}
 use Rattle.editor_core.proofs.studio.Studio.import.Goals as goal
 
 -- ---- the studio had stopped
@@ -33,7 +33,7 @@ returns-in-Some-clause-took g c = λ told.
 
 pub returns-in-Some-clause-lasts : goal.returns-in-Some-clause-lasts
 returns-in-Some-clause-lasts g c = λ sound.
-    lasts_idle g.S.Store (core_of c.args.self.now) c.requires (g.met.S.Store.may_fewer c.args.self.now.store)
+    lasts_idle g.S.Store (core_of c.args.self.now) c.requires (g.met.S.Store.may_fewer c.args.self.now.reader.store)
     (Line (command.Import c.args.name.now)) tt sound (refusal.Stopped c.in-Some.faults) tt tt
 
 pub returns-in-Some-clause-reason : goal.returns-in-Some-clause-reason

@@ -6,15 +6,15 @@ use Rattle.piece_store.specs.Bringing.{brought, brought_by, brought_count}
 use Rattle.envelope_view.specs.Answers.{IsUndamaged}
 use Rattle.record_body.specs.Kept.{current_tracks}
 use Rattle.editor_core.specs.Core.{core_of}
-use Rattle.editor_core.specs.Edits.{IsStill}
-use Rattle.editor_core.specs.Inserts.{place_edit}
-use Rattle.editor_core.specs.Took.{Took, told_by, with_sound}
-use Rattle.editor_core.specs.TrackEdits.{IsTrackPlan, NoTrackPlan}
-use Rattle.editor_core.proofs.InsertLaws.{place_tells}
-use Rattle.editor_core.proofs.NoDamage.{no_plan_tells}
-use Rattle.editor_core.proofs.TrackLaws.{track_edit, track_refused, track_stopped}
-use Rattle.editor_core.proofs.TrackPlans.{track_next, track_planned}
-use Rattle.editor_core.proofs.Knowing.{known_took, planned_any}
+use Rattle.editor_state.specs.Edits.{IsStill}
+use Rattle.editor_tracks.specs.Inserts.{place_edit}
+use Rattle.editor_state.specs.Took.{Took, told_by, with_sound}
+use Rattle.editor_tracks.specs.TrackEdits.{IsTrackPlan, NoTrackPlan}
+use Rattle.editor_tracks.proofs.InsertLaws.{place_tells}
+use Rattle.editor_tracks.proofs.PlanDamage.{no_plan_tells}
+use Rattle.editor_tracks.proofs.TrackSteps.{track_edit, track_refused, track_stopped}
+use Rattle.editor_tracks.proofs.TrackPlans.{track_next, track_planned}
+use Rattle.editor_edits.proofs.KnownSamples.{known_took, planned_any}
 use Rattle.editor_core.proofs.studio.Studio.insert_given.Goals as goal
 
 pub returns-in-Some-clause-took : goal.returns-in-Some-clause-took

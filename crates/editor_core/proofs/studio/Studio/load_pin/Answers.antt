@@ -11,15 +11,15 @@ use Rattle.mixdown.specs.declared.loaded.Loaded.{Loaded}
 use Rattle.mixdown.specs.Loads.{Shows, tracks_in}
 use Rattle.mix_view.specs.declared.loads.LoadFault.{LoadFault}
 use Rattle.editor_core.specs.Core.{core_of}
-use Rattle.editor_core.specs.declared.studio.Pin.{Pin}
-use Rattle.editor_core.specs.Loads.{Ask, Loads}
-use Rattle.editor_core.specs.Pins.{LacksPin, MayFind}
-use Rattle.editor_core.specs.Studios.{IsHeld}
+use Rattle.editor_state.specs.declared.pin.Pin.{Pin}
+use Rattle.editor_views.specs.Loads.{Ask, Loads}
+use Rattle.editor_views.specs.Pins.{LacksPin, MayFind}
+use Rattle.editor_state.specs.Studios.{IsHeld}
 use Rattle.mix_view.proofs.HeardLaws.{no_frame}
-use Rattle.editor_core.proofs.Loading.{load_done, load_lacks, load_looks, load_stopped, load_wanting, loaded_many}
-use Rattle.editor_core.proofs.Seeing.{idle_looks, read_looks}
-use Rattle.editor_core.proofs.Unpinning.{pin_may_read, pin_named, pin_whole}
-use Rattle.editor_core.proofs.StudioCache.{reads_among}
+use Rattle.editor_views.proofs.PinLoads.{load_done, load_lacks, load_looks, load_stopped, load_wanting, loaded_many}
+use Rattle.editor_state.proofs.Calls.LookAnswers.{idle_looks, read_looks}
+use Rattle.editor_views.proofs.UnpinSteps.{pin_may_read, pin_named, pin_whole}
+use Rattle.editor_state.proofs.Blocks.CachePages.{reads_among}
 use Rattle.editor_core.proofs.studio.Studio.load_pin.Goals as goal
 
 pub returns-in-Some : goal.returns-in-Some
@@ -59,9 +59,6 @@ load_stretch-requires-clause-named g c =
     pin_may_read g.S.Store s c.requires.studio c.args.pin point
     (subst (λ (ps : List Pin). MayFind ps c.args.pin (Some point)) c.deref.ensures.value c.in_ok-point.ensures)
 
-pub load_stretch-requires-clause-cached : goal.load_stretch-requires-clause-cached
-load_stretch-requires-clause-cached g c = (c.requires.studio.cache c.in_default.is).right
-
 pub returns-in-Ok : goal.returns-in-Ok
 returns-in-Ok g c =
     let s = core_of c.args.self.now in
@@ -69,19 +66,19 @@ returns-in-Ok g c =
     let point = c.in_ok-point.point.now in
     let found =
     subst (λ (ps : List Pin). MayFind ps c.args.pin (Some point)) c.deref.ensures.value c.in_ok-point.ensures in
-    let cache = c.load_stretch.new.cache in
-    let store = c.load_stretch.new.store in
+    let cache = c.load_stretch.new.reader.cache in
+    let store = c.load_stretch.new.reader.store in
     let loaded : Loaded = c.load_stretch.new.loaded in
     let keeps = reads_among g.S.Store s (point_blocks point) cache
-    (pin_named g.S.Store s c.requires.studio c.args.pin point found) c.load_stretch.ensures.cache in
+    (pin_named g.S.Store s c.requires.studio c.args.pin point found) c.in-Ok.ensures.reads.cache in
     let src = sources_of (g.S.Store.reads s.store) in
     let shows : IsHeld g.S.Store s → Shows c.args.from (meant src point) loaded = λ held.
     c.in-Ok.ensures.read held.tells (pin_whole g.S.Store s c.requires.studio c.args.pin point found held) in
     record {
-      looks = read_looks g.S.Store s (LoadPin c.args.pin c.args.from c.args.n) store c.load_stretch.ensures.kept cache
+      looks = read_looks g.S.Store s (LoadPin c.args.pin c.args.from c.args.n) store c.in-Ok.ensures.reads.kept cache
           (reply.Loaded (tracks_in loaded))
           (load_done g.S.Store s c.requires.studio fewer c.args.pin c.args.from c.args.n c.in_default.is point found
-          store c.load_stretch.ensures.kept cache keeps (tracks_in loaded) c.in-Ok.ensures.faults
+          store c.in-Ok.ensures.reads.kept cache keeps (tracks_in loaded) c.in-Ok.ensures.reads.faults
           (λ held. loaded_many src point c.args.from c.args.n loaded c.in-Ok.ensures.loaded
           (c.in-Ok.ensures.len ∙ c.in-Ok.ensures.count) (c.load_stretch.ensures.length src) (shows held)));
       loads = record {
@@ -100,7 +97,7 @@ returns-in-Ok g c =
             c.in-Ok.ensures.count;
       };
       wants = load_wanting g.S.Store s c.requires.studio fewer c.args.pin c.args.from c.args.n c.in_default.is point
-          found store c.load_stretch.ensures.kept cache keeps c.in-Ok.ensures.faults;
+          found store c.in-Ok.ensures.reads.kept cache keeps c.in-Ok.ensures.reads.faults;
     }
 
 pub returns-in-Err : goal.returns-in-Err
@@ -111,16 +108,17 @@ returns-in-Err g c =
     let point = c.in_ok-point.point.now in
     let found =
     subst (λ (ps : List Pin). MayFind ps c.args.pin (Some point)) c.deref.ensures.value c.in_ok-point.ensures in
-    let cache = c.load_stretch.new.cache in
-    let store = c.load_stretch.new.store in
+    let cache = c.load_stretch.new.reader.cache in
+    let store = c.load_stretch.new.reader.store in
     let loaded : Loaded = c.load_stretch.new.loaded in
     let keeps = reads_among g.S.Store s (point_blocks point) cache
-    (pin_named g.S.Store s c.requires.studio c.args.pin point found) c.load_stretch.ensures.cache in
+    (pin_named g.S.Store s c.requires.studio c.args.pin point found) c.in-Err.ensures.reads.cache in
     let why : LoadFault = c.in-Err.fault in
     subst (λ (z : Refusal). Loads g.S.Store s ask (Err z) loaded (record s { store = store; cache = cache }))
     (sym c.into.ensures) record {
       looks = load_looks g.S.Store s c.requires.studio fewer c.args.pin c.args.from c.args.n c.in_default.is point
-          found store c.load_stretch.ensures.kept cache keeps why c.in-Err.ensures.faults c.in-Err.ensures.damaged
+          found store c.in-Err.ensures.reads.kept cache keeps why c.in-Err.ensures.reads.faults
+          c.in-Err.ensures.reads.damaged
           (λ held. c.in-Err.ensures.sound held.tells
           (pin_whole g.S.Store s c.requires.studio c.args.pin point found held))
           (λ e. c.load_stretch.ensures.memory (c.in-Err.is ∙ ap Err e));

@@ -5,7 +5,7 @@ use Rattle.pcm_base.specs.declared.answer.Reply.TheVariants as reply
 use Rattle.pcm_base.specs.declared.command.Call.TheVariants.{LoadPin}
 use Rattle.pcm_base.specs.declared.lists.LoadedTrack.{LoadedTrack}
 use Rattle.editor_core.specs.Core.{core_of}
-use Rattle.editor_core.specs.Took.{Took, quietly}
+use Rattle.editor_state.specs.Took.{Took, quietly}
 use Rattle.editor_core.proofs.studio.Studio.load_reply.Goals as goal
 
 pub tracks_of-requires : goal.tracks_of-requires

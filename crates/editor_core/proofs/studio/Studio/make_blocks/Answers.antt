@@ -2,9 +2,9 @@
 use Rattle.std.proofs.Common.{◌∙◌, sym, ap, subst, Err}
 use Rattle.std.proofs.lemmas.Result.{err_from_is_err_and}
 use Rattle.editor_core.specs.Core.{core_of}
-use Rattle.editor_core.specs.Made.{batch_of}
-use Rattle.editor_core.specs.Makes.{Makes}
-use Rattle.editor_core.proofs.Makings.{makes_both}
+use Rattle.editor_state.specs.Made.{batch_of}
+use Rattle.editor_state.specs.Makes.{Makes}
+use Rattle.editor_blocks.proofs.BlocksWritten.{makes_both}
 use Rattle.editor_core.proofs.studio.Studio.make_blocks.Goals as goal
 
 pub returns-in_err-write_blocks-clause-made : goal.returns-in_err-write_blocks-clause-made

@@ -7,10 +7,10 @@ use Rattle.record_body.specs.declared.body.Body.{Body}
 use Rattle.record_body.specs.Kept.{current_tracks}
 use Rattle.record_body.specs.Numbers.{BodyAgrees}
 use Rattle.record_body.proofs.Agreeing.{again_agrees}
-use Rattle.editor_core.specs.Adding.{Exceeds, ExceedsBy}
-use Rattle.editor_core.specs.Bodies.{Writing, all_len, whole_len, writing}
+use Rattle.editor_state.specs.Adding.{Exceeds, ExceedsBy}
+use Rattle.editor_state.specs.Bodies.{Writing, all_len, whole_len, writing}
 use Rattle.editor_core.specs.Core.{core_of}
-use Rattle.editor_core.proofs.Rows.{rows_total, whole_total}
+use Rattle.editor_commits.proofs.RecordRows.{rows_total, whole_total}
 use Rattle.editor_core.proofs.studio.Studio.may_write.Goals as goal
 
 pub body_size-requires : goal.body_size-requires

@@ -6,9 +6,9 @@ use Rattle.pcm_base.specs.declared.command.Call.TheVariants.{Line}
 use Rattle.pcm_base.specs.declared.command.Command.TheVariants as command
 use Rattle.pcm_base.specs.declared.sound.Frame.{Frame}
 use Rattle.editor_core.specs.Core.{core_of}
-use Rattle.editor_core.specs.Took.{Took, quietly, silent}
-use Rattle.editor_core.proofs.Staying.{wants}
-use Rattle.editor_core.proofs.Viewing.{view_front}
+use Rattle.editor_state.specs.Took.{Took, quietly, silent}
+use Rattle.editor_state.proofs.Refusals.EarlyRefusals.{wants}
+use Rattle.editor_views.proofs.BufferFronts.{view_front}
 use Rattle.editor_core.proofs.studio.Studio.mix_reply.Goals as goal
 
 pub returns-in_err-frames : goal.returns-in_err-frames

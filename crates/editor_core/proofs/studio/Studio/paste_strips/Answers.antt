@@ -8,11 +8,11 @@ use Rattle.envelope_view.specs.Answers.{IsUndamaged}
 use Rattle.piece_store.specs.declared.given.Given.TheVariants.{Nothing}
 use Rattle.piece_store.specs.Bringing.{brought, brought_by}
 use Rattle.editor_core.specs.Core.{core_of}
-use Rattle.editor_core.specs.Took.{Took, quietly, silent, told_by, with_sound}
-use Rattle.editor_core.proofs.PasteLaws.{no_paste_tells}
-use Rattle.editor_core.proofs.PasteRefused.{paste_refused, paste_stopped}
-use Rattle.editor_core.proofs.PasteSteps.{paste_edit, paste_planned}
-use Rattle.editor_core.proofs.Knowing.{known_took, planned_any}
+use Rattle.editor_state.specs.Took.{Took, quietly, silent, told_by, with_sound}
+use Rattle.editor_tracks.proofs.PasteLaws.{no_paste_tells}
+use Rattle.editor_tracks.proofs.PasteRefusals.{paste_refused, paste_stopped}
+use Rattle.editor_tracks.proofs.PasteSteps.{paste_edit, paste_planned}
+use Rattle.editor_edits.proofs.KnownSamples.{known_took, planned_any}
 use Rattle.editor_core.proofs.studio.Studio.paste_strips.Goals as goal
 
 pub returns-in-Some-clause-took : goal.returns-in-Some-clause-took

@@ -6,11 +6,12 @@ use Rattle.std.proofs.lemmas.List.{length-take, take_all}
 use Rattle.pcm_base.specs.declared.answer.Reply.TheVariants.{Done}
 use Rattle.pcm_base.specs.declared.command.Call.TheVariants.{Piece}
 use Rattle.pcm_base.specs.declared.refusal.Refusal.{Refusal}
-use Rattle.editor_core.specs.Core.{Core, core_of}
-use Rattle.editor_core.specs.Edits.{IsStill}
-use Rattle.editor_core.specs.Exchanges.{may_begin}
-use Rattle.editor_core.specs.Studios.{IsHeld}
-use Rattle.editor_core.specs.Took.{Took, quietly, told_by}
+use Rattle.editor_state.specs.Core.{Core}
+use Rattle.editor_core.specs.Core.{core_of}
+use Rattle.editor_state.specs.Edits.{IsStill}
+use Rattle.editor_state.specs.Exchanges.{may_begin}
+use Rattle.editor_state.specs.Studios.{IsHeld}
+use Rattle.editor_state.specs.Took.{Took, quietly, told_by}
 use Rattle.editor_core.proofs.studio.Studio.pieces.Goals as goal
 
 -- what a test refused has left the studio as it was

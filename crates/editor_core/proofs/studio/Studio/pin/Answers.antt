@@ -10,14 +10,15 @@ use Rattle.envelope_view.specs.Answers.{IsUndamaged}
 use Rattle.project_state.specs.declared.track.Track.{Track}
 use Rattle.record_body.specs.Kept.{current_tracks}
 use Rattle.project_state.specs.Meaning.{point_blocks}
-use Rattle.editor_core.specs.Core.{Core, core_of}
+use Rattle.editor_state.specs.Core.{Core}
+use Rattle.editor_core.specs.Core.{core_of}
 use Rattle.layout_uses.specs.Tallies.{Comes}
-use Rattle.editor_core.specs.Occurrences.{HasIds}
-use Rattle.editor_core.specs.Pins.{AnswersPin}
-use Rattle.editor_core.specs.Took.{Took, quietly, told_by}
-use Rattle.editor_core.proofs.Bounds.{named_there, few_more}
-use Rattle.editor_core.proofs.Editing.{current_sound, old_names}
-use Rattle.editor_core.proofs.Pinning.{pinned, pin_spent, pin_stopped, pin_wanting}
+use Rattle.editor_state.specs.Occurrences.{HasIds}
+use Rattle.editor_views.specs.Pins.{AnswersPin}
+use Rattle.editor_state.specs.Took.{Took, quietly, told_by}
+use Rattle.editor_state.proofs.Blocks.BlockNumbers.{named_there, few_more}
+use Rattle.editor_commits.proofs.CurrentProject.{current_sound, old_names}
+use Rattle.editor_views.proofs.PinSteps.{pinned, pin_spent, pin_stopped, pin_wanting}
 use Rattle.layout_uses.proofs.Times.{Few}
 use Rattle.editor_core.proofs.studio.Studio.pin.Goals as goal
 

@@ -6,12 +6,12 @@ use Rattle.pcm_base.specs.declared.answer.Reply.TheVariants as reply
 use Rattle.pcm_base.specs.declared.command.Call.TheVariants.{PinLen}
 use Rattle.sample_block.specs.Sources.{sources_of}
 use Rattle.envelope_view.specs.Answers.{IsUndamaged}
-use Rattle.editor_core.specs.Adding.{IsNoWant}
+use Rattle.editor_state.specs.Adding.{IsNoWant}
 use Rattle.editor_core.specs.Core.{core_of}
-use Rattle.editor_core.specs.declared.studio.Pin.{Pin}
-use Rattle.editor_core.specs.Pins.{LacksPin, MayFind}
-use Rattle.editor_core.specs.Took.{Took, quietly, told_by}
-use Rattle.editor_core.proofs.Hearing.{len_stopped, len_lacks, measured}
+use Rattle.editor_state.specs.declared.pin.Pin.{Pin}
+use Rattle.editor_views.specs.Pins.{LacksPin, MayFind}
+use Rattle.editor_state.specs.Took.{Took, quietly, told_by}
+use Rattle.editor_views.proofs.MixViews.{len_stopped, len_lacks, measured}
 use Rattle.editor_core.proofs.studio.Studio.pin_len.Goals as goal
 
 pub returns-in-Some-clause-took : goal.returns-in-Some-clause-took

@@ -6,10 +6,10 @@ use Rattle.edit_ops.specs.Placing.{SumsFit}
 use Rattle.edit_ops.specs.Runs.{AllTracksHalfFull, layouts}
 use Rattle.project_state.specs.Tracks.{track_of}
 use Rattle.record_body.specs.Kept.{current_tracks}
-use Rattle.editor_core.specs.Copies.{run_of}
+use Rattle.editor_tracks.specs.Copies.{run_of}
 use Rattle.editor_core.specs.Core.{core_of}
-use Rattle.editor_core.proofs.CutLaws.{run_half_full}
-use Rattle.editor_core.proofs.PasteLaws.{pastes_few, sums_fit}
+use Rattle.editor_tracks.proofs.CutLaws.{run_half_full}
+use Rattle.editor_tracks.proofs.PasteLaws.{pastes_few, sums_fit}
 use Rattle.editor_core.proofs.studio.Studio.planned_paste.Goals as goal
 use Rattle.pcm_base.specs.Edits.{placed}
 

@@ -9,11 +9,11 @@ use Rattle.edit_ops.specs.Plans.{IsPlan}
 use Rattle.project_state.specs.Tracks.{track_of}
 use Rattle.record_body.specs.Kept.{current_tracks}
 use Rattle.editor_core.specs.Core.{core_of}
-use Rattle.editor_core.specs.Points.{put_in}
-use Rattle.editor_core.specs.Ranges.{range_edit}
-use Rattle.editor_core.specs.TrackEdits.{NoTrackPlan, with_layout}
-use Rattle.editor_core.proofs.RangeLaws.{part_range}
-use Rattle.editor_core.proofs.TrackPlans.{current_track, no_such_track, test_fails}
+use Rattle.editor_state.specs.Points.{put_in}
+use Rattle.editor_tracks.specs.Ranges.{range_edit}
+use Rattle.editor_tracks.specs.TrackEdits.{NoTrackPlan, with_layout}
+use Rattle.editor_tracks.proofs.RangeLaws.{part_range}
+use Rattle.editor_tracks.proofs.TrackPlans.{current_track, no_such_track, test_fails}
 use Rattle.editor_core.proofs.studio.Studio.planned_range.Goals as goal
 
 pub invariant_of-planner-clause-some : goal.invariant_of-planner-clause-some

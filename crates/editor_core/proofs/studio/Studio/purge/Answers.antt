@@ -14,18 +14,20 @@ use Rattle.envelope_view.specs.Answers.{IsUndamaged}
 use Rattle.record_body.specs.declared.body.Body.TheVariants.{Purge}
 use Rattle.project_state.specs.declared.track.Track.{Track}
 use Rattle.record_body.specs.Spelling.{spelling}
-use Rattle.editor_core.specs.Adding.{Adds, IsNoWant}
-use Rattle.editor_core.specs.Bodies.{single}
-use Rattle.editor_core.specs.Core.{Core, core_of}
+use Rattle.editor_state.specs.Adding.{Adds, IsNoWant}
+use Rattle.editor_state.specs.Bodies.{single}
+use Rattle.editor_state.specs.Core.{Core}
+use Rattle.editor_core.specs.Core.{core_of}
 use Rattle.layout_uses.specs.Layouts.{history_tracks}
 use Rattle.layout_uses.specs.Tallies.{Becomes, MayBecome}
-use Rattle.editor_core.specs.Took.{Took, quietly, silent, told_by}
-use Rattle.editor_core.proofs.Committing.{fails}
-use Rattle.editor_core.proofs.Moved.{in_range, purged_by}
-use Rattle.editor_core.proofs.Moving.{purge_call, purges, moves, may_purge, purged_counts, tested_out, no_want}
-use Rattle.editor_core.proofs.Moving.{added_range, other_reason, own_range}
-use Rattle.editor_core.proofs.NoDamage.{TellsNone, range_tells, undamaged_test}
-use Rattle.editor_core.proofs.Staying.{none_made}
+use Rattle.editor_state.specs.Took.{Took, quietly, silent, told_by}
+use Rattle.editor_commits.proofs.CommitFailures.{fails}
+use Rattle.editor_commits.proofs.HistoryMoves.{in_range, purged_by}
+use Rattle.editor_commits.proofs.MoveSteps.{purge_call, purges, moves, may_purge, purged_counts, tested_out, no_want}
+use Rattle.editor_commits.proofs.MoveSteps.{added_range, other_reason, own_range}
+use Rattle.editor_state.proofs.Refusals.DamageTests.{TellsNone, range_tells, undamaged_test}
+use Rattle.editor_state.proofs.Refusals.EarlyRefusals.{none_made}
+use Rattle.editor_state.proofs.Blocks.CachePages.{pages_of_blocks}
 use Rattle.editor_core.proofs.studio.Studio.purge.Goals as goal
 
 pub returns-in_err-may_commit-clause-took : goal.returns-in_err-may_commit-clause-took
@@ -83,7 +85,8 @@ returns-in_err-commit_small-clause-took g c =
     (sym (p.1 ∙ ap Err p.2))
     (fails g.S.Store s [] (Line (command.Purge c.args.count)) silent 0 (single (Purge c.args.count))
     (purged s.history c.args.count) s.clipboard s.next_track c.requires (none_made g.S.Store s)
-    (purges g.S.Store s c.requires c.args.count some.0 some.1 c.ranges.count.fits) may.0 own may.2 (omega (arith, may.3)) why mid
+    (purges g.S.Store s c.requires c.args.count some.0 some.1 c.ranges.count.fits) may.0 own may.2 (omega (arith, may.3))
+    (omega (arith, c.requires.layouts)) why mid
     (g.met.S.Store.may_fewer s.store) adds)
 
 pub returns-in_err-commit_small-clause-number : goal.returns-in_err-commit_small-clause-number
@@ -180,5 +183,13 @@ returns-clause-took g c =
     c.purge.ensures.ok c.purge.ensures.err in
     moves g.S.Store s c.requires (Line (command.Purge n)) (Purge n) (purged s.history n) mid c.purge.new.self.history
     (count_of tally'.uses) (count_of tally'.ledger) (purges g.S.Store s c.requires n some.0 some.1 c.ranges.count.fits)
-    may.0 own may.3 adds (gone ∙ ap (λ (h : History (List Track)). purged h n) same)
+    may.0 own refl may.3 adds (gone ∙ ap (λ (h : History (List Track)). purged h n) same)
     (purged_counts g.S.Store s c.requires n tally tally' uses_are counts_are becomes)
+
+pub commit_small-requires-clause-file : goal.commit_small-requires-clause-file
+commit_small-requires-clause-file g c = c.requires.journal.among
+
+pub commit_small-requires-clause-pages : goal.commit_small-requires-clause-pages
+commit_small-requires-clause-pages g c =
+    let s = core_of c.args.self.now in
+    pages_of_blocks s.next_block s.cache c.requires.pages

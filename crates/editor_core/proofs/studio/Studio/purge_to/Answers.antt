@@ -9,15 +9,15 @@ use Rattle.pcm_base.specs.declared.refusal.Refusal.TheVariants.{BadRange}
 use Rattle.purge_size.specs.Sizes.{IsPurgeTo}
 use Rattle.envelope_view.specs.Answers.{IsUndamaged}
 use Rattle.editor_core.specs.Core.{core_of}
-use Rattle.editor_core.specs.Took.{Took, quietly, told_by}
-use Rattle.editor_core.proofs.PurgingTo.{numbered_points, purged_to, small_blocks, some_go, to_leaves, to_stopped}
-use Rattle.editor_core.proofs.PurgingTo.{to_wanting, unpurged_to}
+use Rattle.editor_state.specs.Took.{Took, quietly, told_by}
+use Rattle.editor_commits.proofs.PurgeToSize.{numbered_points, purged_to, small_blocks, some_go, to_leaves, to_stopped}
+use Rattle.editor_commits.proofs.PurgeToSize.{to_wanting, unpurged_to}
 use Rattle.editor_core.proofs.studio.Studio.purge_to.Goals as goal
 
 pub returns-in-Some-clause-took : goal.returns-in-Some-clause-took
 returns-in-Some-clause-took g c =
     to_stopped g.S.Store (core_of c.args.self.now) c.args.bytes c.requires
-    (g.met.S.Store.may_fewer c.args.self.now.store) c.in-Some.faults c.in-Some.is
+    (g.met.S.Store.may_fewer c.args.self.now.reader.store) c.in-Some.faults c.in-Some.is
 
 pub purge_count-requires-clause-numbered : goal.purge_count-requires-clause-numbered
 purge_count-requires-clause-numbered g c =
@@ -38,7 +38,7 @@ returns-in_err-count-clause-took g c =
 pub returns-then-count-eq0-clause-took : goal.returns-then-count-eq0-clause-took
 returns-then-count-eq0-clause-took g c =
     to_leaves g.S.Store (core_of c.args.self.now) c.args.bytes c.requires
-    (g.met.S.Store.may_fewer c.args.self.now.store) c.in_default.is
+    (g.met.S.Store.may_fewer c.args.self.now.reader.store) c.in_default.is
     (subst (IsPurgeTo (core_of c.args.self.now).history c.args.bytes) c.if-count-eq0.true c.in_ok-count.ensures)
 
 pub returns-then-count-eq0-clause-none : goal.returns-then-count-eq0-clause-none

@@ -3,8 +3,8 @@ use Rattle.std.proofs.Common.{arith}
 use Rattle.std.proofs.lemmas.Int.{ints}
 use Rattle.pcm_base.specs.declared.command.Call.TheVariants as call
 use Rattle.pcm_base.specs.declared.command.Command.TheVariants as command
-use Rattle.editor_core.specs.Took.{silent}
-use Rattle.editor_core.proofs.InsertLaws.{ramp_again}
+use Rattle.editor_state.specs.Took.{silent}
+use Rattle.editor_tracks.proofs.InsertLaws.{ramp_again}
 use Rattle.editor_core.proofs.studio.Studio.ramp.Goals as goal
 
 pub returns-clause-took : goal.returns-clause-took

@@ -9,13 +9,13 @@ use Rattle.pcm_base.specs.declared.refusal.Refusal.TheVariants as refusal
 use Rattle.sample_block.specs.Sources.{sources_of}
 use Rattle.project_state.specs.Meaning.{point_blocks}
 use Rattle.editor_core.specs.Core.{core_of}
-use Rattle.editor_core.specs.declared.studio.Pin.{Pin}
-use Rattle.editor_core.specs.Pins.{LacksPin, MayFind}
-use Rattle.editor_core.specs.Reads.{Sees}
-use Rattle.editor_core.proofs.Hearing.{as_many, read_stopped, read_lacks, read_done, read_failed}
-use Rattle.editor_core.proofs.Seeing.{idle_sees, read_sees, unread_sees, seen}
-use Rattle.editor_core.proofs.Unpinning.{pin_may_read, pin_named, pin_whole}
-use Rattle.editor_core.proofs.StudioCache.{reads_among}
+use Rattle.editor_state.specs.declared.pin.Pin.{Pin}
+use Rattle.editor_views.specs.Pins.{LacksPin, MayFind}
+use Rattle.editor_state.specs.Reads.{Sees}
+use Rattle.editor_views.proofs.MixViews.{as_many, read_stopped, read_lacks, read_done, read_failed}
+use Rattle.editor_state.proofs.Calls.LookAnswers.{idle_sees, read_sees, unread_sees, seen}
+use Rattle.editor_views.proofs.UnpinSteps.{pin_may_read, pin_named, pin_whole}
+use Rattle.editor_state.proofs.Blocks.CachePages.{reads_among}
 use Rattle.editor_core.proofs.studio.Studio.read_pin.Goals as goal
 
 pub returns-in-Some-clause-seen : goal.returns-in-Some-clause-seen
@@ -52,28 +52,25 @@ read_mix-requires-clause-named g c =
     pin_may_read g.S.Store s c.requires c.args.pin point
     (subst (λ (ps : List Pin). MayFind ps c.args.pin (Some point)) c.deref.ensures.value c.in_ok-point.ensures)
 
-pub read_mix-requires-clause-cached : goal.read_mix-requires-clause-cached
-read_mix-requires-clause-cached g c = (c.requires.cache c.in_default.is).right
-
 pub returns-in-Ok-clause-seen : goal.returns-in-Ok-clause-seen
 returns-in-Ok-clause-seen g c =
     let s = core_of c.args.self.now in
     let fewer = g.met.S.Store.may_fewer s.store in
     let count = length c.args.out.now in
-    let store = c.read_mix.new.store in
+    let store = c.read_mix.new.reader.store in
     let point = c.in_ok-point.point.now in
     let found =
     subst (λ (ps : List Pin). MayFind ps c.args.pin (Some point)) c.deref.ensures.value c.in_ok-point.ensures in
-    let cache = c.read_mix.new.cache in
+    let cache = c.read_mix.new.reader.cache in
     let keeps = reads_among g.S.Store s (point_blocks point) cache
-    (pin_named g.S.Store s c.requires c.args.pin point found) c.read_mix.ensures.cache in
+    (pin_named g.S.Store s c.requires c.args.pin point found) c.in-Ok.ensures.reads.cache in
     let n = c.in-Ok.count in
     let src = sources_of (g.S.Store.reads s.store) in
-    read_sees g.S.Store s (ReadPin c.args.pin c.args.from count) store c.read_mix.ensures.kept cache Frames
+    read_sees g.S.Store s (ReadPin c.args.pin c.args.from count) store c.in-Ok.ensures.reads.kept cache Frames
     c.read_mix.new.out
     n c.in-Ok.ensures.fits
     (read_done g.S.Store s c.requires fewer c.args.pin c.args.from count c.in_default.is point found store
-    c.read_mix.ensures.kept cache keeps _ c.in-Ok.ensures.faults
+    c.in-Ok.ensures.reads.kept cache keeps _ c.in-Ok.ensures.reads.faults
     (λ held. c.in-Ok.ensures.read held.tells (pin_whole g.S.Store s c.requires c.args.pin point found held)
     ∙ as_many src point c.args.from count n c.in-Ok.ensures.count (c.read_mix.ensures.len src)))
 
@@ -82,19 +79,19 @@ returns-in-Err-clause-seen g c =
     let s = core_of c.args.self.now in
     let fewer = g.met.S.Store.may_fewer s.store in
     let count = length c.args.out.now in
-    let store = c.read_mix.new.store in
+    let store = c.read_mix.new.reader.store in
     let point = c.in_ok-point.point.now in
     let found =
     subst (λ (ps : List Pin). MayFind ps c.args.pin (Some point)) c.deref.ensures.value c.in_ok-point.ensures in
-    let cache = c.read_mix.new.cache in
+    let cache = c.read_mix.new.reader.cache in
     let keeps = reads_among g.S.Store s (point_blocks point) cache
-    (pin_named g.S.Store s c.requires c.args.pin point found) c.read_mix.ensures.cache in
+    (pin_named g.S.Store s c.requires c.args.pin point found) c.in-Err.ensures.reads.cache in
     let fault = c.in-Err.fault in
     subst (λ (z : Refusal). Sees g.S.Store s
     (seen (ReadPin c.args.pin c.args.from count) Frames c.read_mix.new.out (Err z))
     (record s { store = store; cache = cache })) (sym c.into.ensures)
     (unread_sees g.S.Store s
-    (ReadPin c.args.pin c.args.from count) store c.read_mix.ensures.kept cache Frames c.read_mix.new.out fault
+    (ReadPin c.args.pin c.args.from count) store c.in-Err.ensures.reads.kept cache Frames c.read_mix.new.out fault
     (λ held. c.in-Err.ensures.sound held.tells (pin_whole g.S.Store s c.requires c.args.pin point found held))
     (read_failed g.S.Store s c.requires fewer c.args.pin c.args.from count c.in_default.is point found store
-    c.read_mix.ensures.kept cache keeps fault c.in-Err.ensures.faults c.in-Err.ensures.damaged))
+    c.in-Err.ensures.reads.kept cache keeps fault c.in-Err.ensures.reads.faults c.in-Err.ensures.reads.damaged))

@@ -5,11 +5,11 @@ use Rattle.pcm_base.specs.declared.answer.Reply.TheVariants as reply
 use Rattle.pcm_base.specs.declared.command.Call.TheVariants.{ReadPin}
 use Rattle.pcm_base.specs.declared.sound.Frame.{Frame}
 use Rattle.editor_core.specs.Core.{core_of}
-use Rattle.editor_core.specs.Took.{Took, quietly, silent}
-use Rattle.editor_core.proofs.PinReads.{read_as_many}
-use Rattle.editor_core.proofs.PinRefused.{len_refused, read_refused}
-use Rattle.editor_core.proofs.Staying.{wants}
-use Rattle.editor_core.proofs.Viewing.{view_front}
+use Rattle.editor_state.specs.Took.{Took, quietly, silent}
+use Rattle.editor_views.proofs.PinReads.{read_as_many}
+use Rattle.editor_views.proofs.PinRefusals.{len_refused, read_refused}
+use Rattle.editor_state.proofs.Refusals.EarlyRefusals.{wants}
+use Rattle.editor_views.proofs.BufferFronts.{view_front}
 use Rattle.editor_core.proofs.studio.Studio.read_reply.Goals as goal
 
 pub returns : goal.returns

@@ -3,8 +3,9 @@ use Rattle.std.proofs.Common.{◌≡◌, inr, refl, sym, subst, ℕ, [], ◌∷�
 use Rattle.std.proofs.Common.{Option, arith}
 use Rattle.block_ledger.specs.Entries.{count_of}
 use Rattle.editor_core.specs.Core.{core_of}
-use Rattle.editor_core.proofs.Gone.{long}
-use Rattle.editor_core.proofs.RemovingFirst.{next_here, none_here, removes_all, removes_fail, removing_more, removing_none}
+use Rattle.editor_cleanup.proofs.IdRemovals.{long}
+use Rattle.editor_cleanup.proofs.RemovePass.{next_here, none_here, removes_all, removes_fail, removing_more}
+use Rattle.editor_cleanup.proofs.RemovePass.{removing_none}
 use Rattle.editor_core.proofs.studio.Studio.remove_first.Goals as goal
 
 is_some : (o : Option ℕ) → o ≡ Some 0 → IsSome o

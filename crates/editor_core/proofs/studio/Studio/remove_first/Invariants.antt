@@ -1,7 +1,7 @@
 -- The files so far.
 use Rattle.std.proofs.Common.{◌≡◌, ℕ, List, length}
 use Rattle.editor_core.specs.Core.{core_of}
-use Rattle.editor_core.proofs.RemovingFirst.{Removing}
+use Rattle.editor_cleanup.proofs.RemovePass.{Removing}
 use Rattle.editor_core.proofs.studio.Studio.remove_first.Given as goal
 
 abbrev pub invariant-loop-count : goal.invariant-loop-count

@@ -5,9 +5,9 @@ use Rattle.editor_core.proofs.studio.Studio.remove_unnamed.Goals as goal
 pub returns : goal.returns
 returns g c = record {
   fields = refl;
-  removed = c.remove_block_cached.ensures.gone;
-  changed = c.remove_block_cached.ensures.changed;
-  faults = c.remove_block_cached.ensures.faults;
-  read_faults = c.remove_block_cached.ensures.read_faults;
-  without = c.remove_block_cached.ensures.dropped;
+  removed = c.remove.ensures.gone;
+  changed = c.remove.ensures.changed;
+  faults = c.remove.ensures.faults;
+  read_faults = c.remove.ensures.read_faults;
+  without = c.remove.ensures.dropped;
 }

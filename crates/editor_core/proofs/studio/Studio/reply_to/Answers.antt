@@ -10,13 +10,13 @@ use Rattle.pcm_base.specs.declared.command.Command.TheVariants as command
 use Rattle.pcm_base.specs.declared.refusal.Refusal.{Refusal}
 use Rattle.pcm_base.specs.Outside.{Sounds}
 use Rattle.pcm_base.specs.Run.{name_in_line}
-use Rattle.editor_core.specs.Applied.{Imported, TookOver}
+use Rattle.editor_state.specs.Applied.{Imported, TookOver}
 use Rattle.editor_core.specs.Core.{core_of}
-use Rattle.editor_core.specs.Exports.{moved_from}
-use Rattle.editor_core.specs.Imports.{VaultCounted}
-use Rattle.editor_core.specs.Took.{Took, told_by, with_sound}
-use Rattle.editor_core.proofs.Applying.{counted_told, export_none, import_name, imported_done, names_none}
-use Rattle.editor_core.proofs.Applying.{over_silent, over_sound, spanned}
+use Rattle.editor_state.specs.Exports.{moved_from}
+use Rattle.editor_state.specs.Vaults.{VaultCounted}
+use Rattle.editor_state.specs.Took.{Took, told_by, with_sound}
+use Rattle.editor_state.proofs.Calls.VaultCalls.{counted_told, export_none, import_name, imported_done, names_none}
+use Rattle.editor_state.proofs.Calls.VaultCalls.{over_silent, over_sound, spanned}
 use Rattle.editor_core.proofs.studio.Studio.reply_to.Goals as goal
 
 pub returns-in-Import-clause-took : goal.returns-in-Import-clause-took

@@ -5,11 +5,11 @@ use Rattle.std.proofs.lemmas.List.{append-nil}
 use Rattle.std.proofs.lemmas.Option.{slice_get_read}
 use Rattle.pcm_base.specs.declared.answer.Answer.{Answer}
 use Rattle.pcm_base.specs.declared.entry.Event.{Event}
-use Rattle.editor_core.specs.Applied.{reply_of}
+use Rattle.editor_state.specs.Applied.{reply_of}
 use Rattle.editor_core.specs.Core.{core_of}
-use Rattle.editor_core.specs.Events.{RanOver}
-use Rattle.editor_core.proofs.Applying.{spanned}
-use Rattle.editor_core.proofs.EventRuns.{over_at, ran_more, ran_none, take_item}
+use Rattle.editor_state.specs.Events.{RanOver}
+use Rattle.editor_state.proofs.Calls.VaultCalls.{spanned}
+use Rattle.editor_state.proofs.Calls.EventRuns.{over_at, ran_more, ran_none, take_item}
 use Rattle.editor_core.proofs.studio.Studio.run_events.Goals as goal
 
 pub events-init : goal.events-init

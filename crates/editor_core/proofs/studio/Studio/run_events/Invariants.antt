@@ -2,7 +2,7 @@
 use Rattle.std.proofs.Common.{◌≡◌, ◌+◌, ◌-◌, ◌≤◌, ◌++◌, List, length, take, vec_capacity}
 use Rattle.pcm_base.specs.declared.answer.Answer.{Answer}
 use Rattle.editor_core.specs.Core.{core_of}
-use Rattle.editor_core.specs.Events.{RanOver}
+use Rattle.editor_state.specs.Events.{RanOver}
 use Rattle.editor_core.proofs.studio.Studio.run_events.Given as goal
 
 abbrev pub invariant-events : goal.invariant-events

@@ -1,6 +1,9 @@
 -- A scan changes nothing, and tells of the block that was read.
+use Rattle.std.proofs.Common.{sym, subst}
+use Rattle.block_cache.specs.Caches.{Entries}
 use Rattle.editor_core.specs.Core.{core_of}
-use Rattle.editor_core.proofs.Scanning.{point_named, point_short, scans_block}
+use Rattle.editor_views.specs.Scans.{ScansBlock}
+use Rattle.editor_views.proofs.BlockScans.{point_named, point_short, scans_block}
 use Rattle.editor_core.proofs.studio.Studio.scan.Goals as goal
 
 pub check-requires-clause-block : goal.check-requires-clause-block
@@ -13,7 +16,11 @@ check-requires-clause-room g c = point_short g.S.Store (core_of c.args.self.now)
 
 pub returns : goal.returns
 returns g c =
-    scans_block g.S.Store (core_of c.args.self.now) c.requires.studio c.requires.going c.args.block c.requires.named
-    c.check.result c.check.new.store c.check.ensures.kept
+    let s = core_of c.args.self.now in
+    let store = c.check.new.reader.store in
+    subst (λ (k : Entries). ScansBlock g.S.Store s c.args.block c.check.result
+    (record s { store = store; cache = k; block_size = c.check.new.self })) (sym c.check.ensures.pages)
+    (scans_block g.S.Store s c.requires.studio c.requires.going c.args.block c.requires.named
+    c.check.result store c.check.ensures.kept
     c.check.new.self c.check.ensures.same c.check.ensures.whole c.check.ensures.checked c.check.ensures.sound
-    c.check.ensures.faults
+    c.check.ensures.faults)

@@ -2,9 +2,9 @@
 use Rattle.std.proofs.Common.{◌∙◌, sym, ap, subst, Err}
 use Rattle.std.proofs.lemmas.Result.{err_from_is_err_and}
 use Rattle.editor_core.specs.Core.{core_of}
-use Rattle.editor_core.specs.Scans.{MayStand, Scans}
+use Rattle.editor_views.specs.Scans.{MayStand, Scans}
 use Rattle.project_state.specs.Meaning.{history_blocks}
-use Rattle.editor_core.proofs.Scanning.{scan_ends, scan_failed, scan_wants, scan_whole}
+use Rattle.editor_views.proofs.BlockScans.{scan_ends, scan_failed, scan_wants, scan_whole}
 use Rattle.editor_core.proofs.studio.Studio.scan_block.Goals as goal
 
 pub returns-in_err-block : goal.returns-in_err-block

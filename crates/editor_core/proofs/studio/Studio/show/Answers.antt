@@ -7,12 +7,12 @@ use Rattle.pcm_base.specs.declared.command.Command.TheVariants.{Show}
 use Rattle.pcm_base.specs.declared.refusal.Refusal.TheVariants as refusal
 use Rattle.clip_track.specs.Clips.{layout_blocks}
 use Rattle.editor_core.specs.Core.{core_of}
-use Rattle.editor_core.specs.Points.{lacks}
-use Rattle.editor_core.specs.Reads.{Sees}
-use Rattle.editor_core.proofs.Currents.{layout_may_read, layout_named, layout_whole}
-use Rattle.editor_core.proofs.Seeing.{idle_sees, read_sees, unread_sees, seen}
-use Rattle.editor_core.proofs.Showing.{show_stopped, show_lacks, show_beyond, show_done, show_failed}
-use Rattle.editor_core.proofs.StudioCache.{reads_among}
+use Rattle.editor_state.specs.Points.{lacks}
+use Rattle.editor_state.specs.Reads.{Sees}
+use Rattle.editor_commits.proofs.CursorTracks.{layout_may_read, layout_named, layout_whole}
+use Rattle.editor_state.proofs.Calls.LookAnswers.{idle_sees, read_sees, unread_sees, seen}
+use Rattle.editor_views.proofs.CellViews.{show_stopped, show_lacks, show_beyond, show_done, show_failed}
+use Rattle.editor_state.proofs.Blocks.CachePages.{reads_among}
 use Rattle.editor_core.proofs.studio.Studio.show.Goals as goal
 
 pub returns-in-Some : goal.returns-in-Some
@@ -53,45 +53,43 @@ read_view-requires-clause-named g c =
     let s = core_of c.args.self.now in
     layout_may_read g.S.Store s c.requires.studio c.args.track c.in_ok-layout.layout.now c.in_ok-layout.ensures
 
-pub read_view-requires-clause-cached : goal.read_view-requires-clause-cached
-read_view-requires-clause-cached g c = (c.requires.studio.cache c.in_default.is).right
-
 pub returns-in_err-count : goal.returns-in_err-count
 returns-in_err-count g c =
     let p = err_from_is_err_and c.from_residual-in_err-count.result c.from_residual-in_err-count.ensures.1 in
     let s = core_of c.args.self.now in
     let fewer = g.met.S.Store.may_fewer s.store in
     let call = Line (Show c.args.track c.args.from c.args.to) in
-    let store = c.read_view.new.store in
+    let store = c.read_view.new.reader.store in
     let layout = c.in_ok-layout.layout.now in
     let has = c.in_ok-layout.ensures in
-    let cache = c.read_view.new.cache in
+    let cache = c.read_view.new.reader.cache in
     let keeps = reads_among g.S.Store s (layout_blocks layout) cache
-    (layout_named g.S.Store s c.requires.studio c.args.track layout has) c.read_view.ensures.cache in
+    (layout_named g.S.Store s c.requires.studio c.args.track layout has) c.in_err-count.ensures.reads.cache in
     let fault = c.in_err-count.field-0.0 in
     subst (λ r. Sees g.S.Store s (seen call Cells c.read_view.new.out r) (record s { store = store; cache = cache }))
     (sym (p.1 ∙ ap Err p.2))
-    (unread_sees g.S.Store s call store c.read_view.ensures.kept cache Cells c.read_view.new.out fault
+    (unread_sees g.S.Store s call store c.in_err-count.ensures.reads.kept cache Cells c.read_view.new.out fault
     (λ held. c.in_err-count.ensures.sound held.tells
     (layout_whole g.S.Store s c.requires.studio c.args.track layout has held))
     (show_failed g.S.Store s c.requires.studio c.args.track c.args.from c.args.to fewer layout has c.in_default.is store
-    c.read_view.ensures.kept cache keeps fault c.in_err-count.ensures.faults c.in_err-count.ensures.damaged))
+    c.in_err-count.ensures.reads.kept cache keeps fault c.in_err-count.ensures.reads.faults
+    c.in_err-count.ensures.reads.damaged))
 
 pub returns : goal.returns
 returns g c =
     let s = core_of c.args.self.now in
     let fewer = g.met.S.Store.may_fewer s.store in
     let call = Line (Show c.args.track c.args.from c.args.to) in
-    let store = c.read_view.new.store in
+    let store = c.read_view.new.reader.store in
     let layout = c.in_ok-layout.layout.now in
     let has = c.in_ok-layout.ensures in
-    let cache = c.read_view.new.cache in
+    let cache = c.read_view.new.reader.cache in
     let keeps = reads_among g.S.Store s (layout_blocks layout) cache
-    (layout_named g.S.Store s c.requires.studio c.args.track layout has) c.read_view.ensures.cache in
+    (layout_named g.S.Store s c.requires.studio c.args.track layout has) c.in_ok-count.ensures.reads.cache in
     let n = c.in_ok-count.count in
-    read_sees g.S.Store s call store c.read_view.ensures.kept cache Cells c.read_view.new.out n
+    read_sees g.S.Store s call store c.in_ok-count.ensures.reads.kept cache Cells c.read_view.new.out n
     c.in_ok-count.ensures.count
     (show_done g.S.Store s c.requires.studio c.args.track c.args.from c.args.to fewer layout has c.in_default.is store
-    c.read_view.ensures.kept cache keeps _ c.in_ok-may_view.ensures c.in_ok-count.ensures.faults
+    c.in_ok-count.ensures.reads.kept cache keeps _ c.in_ok-may_view.ensures c.in_ok-count.ensures.reads.faults
     (λ held. c.in_ok-count.ensures.read held.tells
     (layout_whole g.S.Store s c.requires.studio c.args.track layout has held)))

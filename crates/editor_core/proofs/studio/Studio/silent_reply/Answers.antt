@@ -6,7 +6,7 @@ use Rattle.pcm_base.specs.declared.command.Command.TheVariants as command
 use Rattle.pcm_base.specs.declared.command.Call.TheVariants.{Line}
 use Rattle.pcm_base.specs.declared.refusal.Refusal.{Refusal}
 use Rattle.editor_core.specs.Core.{core_of}
-use Rattle.editor_core.specs.Took.{Took, freeing, quietly}
+use Rattle.editor_state.specs.Took.{Took, freeing, quietly}
 use Rattle.editor_core.proofs.studio.Studio.silent_reply.Goals as goal
 
 pub returns-in-Track : goal.returns-in-Track

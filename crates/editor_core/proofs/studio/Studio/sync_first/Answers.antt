@@ -1,13 +1,15 @@
 -- One sync after another.
-use Rattle.std.proofs.Common.{◌≡◌, ◌∙◌, ap, refl, sym, subst, ℕ, [], ◌∷◌, ◌++◌}
+use Rattle.std.proofs.Common.{◌≡◌, ◌∙◌, ap, refl, sym, subst, ℕ, ◌+◌, [], ◌∷◌, ◌++◌}
 use Rattle.std.proofs.Common.{IsSome, Some, Option, Err, arith}
 use Rattle.std.proofs.lemmas.Result.{err_from_is_err_and}
+use Rattle.block_cache.specs.Caches.{Entries}
 use Rattle.block_ledger.specs.Entries.{count_of}
 use Rattle.editor_core.specs.Core.{core_of}
-use Rattle.editor_core.specs.Passes.{SyncsFirst}
-use Rattle.editor_core.proofs.FirstIds.{first_none}
-use Rattle.editor_core.proofs.Gone.{long}
-use Rattle.editor_core.proofs.SyncingFirst.{next_there, none_there, syncing_more, syncing_none, syncs_all, syncs_fail}
+use Rattle.editor_cleanup.specs.Passes.{SyncsFirst}
+use Rattle.editor_cleanup.proofs.FirstIds.{first_none}
+use Rattle.editor_cleanup.proofs.IdRemovals.{long}
+use Rattle.editor_cleanup.proofs.SyncPass.{Syncing, next_there, none_there, syncing_more, syncing_none, syncs_all}
+use Rattle.editor_cleanup.proofs.SyncPass.{syncs_fail}
 use Rattle.editor_core.proofs.studio.Studio.sync_first.Goals as goal
 
 is_some : (o : Option ℕ) → o ≡ Some 0 → IsSome o
@@ -28,18 +30,21 @@ returns-in_default g c =
     syncs_all g.S.Store s is.0 c.loop-i.from mid is.2 tt c.args.count
     (first_none s.counts c.args.count is.0 c.loop-i.from is.2.next (omega (arith, is.1, few)) none)
 
-pub returns-in_err-sync_block : goal.returns-in_err-sync_block
-returns-in_err-sync_block g c =
+pub returns-in_err-sync : goal.returns-in_err-sync
+returns-in_err-sync g c =
     let s = core_of c.args.self.now in
     let mid = core_of c.loop-i.self in
     let is = c.loop-i.invariant in
     let few = c.loop-i-test.true in
     let e = err_from_is_err_and c.from_residual.result c.from_residual.ensures.1 in
-    let store = c.sync_block.new.store in
-    subst (λ r. SyncsFirst g.S.Store s c.args.count r (record mid { store = store })) (sym (e.1 ∙ ap Err e.2))
-    (syncs_fail g.S.Store s is.0 c.loop-i.from mid is.2 c.in-Some.id store c.in_err-sync_block.ensures.reads
-    c.in_err-sync_block.ensures.changed c.in_err-sync_block.field-0.0 c.args.count (omega (arith, is.1, few))
-    c.in_err-sync_block.ensures.faults c.in_err-sync_block.ensures.read_faults)
+    let store = c.sync.new.self.store in
+    subst (λ r. SyncsFirst g.S.Store s c.args.count r (record mid { store = store; cache = c.sync.new.self.cache }))
+    (sym (e.1 ∙ ap Err e.2))
+    (subst (λ (k : Entries). SyncsFirst g.S.Store s c.args.count (Err c.in_err-sync.field-0.0)
+    (record mid { store = store; cache = k })) (sym c.sync.ensures.cache)
+    (syncs_fail g.S.Store s is.0 c.loop-i.from mid is.2 c.in-Some.id store c.in_err-sync.ensures.reads
+    c.in_err-sync.ensures.changed c.in_err-sync.field-0.0 c.args.count (omega (arith, is.1, few))
+    c.in_err-sync.ensures.faults c.in_err-sync.ensures.read_faults))
 
 pub overflow_add-from : goal.overflow_add-from
 overflow_add-from g c =
@@ -55,10 +60,13 @@ loop-i-preserved g c =
     let mid = core_of c.loop-i.self in
     let is = c.loop-i.invariant in
     let id = c.in-Some.id in
-    let done = c.in_ok-sync_block.ensures in
+    let done = c.in_ok-sync.ensures in
+    let store = c.sync.new.self.store in
     let next = next_there g.S.Store s is.0 c.loop-i.from mid is.2 id c.in-Some.ensures.found in (
       is.0 ++ id ∷ [],
       omega (arith, long is.0 id, is.1),
-      syncing_more g.S.Store s is.0 c.loop-i.from mid is.2 id c.sync_block.new.store done.reads done.changed next
-          done.durable done.faults.kept done.read_faults,
+      subst (λ (k : Entries). Syncing g.S.Store s (is.0 ++ id ∷ []) (id + 1) (record mid { store = store; cache = k }))
+          (sym done.cache)
+          (syncing_more g.S.Store s is.0 c.loop-i.from mid is.2 id store done.reads done.changed next
+          done.durable done.faults.kept done.read_faults),
     )

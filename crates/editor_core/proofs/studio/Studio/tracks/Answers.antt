@@ -10,8 +10,8 @@ use Rattle.pcm_base.specs.Step.{line_of_track}
 use Rattle.project_state.specs.declared.track.Track.{Track}
 use Rattle.project_state.specs.Meaning.{meant}
 use Rattle.editor_core.specs.Core.{core_of}
-use Rattle.editor_core.specs.Took.{Took, quietly, told_by}
-use Rattle.editor_core.proofs.Telling.{tell_stopped, tell_wanting, told_of}
+use Rattle.editor_state.specs.Took.{Took, quietly, told_by}
+use Rattle.editor_views.proofs.TrackListing.{tell_stopped, tell_wanting, told_of}
 use Rattle.editor_core.proofs.studio.Studio.tracks.Goals as goal
 
 pub returns-in-Some-clause-took : goal.returns-in-Some-clause-took

@@ -10,15 +10,17 @@ use Rattle.pcm_base.specs.History.{at_cursor}
 use Rattle.envelope_view.specs.Answers.{IsUndamaged}
 use Rattle.record_body.specs.declared.body.Body.TheVariants.{Undo}
 use Rattle.record_body.specs.Spelling.{spelling}
-use Rattle.editor_core.specs.Adding.{Adds, IsNoWant}
-use Rattle.editor_core.specs.Bodies.{single}
-use Rattle.editor_core.specs.Core.{Core, core_of}
-use Rattle.editor_core.specs.Took.{Took, quietly, silent, told_by}
-use Rattle.editor_core.proofs.Committing.{fails}
-use Rattle.editor_core.proofs.Moved.{undone, positive}
-use Rattle.editor_core.proofs.Moving.{undo_call, undoes, moved, tested_out, no_want, other_reason}
-use Rattle.editor_core.proofs.NoDamage.{TellsNone, one_tells, undamaged_test}
-use Rattle.editor_core.proofs.Staying.{none_made}
+use Rattle.editor_state.specs.Adding.{Adds, IsNoWant}
+use Rattle.editor_state.specs.Bodies.{single}
+use Rattle.editor_state.specs.Core.{Core}
+use Rattle.editor_core.specs.Core.{core_of}
+use Rattle.editor_state.specs.Took.{Took, quietly, silent, told_by}
+use Rattle.editor_commits.proofs.CommitFailures.{fails}
+use Rattle.editor_commits.proofs.HistoryMoves.{undone, positive}
+use Rattle.editor_commits.proofs.MoveSteps.{undo_call, undoes, moved, tested_out, no_want, other_reason}
+use Rattle.editor_state.proofs.Refusals.DamageTests.{TellsNone, one_tells, undamaged_test}
+use Rattle.editor_state.proofs.Refusals.EarlyRefusals.{none_made}
+use Rattle.editor_state.proofs.Blocks.CachePages.{pages_of_blocks}
 use Rattle.editor_core.proofs.studio.Studio.undo.Goals as goal
 
 pub returns-in_err-may_commit-clause-took : goal.returns-in_err-may_commit-clause-took
@@ -72,7 +74,8 @@ returns-in_err-commit_small-clause-took g c =
     (sym (p.1 ∙ ap Err p.2))
     (fails g.S.Store s [] (Line command.Undo) silent 0 (single Undo)
     (at_cursor s.history (s.history.cursor - 1)) s.clipboard s.next_track c.requires (none_made g.S.Store s)
-    (undoes g.S.Store s c.requires some) may.0 own may.2 (omega (arith, may.3)) why mid (g.met.S.Store.may_fewer s.store) adds)
+    (undoes g.S.Store s c.requires some) may.0 own may.2 (omega (arith, may.3))
+    (omega (arith, c.requires.layouts)) why mid (g.met.S.Store.may_fewer s.store) adds)
 
 pub returns-in_err-commit_small-clause-number : goal.returns-in_err-commit_small-clause-number
 returns-in_err-commit_small-clause-number g c =
@@ -105,5 +108,13 @@ returns-clause-took g c =
     let gone = undone c.commit_small.new.self.history c.undo.new.self c.undo.result some' c.undo.ensures.ok
     c.undo.ensures.err in
     moved g.S.Store s c.requires (Line command.Undo) Undo (at_cursor s.history (s.history.cursor - 1)) mid
-    c.undo.new.self.history (undoes g.S.Store s c.requires some) refl may.0 own may.3 adds
+    c.undo.new.self.history (undoes g.S.Store s c.requires some) refl may.0 own refl may.3 adds
     (gone ∙ ap (λ h. at_cursor h (h.cursor - 1)) same)
+
+pub commit_small-requires-clause-file : goal.commit_small-requires-clause-file
+commit_small-requires-clause-file g c = c.requires.journal.among
+
+pub commit_small-requires-clause-pages : goal.commit_small-requires-clause-pages
+commit_small-requires-clause-pages g c =
+    let s = core_of c.args.self.now in
+    pages_of_blocks s.next_block s.cache c.requires.pages

@@ -6,9 +6,9 @@ use Rattle.record_body.specs.declared.body.Body.{Body}
 use Rattle.record_body.specs.Kept.{current_tracks}
 use Rattle.record_body.specs.Numbers.{BodyAgrees}
 use Rattle.record_body.proofs.Agreeing.{again_agrees}
-use Rattle.editor_core.specs.Bodies.{body_bytes}
+use Rattle.editor_state.specs.Bodies.{body_bytes}
 use Rattle.editor_core.specs.Core.{core_of}
-use Rattle.editor_core.proofs.Rows.{again_waits}
+use Rattle.editor_commits.proofs.RecordRows.{again_waits}
 use Rattle.editor_core.proofs.studio.Studio.write_again.Goals as goal
 
 pub write_record-requires : goal.write_record-requires

@@ -4,20 +4,23 @@ use Rattle.std.proofs.lemmas.Option.{slice_get_read}
 use Rattle.std.proofs.lemmas.Result.{err_from_is_err_and}
 use Rattle.edit_ops.specs.declared.types.NewBlock.{NewBlock}
 use Rattle.piece_store.specs.Brought.{AreInOrder, Brought, MayBring}
+use Rattle.block_cache.specs.Caches.{AllPass}
 use Rattle.block_ledger.specs.Entries.{count_of}
+use Rattle.editor_state.specs.Core.{Core}
 use Rattle.editor_core.specs.Core.{core_of}
-use Rattle.editor_core.specs.Made.{batch_of}
-use Rattle.editor_core.specs.Makes.{MadeOne, Writes, Written}
-use Rattle.editor_core.proofs.Bringing.{brought_more, brought_none, next_order}
-use Rattle.editor_core.proofs.Makings.{making_next, making_size}
-use Rattle.editor_core.proofs.NextMade.{item, ready_item}
-use Rattle.editor_core.proofs.NextMade.{fresh_next, stuck_here}
+use Rattle.editor_state.specs.Made.{batch_of}
+use Rattle.editor_state.specs.Makes.{MadeOne, Writes, Written}
+use Rattle.editor_state.specs.Studios.{is_given}
+use Rattle.editor_blocks.proofs.BroughtSamples.{brought_more, brought_none, next_order}
+use Rattle.editor_blocks.proofs.BlocksWritten.{making_next, making_size}
+use Rattle.editor_blocks.proofs.NextBlock.{item, ready_item, fresh_next, stuck_here}
+use Rattle.editor_state.proofs.Blocks.CachePages.{pages_by_blocks}
 use Rattle.editor_core.proofs.studio.Studio.write_blocks.Goals as goal
 
 pub rows-init : goal.rows-init
 rows-init g c = record {
   brought = brought_none g.S.Store (core_of c.args.self.now) (g.G.Brings.brings c.args.given.now) c.args.makes.now
-      (g.met.S.Store.may_fewer c.args.self.now.store) c.requires.order;
+      (g.met.S.Store.may_fewer _) c.requires.order;
   still = record { same = refl; goes = λ first h. h };
   faults = refl;
   spare = omega arith;
@@ -153,3 +156,10 @@ returns-clause-written g c =
       subst (λ (k : ℕ). Written g.S.Store (core_of c.args.self.now) (batch_of was.samples c.args.makes.now) k
           (core_of c.rows.self)) all was.written,
     )
+
+pub write_one-requires-clause-pages : goal.write_one-requires-clause-pages
+write_one-requires-clause-pages g c =
+    let s = core_of c.args.self.now in
+    let making = c.rows.invariant.brought.written.making in
+    subst (λ (z : Core g.row.S.Denot). AllPass (is_given z.next_block) z.cache) (sym making.is)
+    (pages_by_blocks s.next_block c.rows.block-index s.cache c.requires.pages)

@@ -2,7 +2,7 @@
 use Rattle.std.proofs.Common.{◌≡◌, ◌+◌, ◌≤◌}
 use Rattle.piece_store.specs.Bringers.{StillBrings}
 use Rattle.editor_core.specs.Core.{core_of}
-use Rattle.editor_core.proofs.Bringing.{IsBrought}
+use Rattle.editor_blocks.proofs.BroughtSamples.{IsBrought}
 use Rattle.editor_core.proofs.studio.Studio.write_blocks.Given as goal
 
 abbrev pub invariant-rows : goal.invariant-rows

@@ -5,9 +5,10 @@ use Rattle.undo_history.specs.Stored.{Stored}
 use Rattle.project_state.specs.declared.track.Track.{Track}
 use Rattle.record_body.specs.Kept.{current_tracks}
 use Rattle.record_body.specs.Numbers.{BodyAgrees}
-use Rattle.editor_core.specs.Bodies.{body_bytes}
-use Rattle.editor_core.specs.Core.{Core, core_of}
-use Rattle.editor_core.proofs.Rows.{all_wait, last_short}
+use Rattle.editor_state.specs.Bodies.{body_bytes}
+use Rattle.editor_state.specs.Core.{Core}
+use Rattle.editor_core.specs.Core.{core_of}
+use Rattle.editor_commits.proofs.RecordRows.{all_wait, last_short}
 use Rattle.editor_core.proofs.studio.Studio.write_records.Goals as goal
 
 pub write_record-requires : goal.write_record-requires

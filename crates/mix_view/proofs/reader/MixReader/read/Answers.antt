@@ -8,6 +8,7 @@ use Rattle.pcm_base.specs.Arithmetic.{counted_from}
 use Rattle.pcm_base.specs.Cells.{Project}
 use Rattle.pcm_base.specs.Mix.{frame_at, mix_length, mix_of}
 use Rattle.project_state.specs.Meaning.{meant, point_blocks}
+use Rattle.block_cache.proofs.ReaderLaws.{reads_err, reads_ok}
 use Rattle.cell_view.specs.Stored.{stored_of}
 use Rattle.cell_view.proofs.SeenLaws.{sound_in}
 use Rattle.mix_view.proofs.CountLaws.{made_from}
@@ -19,13 +20,13 @@ pub returns-in_err-mix_stretches-clause-sound : goal.returns-in_err-mix_stretche
 returns-in_err-mix_stretches-clause-sound g c = λ told whole.
     let p = err_from_is_err_and c.from_residual.result c.from_residual.ensures.1 in
     rw (p.1, p.2)
-    (sound_in (g.S.Store.reads c.args.store.now) (point_blocks c.args.self.now.point.now) _ whole
-    (c.in_err-mix_stretches.ensures.damaged told))
+    (sound_in (g.S.Store.reads c.args.reader.now.store) (point_blocks c.args.self.now.point.now) _ whole
+    (c.in_err-mix_stretches.ensures.reads.damaged told))
 
 pub returns-clause-stored : goal.returns-clause-stored
 returns-clause-stored g c = λ told.
     let a = c.args in
-    let files : Files = g.S.Store.reads c.args.store.now in
+    let files : Files = g.S.Store.reads c.args.reader.now.store in
     let p = meant (stored_of files) a.self.now.point.now in
     let f : ℕ → Frame = frame_at p in
     let len = mix_length p in
@@ -40,7 +41,7 @@ returns-clause-stored g c = λ told.
 
 pub returns-clause-read : goal.returns-clause-read
 returns-clause-read g c = λ told whole.
-    let files : Files = g.S.Store.reads c.args.store.now in
+    let files : Files = g.S.Store.reads c.args.reader.now.store in
     returns-clause-stored g c told
     ∙ ap (λ (p : Project). take c.min-count.result (drop c.args.self.now.at (mix_of p)))
     (stored_meant files c.args.self.now.point.now whole)
@@ -51,3 +52,11 @@ returns-clause-rest g c =
     let out = c.args.out.now in
     let size : length (take count out) ≡ count = omega (arith, length-take count out, c.min-count.ensures) in
     drop_front count c.mix_stretches.new.out (drop count out) (omega (arith, c.mix_stretches.auto.out, size))
+
+pub returns-in_err-mix_stretches-clause-reads : goal.returns-in_err-mix_stretches-clause-reads
+returns-in_err-mix_stretches-clause-reads g c =
+    let p = err_from_is_err_and c.from_residual.result c.from_residual.ensures.1 in
+    rw (p.1, p.2) (reads_err _ _ _ _ c.in_err-mix_stretches.ensures.reads)
+
+pub returns-clause-reads : goal.returns-clause-reads
+returns-clause-reads g c = reads_ok _ _ _ _ c.min-count.result c.in_ok-mix_stretches.ensures.reads

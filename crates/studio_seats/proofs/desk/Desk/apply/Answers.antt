@@ -6,9 +6,9 @@ use Rattle.pcm_base.specs.declared.answer.Reply.TheVariants.{Refused}
 use Rattle.pcm_base.specs.declared.command.Call.TheVariants.{Line}
 use Rattle.pcm_base.specs.Run.{Heard, name_in_line}
 use Rattle.pin_turn.specs.Calls.{start_of}
-use Rattle.editor_core.specs.Applied.{move_of}
-use Rattle.editor_core.specs.Imports.{VaultCounted}
-use Rattle.editor_core.specs.Took.{told_by}
+use Rattle.editor_state.specs.Applied.{move_of}
+use Rattle.editor_state.specs.Vaults.{VaultCounted}
+use Rattle.editor_state.specs.Took.{told_by}
 use Rattle.studio_seats.proofs.Lines.{does_line, heard_still, refused_reply}
 use Rattle.studio_seats.proofs.Turns.{either_way, fits, if_taken, is_studio, says}
 use Rattle.studio_seats.proofs.desk.Desk.apply.Goals as goal

@@ -3,8 +3,8 @@ use Rattle.std.proofs.Common.{[], ◌∷◌}
 use Rattle.pcm_base.specs.declared.command.Call.TheVariants.{Line}
 use Rattle.pcm_base.specs.Run.{name_in_line}
 use Rattle.pin_turn.specs.Calls.{known}
-use Rattle.editor_core.specs.Applied.{move_of}
-use Rattle.editor_core.specs.Took.{told_by}
+use Rattle.editor_state.specs.Applied.{move_of}
+use Rattle.editor_state.specs.Took.{told_by}
 use Rattle.studio_seats.specs.Deeds.{deed}
 use Rattle.studio_seats.proofs.desk.Desk.apply.Given as goal
 

@@ -5,7 +5,7 @@ use Rattle.pcm_base.specs.declared.command.Call.TheVariants as call
 use Rattle.pin_turn.specs.Calls.{known}
 use Rattle.mixdown.specs.declared.loaded.Loaded.{Loaded}
 use Rattle.mixdown.specs.Loads.{tracks_in}
-use Rattle.editor_core.specs.Took.{silent, told_by}
+use Rattle.editor_state.specs.Took.{silent, told_by}
 use Rattle.studio_seats.specs.Deeds.{deed}
 use Rattle.studio_seats.proofs.desk.Desk.load_pin.Given as goal
 

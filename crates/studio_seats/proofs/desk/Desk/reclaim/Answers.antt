@@ -4,7 +4,7 @@ use Rattle.pcm_base.specs.declared.answer.Reply.TheVariants as reply
 use Rattle.pcm_base.specs.declared.command.Call.TheVariants as call
 use Rattle.pcm_base.specs.declared.command.Command.TheVariants as command
 use Rattle.pin_turn.specs.Calls.{start_of}
-use Rattle.editor_core.specs.Took.{silent, told_by}
+use Rattle.editor_state.specs.Took.{silent, told_by}
 use Rattle.studio_seats.proofs.Grown.{does_silent}
 use Rattle.studio_seats.proofs.Turns.{fits, is_studio, says}
 use Rattle.studio_seats.proofs.desk.Desk.reclaim.Goals as goal

@@ -5,7 +5,7 @@ use Rattle.std.proofs.lemmas.List.{length-take-le}
 use Rattle.pcm_base.specs.declared.answer.Reply.TheVariants.{Done}
 use Rattle.pcm_base.specs.declared.command.Call.TheVariants.{Piece}
 use Rattle.pin_turn.specs.Calls.{known}
-use Rattle.editor_core.specs.Took.{silent, told_by}
+use Rattle.editor_state.specs.Took.{silent, told_by}
 use Rattle.edit_ports.specs.Answers.{AreTaken, samples_of}
 use Rattle.studio_seats.specs.Desks.{Says, asked, start_at, views}
 use Rattle.studio_seats.specs.Pieces.{pieces_by}

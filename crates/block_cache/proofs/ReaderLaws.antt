@@ -1,0 +1,84 @@
+-- Reads in turn, by what each leaves of a reader.
+use Rattle.std.proofs.Common.{◌≤◌, ℕ, Bool, List, [], ◌∷◌, Contains, Result, Ok, Err, refl, sym, subst}
+use Rattle.std.specs.Prelude.{IsTrue, IfErr}
+use Rattle.std.proofs.lemmas.Result.{IfErr-weaker}
+use Rattle.lru.proofs.Splits.{Contains-head}
+use Rattle.disk_model.specs.Disk.{Files, bytes_of}
+use Rattle.disk_model.specs.declared.store.Store.{Ghosts}
+use Rattle.disk_model.proofs.Frames.{Fewer, kept_none, kept_turn}
+use Rattle.pcm_base.specs.declared.block.BlockRef.{BlockRef}
+use Rattle.block_store.specs.declared.fault.BlockFault.{BlockFault}
+use Rattle.block_store.specs.Reads.{Counted, IsFaultIn, IsReadFault}
+use Rattle.block_store.proofs.FaultLaws.{fault_on}
+use Rattle.sample_block.specs.Spelling.{size_of}
+use Rattle.block_cache.specs.declared.reader.BlockReader.{BlockReader}
+use Rattle.block_cache.specs.Readers.{Reads}
+use Rattle.block_cache.proofs.CacheLaws.{keeps_more, keeps_same, keeps_then, same_none}
+
+-- a fault of a read of a block, among those of this block alone
+pub fault_in : {T : Type 0} (files : Files) (b : BlockRef) (end : ℕ) (r : Result T BlockFault) → end ≤ size_of b.len
+    → IfErr r (λ e. IsReadFault b.id b.len end (bytes_of (files b.id)) e) → IfErr r (λ e. IsFaultIn files (b ∷ []) e)
+fault_in files b end r le is =
+    IfErr-weaker r (λ e. IsReadFault b.id b.len end (bytes_of (files b.id)) e) (λ e. IsFaultIn files (b ∷ []) e)
+    (λ e found. (b, Contains-head b [], fault_on b.id b.len end (size_of b.len) (bytes_of (files b.id)) e le found)) is
+
+module _ {D : Type 0} {disk : Ghosts D} where
+  -- no read at all
+  pub reads_none : {T : Type 0} (bs : List BlockRef) (a : BlockReader D disk) (x : T) → Fewer disk a.store
+      → Reads bs a a (Ok x)
+  reads_none bs a x fewer = record {
+    kept = kept_none a.store fewer;
+    faults = refl;
+    cache = keeps_same _ _ _ _ _ (same_none _);
+    damaged = λ told. tt;
+  }
+
+  -- reads, and then others with this answer
+  pub reads_then : {T U : Type 0} (bs : List BlockRef) (a b c : BlockReader D disk) (x : T) (r : Result U BlockFault)
+      → Reads bs a b (Ok x) → Reads bs b c r → Reads bs a c r
+  reads_then bs a b c x r f g = record {
+    kept = kept_turn f.kept g.kept;
+    faults = subst (λ (n : ℕ). Counted r n (disk.read_fault_count c.store)) f.faults g.faults;
+    cache = keeps_then a.store b.store bs a.cache b.cache c.cache f.kept f.cache g.cache;
+    damaged = λ told.
+        let still : IsTrue (disk.tells b.store) = subst (λ (t : Bool). IsTrue t) (sym f.kept.same_tells) told in
+        subst (λ (files : Files). IfErr r (λ e. IsFaultIn files bs e)) f.kept.same_reads (g.damaged still);
+  }
+
+  -- reads of fewer blocks
+  pub reads_more : {T : Type 0} (bs more : List BlockRef) (a b : BlockReader D disk) (r : Result T BlockFault)
+      → ((d : BlockRef) → Contains bs d → Contains more d) → Reads bs a b r → Reads more a b r
+  reads_more bs more a b r among f = record {
+    kept = f.kept;
+    faults = f.faults;
+    cache = keeps_more _ _ bs more _ _ among f.cache;
+    damaged = λ told.
+        let files : Files = disk.reads a.store in
+        IfErr-weaker r (λ e. IsFaultIn files bs e) (λ e. IsFaultIn files more e)
+        (λ e is. (is.0, among is.0 is.1, is.2)) (f.damaged told);
+  }
+
+  -- the same with another value
+  pub reads_ok : {T U : Type 0} (bs : List BlockRef) (a b : BlockReader D disk) (x : T) (y : U) → Reads bs a b (Ok x)
+      → Reads bs a b (Ok y)
+  reads_ok bs a b x y f = record {
+    kept = f.kept;
+    faults = f.faults;
+    cache = f.cache;
+    damaged = λ told. tt;
+  }
+
+  -- and with the same error, in place of another value
+  pub reads_err : {T U : Type 0} (bs : List BlockRef) (a b : BlockReader D disk) (why : BlockFault)
+      → Reads {T = T} bs a b (Err why) → Reads {T = U} bs a b (Err why)
+  reads_err bs a b why f = record {
+    kept = f.kept;
+    faults = f.faults;
+    cache = f.cache;
+    damaged = f.damaged;
+  }
+
+  -- where the disk reported its bytes it does so still, and they are the same
+  pub told_on : {T : Type 0} (bs : List BlockRef) (a b : BlockReader D disk) (r : Result T BlockFault) → Reads bs a b r
+      → IsTrue (disk.tells a.store) → IsTrue (disk.tells b.store)
+  told_on bs a b r f told = subst (λ (t : Bool). IsTrue t) (sym f.kept.same_tells) told

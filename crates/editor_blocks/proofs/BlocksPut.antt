@@ -1,0 +1,202 @@
+-- Blocks that are put one after another change nothing of those that are there.
+use Rattle.std.proofs.Common.{◌≡◌, ◌≢◌, ℕ, zero, suc, ◌+◌, ◌≤◌, ◌<◌, ◌⊎◌, inl, inr, ⊎_elim, ℤ, pos, List, [], ◌∷◌, ◌++◌}
+use Rattle.std.proofs.Common.{length, get_or, take, map, Option, Some, None, refl, sym, ap, ap₂, subst, ◌∙◌, arith}
+use Rattle.std.specs.Prelude.{unwrap_or}
+use Rattle.std.specs.List.{AllByRecursion}
+use Rattle.std.proofs.lemmas.List.{take_more}
+use Rattle.std.proofs.lemmas.Bool.{cases_lt}
+use Rattle.pcm_base.specs.declared.block.BlockRef.{BlockRef}
+use Rattle.pcm_base.specs.declared.piece.Piece.{Piece}
+use Rattle.pcm_base.specs.declared.piece.Piece.TheVariants.{Old, Scaled, Zero, Given}
+use Rattle.pcm_base.specs.Arithmetic.{scaled, clamped}
+use Rattle.pcm_base.specs.Pieces.{Sources, stretch, samples_of, all_samples, total}
+use Rattle.pcm_base.proofs.Pieces.{length-all_samples, stretch_list}
+use Rattle.disk_model.specs.Disk.{Files, SameElsewhere}
+use Rattle.sample_block.specs.Blocks.{blocks}
+use Rattle.sample_block.specs.Sources.{samples_on, sources_with, IsWhole}
+use Rattle.sample_block.proofs.BlockLaws.{blocks_have}
+use Rattle.edit_ops.specs.declared.types.NewBlock.{NewBlock}
+use Rattle.edit_ops.specs.Plans.{AreWritten, AreNew, ref_of}
+use Rattle.piece_store.specs.Reading.{IsThere, AllThere}
+use Rattle.editor_state.specs.Made.{AreAbsent, AreMade, PiecesThere, SameOutside, batch_of, ids_from}
+use Rattle.editor_state.proofs.Blocks.BlockSounds.{same_whole}
+
+-- a file that is absent is not that of a block
+not_absent : (files : Files) (id : ℕ) (b : BlockRef) → files id ≡ None → IsWhole files b → b.id ≢ id
+not_absent files id b gone whole = λ is.
+    let has = blocks_have files b.id whole.0 whole.1 in
+    let there : files id ≡ Some has.bytes = ap files (sym is) ∙ has.file in
+    let clash : None ≡ Some has.bytes = sym gone ∙ there in
+    absurd cc
+
+same_on : (files files' : Files) (id from n : ℕ) → files' id ≡ files id
+    → stretch (samples_on files' id) from n ≡ stretch (samples_on files id) from n
+same_on files files' id from n e = ap (λ (o : Option (List ℕ)). stretch (samples_on (λ _. o) id) from n) e
+
+-- all samples of a block
+all_stretch : (files : Files) (id n : ℕ) (xs : List ℤ) → blocks files id ≡ Some xs → length xs ≡ n
+    → stretch (samples_on files id) 0 n ≡ xs
+all_stretch files id n xs e long =
+    ap (λ (o : Option (List ℤ)). stretch (λ i. get_or (unwrap_or o []) i (pos 0)) 0 n) e
+    ∙ ap (stretch (λ i. get_or xs i (pos 0)) 0) (sym long) ∙ stretch_list xs (pos 0)
+
+-- a new file changes nothing of a piece whose block is there
+module _ (given : ℕ → ℤ) (id : ℕ) (files files' : Files) (same : SameElsewhere id files files')
+    (gone : files id ≡ None) where
+  abbrev old : Sources
+  old = sources_with files given
+
+  abbrev now : Sources
+  now = sources_with files' given
+
+  at_file : (b : BlockRef) → IsWhole files b → files' b.id ≡ files b.id
+  at_file b whole = same b.id (not_absent files id b gone whole)
+
+  samples_kept : (p : Piece) → IsThere files p → samples_of now p ≡ samples_of old p
+  samples_kept (Old b from to) there = same_on files files' b.id from _ (at_file b there)
+  samples_kept (Scaled b from to gain) there =
+      ap (map (λ s. clamped (scaled gain s))) (same_on files files' b.id from _ (at_file b there))
+  samples_kept (Zero len) there = refl
+  samples_kept (Given from to) there = refl
+
+  all_samples_kept : (ps : List Piece) → AllThere files ps → all_samples now ps ≡ all_samples old ps
+  all_samples_kept [] there = refl
+  all_samples_kept (p ∷ ps) there = ap₂ ◌++◌ (samples_kept p there.0) (all_samples_kept ps there.1)
+
+  -- new blocks that are whole stay written
+  written_kept : (bs : List NewBlock) → AllByRecursion (λ b. IsWhole files (ref_of b)) bs → PiecesThere files bs
+      → AreWritten old bs → AreWritten now bs
+  written_kept [] whole there written = tt
+  written_kept (b ∷ bs) whole there written = (
+    same_on files files' b.id 0 b.len (at_file (ref_of b) whole.0) ∙ written.0
+        ∙ sym (all_samples_kept b.pieces there.0),
+    written_kept bs whole.1 there.1 written.1,
+  )
+
+  all_whole_kept : (bs : List NewBlock) → AllByRecursion (λ b. IsWhole files (ref_of b)) bs
+      → AllByRecursion (λ b. IsWhole files' (ref_of b)) bs
+  all_whole_kept [] whole = tt
+  all_whole_kept (b ∷ bs) whole =
+      (same_whole files files' (ref_of b) (at_file (ref_of b) whole.0) whole.0, all_whole_kept bs whole.1)
+
+  -- what was put is written
+  written_now : (b : NewBlock) → AllThere files b.pieces → total b.pieces ≡ b.len
+      → blocks files' b.id ≡ Some (all_samples old b.pieces)
+      → (stretch (samples_on files' b.id) 0 b.len ≡ all_samples now b.pieces) × IsWhole files' (ref_of b)
+  written_now b there len stored =
+      let xs : List ℤ = all_samples old b.pieces in
+      let long : length xs ≡ b.len = length-all_samples old b.pieces ∙ len in
+      (all_stretch files' b.id b.len xs stored long ∙ sym (all_samples_kept b.pieces there), (xs, stored, long))
+
+-- ---- facts of each, of a list and one more
+
+written-append : (src : Sources) (bs : List NewBlock) (b : NewBlock) → AreWritten src bs
+    → stretch (src.block b.id) 0 b.len ≡ all_samples src b.pieces → AreWritten src (bs ++ b ∷ [])
+written-append src [] b all one = (one, tt)
+written-append src (x ∷ bs) b all one = (all.0, written-append src bs b all.1 one)
+
+each-append : (P : NewBlock → Type 0) (bs : List NewBlock) (b : NewBlock) → AllByRecursion P bs → P b
+    → AllByRecursion P (bs ++ b ∷ [])
+each-append P [] b all one = (one, tt)
+each-append P (x ∷ bs) b all one = (all.0, each-append P bs b all.1 one)
+
+each-take : (P : NewBlock → Type 0) (n : ℕ) (bs : List NewBlock) → AllByRecursion P bs → AllByRecursion P (take n bs)
+each-take P zero bs all = tt
+each-take P (suc n) [] all = tt
+each-take P (suc n) (b ∷ bs) all = (all.0, each-take P n bs all.1)
+
+each_at : (P : NewBlock → Type 0) (bs : List NewBlock) (i : ℕ) (d : NewBlock) → i < length bs → AllByRecursion P bs
+    → P (get_or bs i d)
+each_at P [] i d lt all = absurd (omega arith)
+each_at P (b ∷ bs) zero d lt all = all.0
+each_at P (b ∷ bs) (suc i) d lt all = each_at P bs i d (omega arith) all.1
+
+-- the id and the size of each new block of a plan
+pub record IsNewAt (m next i : ℕ) (b : NewBlock) : Type 0 where
+  pub id : b.id ≡ next + i
+  pub some : 0 < b.len
+  pub few : b.len ≤ m
+  pub total : total b.pieces ≡ b.len
+
+pub new_at : (m next : ℕ) (bs : List NewBlock) (i : ℕ) (d : NewBlock) → i < length bs → AreNew m next bs
+    → IsNewAt m next i (get_or bs i d)
+new_at m next [] i d lt new = absurd (omega arith)
+new_at m next (b ∷ bs) zero d lt new = record { id = new.0 ∙ omega arith; some = new.1; few = new.2; total = new.3 }
+new_at m next (b ∷ bs) (suc i) d lt new =
+    let rest = new_at m (next + 1) bs i d (omega arith) new.5 in
+    let e : next + 1 + i ≡ next + suc i = omega arith in
+    record { id = rest.id ∙ e; some = rest.some; few = rest.few; total = rest.total }
+
+-- ---- what the disk has of the pieces while the first blocks are made
+
+outside : (next n : ℕ) (old : Files) → AreAbsent next n old → (b : BlockRef) → IsWhole old b
+    → (b.id < next) ⊎ (next + n ≤ b.id)
+outside next n old gone b whole = ⊎_elim
+    (λ low. inl low)
+    (λ high. ⊎_elim
+    (λ within. absurd (not_absent old b.id b (gone b.id high within) whole refl))
+    (λ past. inr past)
+    (cases_lt b.id (next + n)))
+    (cases_lt b.id next)
+
+module _ (next n : ℕ) (old new : Files) (same : SameOutside next n old new) (gone : AreAbsent next n old) where
+  outside_there : (p : Piece) → IsThere old p → IsThere new p
+  outside_there (Old b from to) there = same_whole old new b (same b.id (outside next n old gone b there)) there
+  outside_there (Scaled b from to gain) there = same_whole old new b (same b.id (outside next n old gone b there)) there
+  outside_there (Zero len) there = tt
+  outside_there (Given from to) there = tt
+
+  outside_all : (ps : List Piece) → AllThere old ps → AllThere new ps
+  outside_all [] there = tt
+  outside_all (p ∷ ps) there = (outside_there p there.0, outside_all ps there.1)
+
+  outside_pieces : (bs : List NewBlock) → PiecesThere old bs → PiecesThere new bs
+  outside_pieces [] there = tt
+  outside_pieces (b ∷ bs) there = (outside_all b.pieces there.0, outside_pieces bs there.1)
+
+module _ (given : ℕ → ℤ) (m next n : ℕ) (bs : List NewBlock) (d : NewBlock) (old mid : Files)
+    (lt : n < length bs) (fresh : AreNew m next bs)
+    (gone : AreAbsent next (length bs) old) (there : PiecesThere old bs)
+    (made : AreMade (batch_of given bs) (ids_from next n) old mid) where
+  abbrev b : NewBlock
+  b = get_or bs n d
+
+  still : PiecesThere mid bs
+  still = outside_pieces next n old mid made.same (λ f low high. gone f low (omega (arith, high, lt))) bs there
+
+  -- before the next block is made its pieces are there, and it is absent
+  pub next_there : AllThere mid b.pieces
+  next_there = each_at (λ x. AllThere mid x.pieces) bs n d lt still
+
+  pub next_absent : mid b.id ≡ None
+  next_absent =
+      let is = (new_at m next bs n d lt fresh).id in
+      made.same b.id (inr (omega (arith, is))) ∙ gone b.id (omega (arith, is)) (omega (arith, is, lt))
+
+  -- one new block more is made
+  pub made_more : (new : Files) → SameElsewhere b.id mid new
+      → blocks new b.id ≡ Some (all_samples (sources_with mid given) b.pieces)
+      → AreMade (batch_of given bs) (ids_from next (n + 1)) old new
+  made_more new same stored =
+      let is = new_at m next bs n d lt fresh in
+      let first : PiecesThere mid (take n bs) = each-take (λ x. AllThere mid x.pieces) n bs still in
+      let now = written_now given b.id mid new same next_absent b next_there is.total stored in
+      let e : take (n + 1) bs ≡ take n bs ++ b ∷ [] = take_more bs n d lt in
+      let src = sources_with new given in
+      let W : NewBlock → Type 0 = λ x. IsWhole new (ref_of x) in
+      let whole = all_whole_kept given b.id mid new same next_absent (take n bs) made.whole in
+      let written =
+      written_kept given b.id mid new same next_absent (take n bs) made.whole first made.written in
+      record {
+        same = λ f apart.
+            let other : f ≢ b.id = λ at. ⊎_elim (λ low. absurd (omega (arith, low, at, is.id)))
+            (λ high. absurd (omega (arith, high, at, is.id))) apart in
+            same f other ∙ made.same f (⊎_elim (λ low. inl low) (λ high. inr (omega (arith, high))) apart);
+        written = subst (AreWritten src) (sym e) (written-append src (take n bs) b written now.0);
+        whole = subst (AllByRecursion W) (sym e) (each-append W (take n bs) b whole now.1);
+      }
+
+-- none is made yet
+pub made_none : (given : ℕ → ℤ) (next : ℕ) (bs : List NewBlock) (files : Files)
+    → AreMade (batch_of given bs) (ids_from next 0) files files
+made_none given next bs files = record { same = λ f apart. refl; written = tt; whole = tt }

@@ -1,0 +1,32 @@
+-- Blocks whose pieces come in order, after others that do.
+use Rattle.std.proofs.Common.{◌≤◌, ℕ, ◌+◌, List, [], ◌∷◌, ◌++◌}
+use Rattle.std.proofs.Common.{arith}
+use Rattle.pcm_base.specs.declared.piece.Piece.{Piece}
+use Rattle.pcm_base.specs.declared.piece.Piece.TheVariants.{Old, Scaled, Zero, Given}
+use Rattle.edit_ops.specs.declared.types.NewBlock.{NewBlock}
+use Rattle.piece_store.specs.Brought.{AreInOrder, LiesBetween}
+use Rattle.editor_state.specs.Made.{AllInOrder}
+
+pub order_append : (low mid high : ℕ) (xs ys : List NewBlock) → AllInOrder low mid xs → AllInOrder mid high ys
+    → AllInOrder low high (xs ++ ys)
+order_append low mid high [] ys first second = lower low mid high ys first second
+  where
+    lower : (low mid high : ℕ) (ys : List NewBlock) → low ≤ mid → AllInOrder mid high ys → AllInOrder low high ys
+    lower low mid high [] le order = omega (arith, le, order)
+    lower low mid high (y ∷ ys) le order =
+        (order.0, begin_lower low mid order.0 y.pieces le order.1, order.2)
+      where
+        lies_lower : (low mid high : ℕ) (p : Piece) → low ≤ mid → LiesBetween mid high p → LiesBetween low high p
+        lies_lower low mid high (Old b from to) le lies = tt
+        lies_lower low mid high (Scaled b from to gain) le lies = tt
+        lies_lower low mid high (Zero len) le lies = tt
+        lies_lower low mid high (Given from to) le lies = λ less.
+            let both = lies less in (omega (arith, le, both.0), both.1)
+
+        begin_lower : (low mid high : ℕ) (ps : List Piece) → low ≤ mid → AreInOrder mid high ps
+            → AreInOrder low high ps
+        begin_lower low mid high [] le order = omega (arith, le, order)
+        begin_lower low mid high (p ∷ ps) le order =
+            (order.0, omega (arith, le, order.1), lies_lower low mid order.0 p le order.2, order.3)
+order_append low mid high (x ∷ xs) ys first second =
+    (first.0, first.1, order_append first.0 mid high xs ys first.2 second)

@@ -1,0 +1,321 @@
+-- The journal of a studio is put into one header: each image has the project still, and then the studio stands on it.
+use Rattle.std.proofs.Common.{◌≡◌, inr, ⊎_elim, ap₂, refl, sym, ◌∙◌, subst, ℕ, ◌+◌, ◌-◌, ◌^◌, ◌≤◌, ◌<◌}
+use Rattle.std.proofs.Common.{Bool, IsTrue, IsSome, List, [], ◌∷◌, ◌++◌, length, map, Some, None, arith, length-append}
+use Rattle.std.proofs.lemmas.List.{length-map}
+use Rattle.std.specs.List.{AllByRecursion}
+use Rattle.pcm_base.specs.declared.block.BlockRef.{BlockRef}
+use Rattle.pcm_base.specs.History.{IsHistory}
+use Rattle.pcm_base.specs.Run.{packed}
+use Rattle.disk_model.specs.Disk.{Files}
+use Rattle.disk_model.specs.Frames.{Changed}
+use Rattle.disk_model.specs.MomentLaws.{upto_refl}
+use Rattle.disk_model.specs.declared.store.Store.{Ghosts}
+use Rattle.sample_block.specs.Sources.{sources_of, AllWhole, IsWhole}
+use Rattle.project_journal.specs.Choice.{other_file}
+use Rattle.project_journal.specs.Gate.{EachSince}
+use Rattle.project_journal.specs.Header.{IsBase, form_3}
+use Rattle.project_journal.specs.Journal.{HasLog, IsAt, Log, points_size}
+use Rattle.project_journal.specs.Packing.{AreShort, HasEither, IsText, MayPack, OnlyJournals, Tells, header_row}
+use Rattle.project_journal.specs.Packing.{pack_room}
+use Rattle.project_journal.proofs.Parses.{form_known}
+use Rattle.project_journal.proofs.Texts.{text_is}
+use Rattle.project_state.specs.declared.track.Track.{Track}
+use Rattle.record_body.specs.Kept.{Begins, BeginsBy, IsTold, Keeps, Kept, point_bytes}
+use Rattle.project_state.specs.Meaning.{history_blocks}
+use Rattle.record_body.specs.KeptSound.{IsSoundTagged}
+use Rattle.project_state.specs.Numbers.{AreUnnumbered, unnumbered}
+use Rattle.record_body.proofs.Unnumbered.{are_unnumbered, history_blocks_alike, history_meant_alike, point_alike}
+use Rattle.record_body.proofs.Unnumbered.{sound_alike}
+use Rattle.editor_state.specs.Core.{Core, form_at}
+use Rattle.editor_state.specs.Packing.{packed_base, packed_core, packed_log, packed_size, packed_text, points_in}
+use Rattle.editor_state.specs.Spent.{kept_of}
+use Rattle.editor_state.specs.Studios.{IsDurable, IsGiven, IsHeld, IsStudio, SameBlocks, clip_blocks, named_blocks}
+use Rattle.editor_state.specs.Studios.{pin_blocks, shown, studio_by, studio_of}
+use Rattle.editor_state.proofs.Images.ImageProjects.{covers_kept, form_few, keeps_by, shown_is}
+use Rattle.editor_state.proofs.Lists.{all_both, all_left, all_so}
+use Rattle.editor_state.proofs.Images.SameMeaning.{same_studio}
+use Rattle.editor_cleanup.proofs.HeaderPoints.{length_rows}
+use Rattle.editor_state.proofs.Blocks.BlockSounds.{all_whole, trans_same}
+
+-- ---- the text
+
+-- a header's points, of which there is one at least, are told
+begins_by : (points : List (List ℕ)) (log : Log) (base : Kept) → 0 < length points → IsTold log base
+    → BeginsBy points log base
+begins_by [] log base some told = absurd (omega (arith, some))
+begins_by (p ∷ ps) log base some told = told
+
+abbrev plain_point : List Track × ℕ → List Track × ℕ
+plain_point p = (map unnumbered p.0, p.1)
+
+points_alike : (ps : List (List Track × ℕ)) → map point_bytes ps ≡ map point_bytes (map plain_point ps)
+points_alike [] = refl
+points_alike (p ∷ ps) =
+    ap₂ (λ (bytes : List ℕ) (rest : List (List ℕ)). bytes ∷ rest) (sym (point_alike p.0 p.1)) (points_alike ps)
+
+points_sound : (m block track commit : ℕ) (ps : List (List Track × ℕ))
+    → AllByRecursion (IsSoundTagged m block track commit) ps
+    → AllByRecursion (IsSoundTagged m block track commit) (map plain_point ps)
+points_sound m block track commit [] all = tt
+points_sound m block track commit (p ∷ ps) all =
+    ((sound_alike m block track p.0 all.0.0, all.0.1), points_sound m block track commit ps all.1)
+
+points_plain : (ps : List (List Track × ℕ))
+    → AllByRecursion (λ (p : List Track × ℕ). AreUnnumbered p.0) (map plain_point ps)
+points_plain [] = tt
+points_plain (p ∷ ps) = (are_unnumbered p.0, points_plain ps)
+
+-- each point has a tag and a count of tracks
+points_least : (ps : List (List Track × ℕ)) → 0 < length ps → 16 ≤ points_size (map point_bytes ps)
+points_least [] some = absurd (omega (arith, some))
+points_least (p ∷ ps) some = omega arith
+
+module _ {D : Type 0} (disk : Ghosts D) (s : Core D) (is : IsStudio disk s) (later : s.generation < 2 ^ 62)
+    (history : IsHistory s.history) where
+  some : 0 < length s.history.points
+  some = omega (arith, history.current)
+
+  pub size_least : 81 ≤ packed_size s
+  size_least = omega (arith, points_least s.history.points some)
+
+  base_is : IsBase s.history.depth (packed_base s)
+  base_is = record {
+    generation = omega (arith, later);
+    commit = is.counters.commit_most;
+    block_least = is.counters.block_least;
+    block_most = is.counters.block_most;
+    track_least = is.counters.track_least;
+    track_most = is.counters.track_most;
+    some = omega (arith, some);
+    few = is.few_points;
+    current = history.current;
+  }
+
+  -- the text is that of a journal that begins with the history
+  pub text_spells : s.rate < 2 ^ 32 → AreShort (points_in s.history) → IsText (packed_text s) (packed_log s)
+  text_spells rate short =
+      text_is (packed_log s) (packed_text s) refl refl is.format rate base_is
+      (length-map s.history.points point_bytes) short
+
+  pub text_begins : Begins (packed_log s) (kept_of s)
+  text_begins =
+      let many : length (points_in s.history) ≡ length s.history.points = length-map s.history.points point_bytes in
+      begins_by (points_in s.history) (packed_log s) (kept_of s) (omega (arith, many, some)) (record {
+        points = points_alike s.history.points;
+        cursor = refl;
+        depth = refl;
+        next_block = refl;
+        next_track = refl;
+        commit = refl;
+        sound = points_sound s.block_size s.next_block s.next_track s.commit_number s.history.points is.points;
+        unnumbered = points_plain s.history.points;
+      })
+
+pub text_size : {D : Type 0} (s : Core D) → 1 + length (packed_text s) ≡ packed_size s
+text_size s = omega (
+  arith,
+  length-append (header_row (packed_log s)) (0 ∷ []),
+  length_rows (points_in s.history),
+)
+
+-- ---- the files of blocks stay
+
+only_blocks : (file : ℕ) (d c : Files) (next : ℕ) (bs : List BlockRef) → file ≤ 1 → OnlyJournals file d c
+    → AllByRecursion (λ (b : BlockRef). IsGiven next b.id) bs → SameBlocks bs d c
+only_blocks file d c next bs few only =
+    all_so (λ (b : BlockRef). IsGiven next b.id) (λ b. c b.id ≡ d b.id)
+    (λ b h. let least = h.0 in
+    only b.id (λ e. absurd (omega (arith, e, least, few))) (λ e. absurd (omega (arith, e, least)))) bs
+
+module _ {D : Type 0} (disk : Ghosts D) (s : Core D) (is : IsStudio disk s) (going : s.stopped ≡ None) (store : D)
+    (len : ℕ) (changed : Changed disk (OnlyJournals s.file) (pack_room len) s.store store) where
+  blocks_same : (d c : Files) → OnlyJournals s.file d c → SameBlocks (named_blocks s) d c
+  blocks_same d c only = only_blocks s.file d c s.next_block (named_blocks s) is.journal.among only is.ids
+
+  still_same : IsTrue (disk.tells s.store) → SameBlocks (named_blocks s) (disk.reads s.store) (disk.reads store)
+  still_same told = blocks_same (disk.reads s.store) (disk.reads store) (changed.reads told)
+
+  pub still_whole : IsHeld disk s → AllWhole (disk.reads store) (named_blocks s)
+  still_whole held =
+      all_whole (disk.reads s.store) (disk.reads store) (named_blocks s) (still_same held.tells) held.whole
+
+  pub still_tells : IsHeld disk s → IsTrue (disk.tells store)
+  still_tells held = subst IsTrue (sym changed.tells) held.tells
+
+  -- what it stands for is the same
+  pub still_means : IsTrue (disk.tells s.store) → studio_by (sources_of (disk.reads store)) disk s ≡ studio_of disk s
+  still_means told = same_studio (disk.reads s.store) (disk.reads store) disk s (still_same told)
+
+  -- ---- it stops
+
+  pub halted_studio : (faults : ℕ) → IsStudio disk (record s { store = store; stopped = Some faults })
+  halted_studio faults = record {
+    format = is.format;
+    counters = is.counters;
+    journal = is.journal;
+    few_points = is.few_points;
+    few_clips = is.few_clips;
+    points = is.points;
+    pins = is.pins;
+    numbers = is.numbers;
+    clipboard = is.clipboard;
+    ids = is.ids;
+    layouts = is.layouts;
+    numbered = is.numbered;
+    drawn = is.drawn;
+    counted = is.counted;
+    given = is.given;
+    pages = is.pages;
+  }
+
+  pub halted_held : (faults : ℕ) → IsHeld disk s → IsHeld disk (record s { store = store; stopped = Some faults })
+  halted_held faults held = record {
+    tells = still_tells held;
+    whole = still_whole held;
+    durable = λ on. absurd (cc on);
+  }
+
+  -- ---- at each moment
+
+  module _ (later : s.generation < 2 ^ 62) (history : IsHistory s.history) (rate : s.rate < 2 ^ 32)
+      (short : AreShort (points_in s.history)) (there : Bool)
+      (other : IsTrue (disk.tells s.store) → Tells there (other_file s.file) (disk.reads s.store)) where
+    pub may_pack : (held : IsHeld disk s)
+        → MayPack disk s.store s.file there (packed_text s) (form_at s) (held.durable going).log (packed_log s)
+    may_pack held =
+        let d = held.durable going in
+        let generation = d.generation in record {
+          tells = held.tells;
+          known = form_known s.version s.file;
+          same = refl;
+          at = s.journal_end;
+          here = d.there;
+          other = other held.tells;
+          spells = text_spells disk s is later history rate short;
+          later = omega (arith, generation);
+        }
+
+    pub keeps_packing : (held : IsHeld disk s)
+        → EachSince disk s.store store (HasEither (form_at s) (held.durable going).log (packed_log s))
+        → EachSince disk s.store store (λ c. Keeps c (shown (studio_of disk s)))
+    keeps_packing held either c since =
+        let d = held.durable going in
+        let files = disk.reads s.store in
+        let from = changed.images.from c since in
+        let same = trans_same files from.0 c (named_blocks s) (d.blocks from.0 from.1)
+        (blocks_same from.0 c from.2) in
+        ⊎_elim
+        (λ (has : HasLog (form_at s) d.log c).
+        subst (Keeps c) (shown_is disk s d)
+        (keeps_by (form_at s) d.log d.base d.kept files c (form_few s is.journal.among) has d.begins d.told
+        (covers_kept disk s d (λ b. c b.id ≡ files b.id) same) (covers_kept disk s d (IsWhole files) held.whole)))
+        (λ (has : HasLog (form_3 (other_file s.file)) (packed_log s) c).
+        let rest = pin_blocks s.pins ++ clip_blocks s.clipboard in
+        let alike = sym (history_blocks_alike s.history) in
+        subst (Keeps c) (λ i. record {
+          rate = s.rate;
+          block_size = s.block_size;
+          history = history_meant_alike (sources_of files) s.history i;
+          next_track = s.next_track;
+          commit = s.commit_number;
+        })
+        (keeps_by (form_3 (other_file s.file)) (packed_log s) (kept_of s) (kept_of s) files c
+        (record { known = inr (inr refl); few = omega arith }) has (text_begins disk s is later history) refl
+        (subst (AllByRecursion (λ (b : BlockRef). c b.id ≡ files b.id)) alike
+        (all_left (λ b. c b.id ≡ files b.id) (history_blocks s.history) rest same))
+        (subst (AllByRecursion (IsWhole files)) alike
+        (all_left (IsWhole files) (history_blocks s.history) rest held.whole))))
+        (either c since)
+
+    -- ---- after it
+
+    abbrev new : Core D
+    new = packed_core s store
+
+    pub packed_studio : packed_size s ≤ 2 ^ 62 → IsStudio disk new
+    packed_studio most = let least = size_least disk s is later history in record {
+      format = is.format;
+      counters = record {
+        block_least = is.counters.block_least;
+        block_most = is.counters.block_most;
+        track_least = is.counters.track_least;
+        track_most = is.counters.track_most;
+        pin_least = is.counters.pin_least;
+        pin_most = is.counters.pin_most;
+        commit_most = is.counters.commit_most;
+        end_least = omega (arith, least);
+        end_most = omega (arith, most);
+      };
+      journal = record {
+        among = omega arith;
+        version_least = omega arith;
+        version_most = omega arith;
+        generation_most = omega (arith, later);
+        first_version = λ first. absurd (omega (arith, first));
+      };
+      few_points = is.few_points;
+      few_clips = is.few_clips;
+      points = is.points;
+      pins = is.pins;
+      numbers = is.numbers;
+      clipboard = is.clipboard;
+      ids = is.ids;
+      layouts = is.layouts;
+      numbered = is.numbered;
+      drawn = is.drawn;
+      counted = is.counted;
+      given = is.given;
+      pages = is.pages;
+    }
+
+    packed_durable : IsTrue (disk.tells s.store)
+        → IsAt (form_3 (other_file s.file)) disk store (length (packed_text s)) (packed_log s)
+        → IsDurable disk s → IsDurable disk new
+    packed_durable told at d =
+        let files = disk.reads s.store in
+        let place : length (packed_text s) ≡ packed_size s - 1 = omega (arith, text_size s) in record {
+          log = packed_log s;
+          base = kept_of s;
+          kept = kept_of s;
+          there = subst (λ (n : ℕ). IsAt (form_3 (other_file s.file)) disk store n (packed_log s)) place at;
+          generation = refl;
+          begins = text_begins disk s is later history;
+          told = refl;
+          rate = refl;
+          block_size = refl;
+          history = refl;
+          next_block = omega arith;
+          next_track = refl;
+          commit = refl;
+          blocks = λ c now.
+              let images = changed.images in
+              let from = images.from c (images.fewer (disk.clock s.store) (disk.clock store) c images.later
+              (upto_refl (disk.clock store)) now) in
+              let same = trans_same files from.0 c (named_blocks s) (d.blocks from.0 from.1)
+              (blocks_same from.0 c from.2) in
+              all_both (λ b. c b.id ≡ files b.id) (λ b. disk.reads store b.id ≡ files b.id) (λ b. c b.id
+              ≡ disk.reads store b.id) (λ b one two. one ∙ sym two) (named_blocks s) same (still_same told);
+          files = λ id least most.
+              let same : disk.reads store id ≡ files id = changed.reads told id
+              (λ e. absurd (omega (arith, e, least, is.journal.among))) (λ e. absurd (omega (arith, e, least))) in (
+                (λ counted. subst IsSome (sym same) ((d.files id least most).0 counted)),
+                (λ here. (d.files id least most).1 (subst IsSome same here)),
+              );
+        }
+
+    pub packed_held : (IsHeld disk s
+        → IsAt (form_3 (other_file s.file)) disk store (length (packed_text s)) (packed_log s))
+        → IsHeld disk s → IsHeld disk new
+    packed_held at held = record {
+      tells = still_tells held;
+      whole = still_whole held;
+      durable = λ on. packed_durable held.tells (at held) (held.durable going);
+    }
+
+    pub packed_state : disk.read_fault_count store ≡ disk.read_fault_count s.store
+        → disk.change_fault_count store ≡ disk.change_fault_count s.store → IsTrue (disk.tells s.store)
+        → studio_of disk new ≡ packed (packed_size s) (studio_of disk s)
+    packed_state reads changes told = λ i. record (packed (packed_size s) (still_means told i)) {
+      read_faults = reads i;
+      change_faults = changes i;
+    }

@@ -1,0 +1,4 @@
+//! Reclaim and compact: which files they remove, and what they leave.
+//!
+//! The code is in `editor_core`.
+#![tactic(auto)]

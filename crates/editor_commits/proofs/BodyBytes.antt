@@ -1,0 +1,174 @@
+-- The bytes of a record's body, by the journal's version: how many they are, and that the record may come next.
+use Rattle.std.proofs.Common.{◌≡◌, inl, inr, ⊎_elim, refl, sym, ap, ◌∙◌, subst, ℕ, zero, suc, ◌+◌, ◌*◌, ◌^◌, ◌≤◌, ◌<◌, ◌==◌}
+use Rattle.std.proofs.Common.{true, false, List, ◌∷◌, length, map, Option, Some, None, add-mul, arith}
+use Rattle.std.specs.Option.{option_map}
+use Rattle.std.proofs.lemmas.Bool.{cases_Bool}
+use Rattle.pcm_base.specs.Pieces.{Sources}
+use Rattle.pcm_base.specs.Sizes.{project_body_most}
+use Rattle.project_journal.specs.Header.{form_of}
+use Rattle.project_journal.specs.Journal.{rows_length}
+use Rattle.record_body.specs.declared.body.Body.{Body}
+use Rattle.record_body.specs.declared.body.Body.TheVariants.{Edit, Undo, Redo, Purge}
+use Rattle.project_state.specs.declared.track.Track.{Track}
+use Rattle.record_body.specs.Batches.{with_point}
+use Rattle.record_body.specs.Changes.{delta_spelling, spelling_in}
+use Rattle.record_body.specs.Kept.{IsNextIn, Kept, MayFollow, before_of, current_tracks, version_of}
+use Rattle.project_state.specs.Meaning.{meant}
+use Rattle.record_body.specs.Laws.{EndsShort, HasShortEnds}
+use Rattle.project_state.specs.Numbers.{unnumbered, unnumbered_history}
+use Rattle.record_body.specs.Numbers.{unnumbered_body}
+use Rattle.record_body.specs.Sound.{IsSound, IsSoundPoint}
+use Rattle.record_body.specs.Spelling.{spelling}
+use Rattle.project_state.specs.Tracks.{track_of}
+use Rattle.record_body.proofs.Batched.{next_in}
+use Rattle.record_body.proofs.Unnumbered.{current_alike, delta_spelled_alike, found_alike, spelled_alike}
+use Rattle.editor_state.specs.Bodies.{IsLength, bodies_by, body_bytes, bytes_by, single, whole_by}
+use Rattle.editor_state.specs.Core.{Core, form_at}
+use Rattle.editor_state.specs.Studios.{AreJournalNumbers}
+use Rattle.editor_state.proofs.Images.RecordLengths.{record_most, told_most}
+
+pub version_at : (version file : ℕ) → 1 ≤ version → version ≤ 3 → version_of (form_of version file) ≡ version
+version_at zero file least most = absurd (omega (arith, least))
+version_at (suc zero) file least most = refl
+version_at (suc (suc zero)) file least most = refl
+version_at (suc (suc (suc zero))) file least most = refl
+version_at (suc (suc (suc (suc n)))) file least most = absurd (omega (arith, most))
+
+-- ---- several records
+
+pub rows_step : (x : List ℕ) (version : ℕ) (current : List Track) (more : ℕ) (body : Body)
+    → rows_length (x ∷ bodies_by version current more body)
+    ≡ length x + (5 + rows_length (bodies_by version current more body))
+rows_step x version current zero body = refl
+rows_step x version current (suc more) body = refl
+
+pub rows_count : (version : ℕ) (current : List Track) (body : Body) (more : ℕ)
+    → length (bodies_by version current more body) ≡ more + 1
+rows_count version current body zero = refl
+rows_count version current body (suc more) = omega (arith, rows_count version current body more)
+
+-- as many bytes as the bounds of the records that say the current point, and of the last, allow
+more_most : (more rest low one high total : ℕ) → one ≤ low → total ≡ one + (5 + rest)
+    → (5 * more ≤ rest) × (rest ≤ more * (5 + low) + high)
+    → (5 * suc more ≤ total) × (total ≤ suc more * (5 + low) + high)
+more_most more rest low one high total first is within =
+    let step : suc more * (5 + low) ≡ more * (5 + low) + (5 + low) =
+    ap (λ (k : ℕ). k * (5 + low)) (omega arith) ∙ add-mul more 1 (5 + low) ∙ omega arith in
+    (omega (arith, is, within.0), omega (arith, is, first, within.1, step))
+
+rows_most : (version : ℕ) (current : List Track) (body : Body) (low high : ℕ)
+    → length (bytes_by version current (with_point current body)) ≤ low → length (bytes_by version current body) ≤ high
+    → (more : ℕ) → (5 * more ≤ rows_length (bodies_by version current more body))
+    × (rows_length (bodies_by version current more body) ≤ more * (5 + low) + high)
+rows_most version current body low high one last zero = (omega arith, omega (arith, last))
+rows_most version current body low high one last (suc more) =
+    let still = bytes_by version current (with_point current body) in
+    more_most more (rows_length (bodies_by version current more body)) low (length still) high
+    (rows_length (still ∷ bodies_by version current more body)) one (rows_step still version current more body)
+    (rows_most version current body low high one last more)
+
+wholes_most : (current : List Track) (body : Body) (low high : ℕ) → length (spelling (with_point current body)) ≤ low
+    → length (spelling body) ≤ high → (more : ℕ) → (5 * more ≤ whole_by current more body)
+    × (whole_by current more body ≤ more * (5 + low) + high)
+wholes_most current body low high one last zero = (omega arith, omega (arith, last))
+wholes_most current body low high one last (suc more) =
+    more_most more (whole_by current more body) low (length (spelling (with_point current body))) high
+    (whole_by current (suc more) body) one refl (wholes_most current body low high one last more)
+
+-- ---- the numbers of layouts bear on no byte
+
+pub spelled_in : (version : ℕ) (current : List Track) (body : Body)
+    → spelling_in version (map unnumbered current) (unnumbered_body body) ≡ spelling_in version current body
+spelled_in version current body = elim (cases_Bool (version == 1)) [
+  | inl is ↦ rw is (spelled_alike body)
+  | inr not ↦ rw not (delta_spelled_alike current body)
+]
+
+pub ends_alike : (current : List Track) → HasShortEnds current → HasShortEnds (map unnumbered current)
+ends_alike current short = λ id. subst EndsShort (sym (found_alike id current)) (one (track_of id current) (short id))
+  where
+    one : (old : Option Track) → EndsShort old → EndsShort (option_map unnumbered old)
+    one None is = tt
+    one (Some t) is = is
+
+module _ {D : Type 0} (s : Core D) where
+  pub version_is : AreJournalNumbers s.file s.version s.generation → version_of (form_at s) ≡ s.version
+  version_is journal = version_at s.version s.file journal.version_least journal.version_most
+
+  bytes_in : (body : Body) → body_bytes s body ≡ spelling_in s.version (current_tracks s.history) body
+  bytes_in (Edit tag block track point) = refl
+  bytes_in Undo = elim (cases_Bool (s.version == 1)) [ inl is ↦ rw is refl | inr not ↦ rw not refl ]
+  bytes_in Redo = elim (cases_Bool (s.version == 1)) [ inl is ↦ rw is refl | inr not ↦ rw not refl ]
+  bytes_in (Purge n) = elim (cases_Bool (s.version == 1)) [ inl is ↦ rw is refl | inr not ↦ rw not refl ]
+
+  pub bytes_whole : (s.version == 1) ≡ true → (body : Body) → body_bytes s body ≡ spelling body
+  bytes_whole is (Edit tag block track point) = rw is refl
+  bytes_whole is Undo = refl
+  bytes_whole is Redo = refl
+  bytes_whole is (Purge n) = refl
+
+  pub bytes_told : (s.version == 1) ≡ false → (body : Body)
+      → body_bytes s body ≡ delta_spelling (current_tracks s.history) body
+  bytes_told not (Edit tag block track point) = rw not refl
+  bytes_told not Undo = refl
+  bytes_told not Redo = refl
+  bytes_told not (Purge n) = refl
+
+  -- what the studio writes for a sound body may come next
+  pub next_so : (m : ℕ) (k : Kept) (body : Body) → AreJournalNumbers s.file s.version s.generation
+      → k.history ≡ unnumbered_history s.history → 4 ≤ m → m < 2 ^ 32 → k.commit < 2 ^ 62
+      → HasShortEnds (current_tracks s.history) → IsSound m (before_of k) (unnumbered_body body)
+      → MayFollow k.history (unnumbered_body body)
+      → IsNextIn (version_of (form_at s)) m k (body_bytes s body) (unnumbered_body body)
+  next_so m k body journal same large small room short sound follows =
+      let plain = unnumbered_body body in
+      let now = current_tracks s.history in
+      let current : current_tracks k.history ≡ map unnumbered now = ap current_tracks same ∙ current_alike s.history in
+      let short_there = subst HasShortEnds (sym current) (ends_alike now short) in
+      let next : IsNextIn s.version m k (spelling_in s.version (current_tracks k.history) plain) plain =
+      next_in s.version m k plain journal.version_least journal.version_most large small room short_there sound
+      follows in
+      let bytes : spelling_in s.version (current_tracks k.history) plain ≡ body_bytes s body =
+      ap (λ (ts : List Track). spelling_in s.version ts plain) current ∙ spelled_in s.version now body
+      ∙ sym (bytes_in body) in
+      subst (λ (v : ℕ). IsNextIn v m k (body_bytes s body) plain) (sym (version_is journal))
+      (subst (λ (b : List ℕ). IsNextIn s.version m k b plain) bytes next)
+
+  -- they are as few as the project asks
+  bytes_most : (next_block next_track : ℕ) (src : Sources) (m tag block track : ℕ) (ts : List Track) → 0 < m
+      → IsSoundPoint m next_block next_track ts
+      → length (body_bytes s (Edit tag block track ts)) ≤ project_body_most m (meant src ts)
+  bytes_most next_block next_track src m tag block track ts some is = elim (cases_Bool (s.version == 1)) [
+    | inl whole ↦ rw whole (record_most m next_block next_track src tag block track ts some is)
+    | inr told ↦ rw told (told_most m next_block next_track src (current_tracks s.history) tag block track ts some is)
+  ]
+
+  -- so are those of records that come together, also written out whole
+  pub lengths_all : (next_block next_track : ℕ) (src : Sources) (m tag block track : ℕ) (ts : List Track) → 0 < m
+      → IsSoundPoint m next_block next_track (current_tracks s.history) → IsSoundPoint m next_block next_track ts
+      → (more n : ℕ) → IsLength s (record { more = more; body = Edit tag block track ts }) n
+      → (5 * more ≤ n) × (n ≤ more * (5 + project_body_most m (meant src (current_tracks s.history)))
+      + project_body_most m (meant src ts))
+  lengths_all next_block next_track src m tag block track ts some now is more n one =
+      let current = current_tracks s.history in
+      let body = Edit tag block track ts in
+      let low = project_body_most m (meant src current) in
+      let high = project_body_most m (meant src ts) in
+      let Within : ℕ → Type 0 = λ k. (5 * more ≤ k) × (k ≤ more * (5 + low) + high) in
+      ⊎_elim
+      (λ whole. subst Within (sym whole) (wholes_most current body low high
+      (record_most m next_block next_track src tag block track current some now)
+      (record_most m next_block next_track src tag block track ts some is) more))
+      (λ told. subst Within (sym told) (rows_most s.version current body low high
+      (bytes_most next_block next_track src m tag block track current some now)
+      (bytes_most next_block next_track src m tag block track ts some is) more))
+      one
+
+  -- of one record
+  pub lengths_most : (next_block next_track : ℕ) (src : Sources) (m tag block track : ℕ) (ts : List Track) → 0 < m
+      → IsSoundPoint m next_block next_track ts → (n : ℕ) → IsLength s (single (Edit tag block track ts)) n
+      → n ≤ project_body_most m (meant src ts)
+  lengths_most next_block next_track src m tag block track ts some is n one = ⊎_elim
+      (λ whole. omega (arith, whole, record_most m next_block next_track src tag block track ts some is))
+      (λ told. omega (arith, told, bytes_most next_block next_track src m tag block track ts some is))
+      one

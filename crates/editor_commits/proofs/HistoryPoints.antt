@@ -1,0 +1,80 @@
+-- What holds of the points of a history with one more, and of its current one.
+use Rattle.std.proofs.Common.{◌≡◌, refl, ap, ◌∙◌, ℕ, ◌+◌, ◌-◌, ◌≤◌, List, [], ◌∷◌, ◌++◌, drop, length, length-append}
+use Rattle.std.proofs.Common.{arith}
+use Rattle.std.proofs.lemmas.List.{drop-append-le, length-drop}
+use Rattle.std.specs.List.{AllByRecursion}
+use Rattle.pcm_base.specs.declared.block.BlockRef.{BlockRef}
+use Rattle.pcm_base.specs.History.{History, kept, edited, ending_with}
+use Rattle.project_state.specs.declared.track.Track.{Track}
+use Rattle.record_body.specs.Kept.{first_tracks, current_tracks}
+use Rattle.project_state.specs.Meaning.{point_blocks, history_blocks}
+use Rattle.record_body.proofs.KeptBounds.{all_append}
+use Rattle.editor_state.proofs.Lists.{all_take, all_drop, all_each, all_joined}
+
+-- a point with its tag
+abbrev pub Tagged : Type 0
+Tagged = List Track × ℕ
+
+-- ---- a point after others
+
+-- a history does not grow beyond its depth
+pub ending_few : (h : History (List Track)) (before : List Tagged) (p : List Track) (tag : ℕ)
+    → length (ending_with h before (p, tag)).points ≤ h.depth
+ending_few h before p tag =
+    let xs : List Tagged = before ++ (p, tag) ∷ [] in
+    omega (arith, length-drop (length xs - h.depth) xs)
+
+pub ending_all : (h : History (List Track)) (before : List Tagged) (p : List Track) (tag : ℕ) (Q : Tagged → Type 0)
+    → AllByRecursion Q before → Q (p, tag) → AllByRecursion Q (ending_with h before (p, tag)).points
+ending_all h before p tag Q all one =
+    let xs : List Tagged = before ++ (p, tag) ∷ [] in
+    all_drop Q (length xs - h.depth) xs (all_append Q before ((p, tag) ∷ []) all (one, tt))
+
+drop_all_but : (zs : List Tagged) (x : Tagged) → drop (length zs) (zs ++ x ∷ []) ≡ x ∷ []
+drop_all_but [] x = refl
+drop_all_but (z ∷ zs) x = drop_all_but zs x
+
+last_of : (zs : List Tagged) (x : Tagged) → first_tracks (drop (length (zs ++ x ∷ []) - 1) (zs ++ x ∷ [])) ≡ x.0
+last_of zs x =
+    let n : length (zs ++ x ∷ []) - 1 ≡ length zs = omega (arith, length-append zs (x ∷ [])) in
+    ap (λ (k : ℕ). first_tracks (drop k (zs ++ x ∷ []))) n ∙ ap first_tracks (drop_all_but zs x)
+
+-- the last is the current one
+pub ending_current : (h : History (List Track)) (before : List Tagged) (p : List Track) (tag : ℕ) → 1 ≤ h.depth
+    → current_tracks (ending_with h before (p, tag)) ≡ p
+ending_current h before p tag some =
+    let xs : List Tagged = before ++ (p, tag) ∷ [] in
+    let k : ℕ = length xs - h.depth in
+    let few : k ≤ length before = omega (arith, length-append before ((p, tag) ∷ []), some) in
+    let points : drop k xs ≡ drop k before ++ (p, tag) ∷ [] = drop-append-le k before ((p, tag) ∷ []) few in
+    ap (λ (z : List Tagged). first_tracks (drop (length z - 1) z)) points ∙ last_of (drop k before) (p, tag)
+
+-- ---- after the current one
+
+pub all_edited : (Q : Tagged → Type 0) (h : History (List Track)) (p : List Track) (tag : ℕ) → AllByRecursion Q h.points
+    → Q (p, tag) → AllByRecursion Q (edited h p tag).points
+all_edited Q h p tag all one = ending_all h (kept h) p tag Q (all_take Q (h.cursor + 1) h.points all) one
+
+pub blocks_edited : (P : BlockRef → Type 0) (h : History (List Track)) (p : List Track) (tag : ℕ)
+    → AllByRecursion P (history_blocks h)
+    → AllByRecursion P (point_blocks p) → AllByRecursion P (history_blocks (edited h p tag))
+blocks_edited P h p tag all one =
+    let old = all_each P (λ (q : List Track × ℕ). point_blocks q.0) h.points all in
+    all_joined P (λ (q : List Track × ℕ). point_blocks q.0) (edited h p tag).points
+    (all_edited (λ q. AllByRecursion P (point_blocks q.0)) h p tag old one)
+
+-- ---- the current one
+
+first_all : (Q : List Track → Type 0) → Q [] → (ps : List (List Track × ℕ)) → AllByRecursion (λ p. Q p.0) ps
+    → Q (first_tracks ps)
+first_all Q none [] all = none
+first_all Q none (p ∷ ps) all = all.0
+
+pub current_all : (Q : List Track → Type 0) → Q [] → (h : History (List Track)) → AllByRecursion (λ p. Q p.0) h.points
+    → Q (current_tracks h)
+current_all Q none h all = first_all Q none (drop h.cursor h.points) (all_drop (λ p. Q p.0) h.cursor h.points all)
+
+pub current_blocks : (P : BlockRef → Type 0) (h : History (List Track)) → AllByRecursion P (history_blocks h)
+    → AllByRecursion P (point_blocks (current_tracks h))
+current_blocks P h all = current_all (λ ts. AllByRecursion P (point_blocks ts)) tt h
+    (all_each P (λ (q : List Track × ℕ). point_blocks q.0) h.points all)

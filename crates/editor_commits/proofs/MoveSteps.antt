@@ -1,0 +1,361 @@
+-- Undo, redo and purge: their records, and what they leave.
+use Rattle.std.proofs.Common.{◌≡◌, ◌↔◌, ⊎_elim, refl, sym, ap, ◌∙◌, subst, ℕ, ◌+◌, ◌-◌, ◌^◌, ◌≤◌, ◌<◌, nat_lt, Bool}
+use Rattle.std.proofs.Common.{true}
+use Rattle.std.proofs.Common.{false, List, [], ◌++◌, drop, map, length, IsSome, Option, Some, None, Ok, Err}
+use Rattle.std.proofs.Common.{arith}
+use Rattle.std.proofs.lemmas.List.{length-drop, length-map}
+use Rattle.std.proofs.lemmas.Option.{none-some, same_Some}
+use Rattle.std.specs.List.{AllByRecursion}
+use Rattle.pcm_base.specs.declared.answer.Reply.TheVariants.{Done}
+use Rattle.pcm_base.specs.declared.block.BlockRef.{BlockRef}
+use Rattle.pcm_base.specs.declared.command.Call.{Call}
+use Rattle.pcm_base.specs.declared.command.Call.TheVariants.{Line}
+use Rattle.pcm_base.specs.declared.command.Command.TheVariants as command
+use Rattle.pcm_base.specs.declared.refusal.Refusal.{Refusal}
+use Rattle.pcm_base.specs.declared.refusal.Refusal.TheVariants as refusal
+use Rattle.pcm_base.specs.declared.limits.TheConstants.{LONGEST_BODY}
+use Rattle.pcm_base.specs.Counters.{Needs, layouts_of, no_room}
+use Rattle.pcm_base.specs.History.{History, at_cursor, purged}
+use Rattle.pcm_base.specs.Refusals.{◌otherwise◌, call_tests, refused_if}
+use Rattle.pcm_base.specs.Run.{outside, stop_of}
+use Rattle.disk_model.specs.declared.store.Store.{Ghosts}
+use Rattle.disk_model.proofs.Frames.{Fewer}
+use Rattle.sample_block.specs.Sources.{sources_of}
+use Rattle.block_ledger.specs.Counts.{Counts}
+use Rattle.block_ledger.specs.Entries.{count_of}
+use Rattle.clip_track.specs.declared.items.Item.{Item}
+use Rattle.record_body.specs.declared.body.Body.{Body}
+use Rattle.record_body.specs.declared.body.Body.TheVariants.{Undo, Redo, Purge}
+use Rattle.project_state.specs.declared.track.Track.{Track}
+use Rattle.project_state.specs.Meaning.{history_blocks, point_blocks}
+use Rattle.record_body.specs.KeptSound.{IsSoundTagged}
+use Rattle.project_state.proofs.MeantHistories.{meant_purged}
+use Rattle.project_state.specs.Numbers.{unnumbered}
+use Rattle.record_body.proofs.Unnumbered.{purged_alike}
+use Rattle.layout_uses.specs.declared.tally.Tally.{Tally}
+use Rattle.layout_uses.specs.Layouts.{AreDrawn, AreNumbered, history_tracks, points_tracks}
+use Rattle.layout_uses.specs.Tallies.{AreCounts, Becomes, MayBecome}
+use Rattle.editor_state.specs.Adding.{Adds, AddsBody, IsNoWant}
+use Rattle.editor_state.specs.Bodies.{single}
+use Rattle.editor_state.specs.Core.{Core}
+use Rattle.editor_state.specs.Studios.{IsHeld, IsStudio, clip_blocks, named_blocks, pin_blocks, pin_tracks, studio_of}
+use Rattle.editor_state.specs.Studios.{studio_tracks}
+use Rattle.editor_state.specs.Took.{Took, quietly, silent}
+use Rattle.editor_commits.proofs.CommitImages.{IsCommit, clip_stays}
+use Rattle.editor_commits.proofs.CurrentProject.{may_come}
+use Rattle.editor_commits.proofs.CommitStudios.{CountsAfter}
+use Rattle.editor_commits.proofs.CommitSteps.{grows_so}
+use Rattle.editor_state.proofs.Images.ImageProjects.{Covers}
+use Rattle.editor_state.proofs.Blocks.NamedBlocks.{tracks_few}
+use Rattle.editor_state.proofs.Lists.{all_left, all_drop, all_each, all_joined, all_so}
+use Rattle.editor_state.proofs.Refusals.CommitTests.{IsCommitCall, tested}
+use Rattle.editor_state.proofs.Calls.FileRemovals.{commit_frees}
+use Rattle.editor_state.proofs.Refusals.EarlyRefusals.{none_made, refuses}
+use Rattle.editor_state.proofs.Refusals.CounterNumbers.{tested_needed}
+
+pub undo_call : IsCommitCall (Line command.Undo) silent 0 0
+undo_call = record {
+  many = refl;
+  no_pin = refl;
+  tracks_is = λ rate. refl;
+  stops = λ o. refl;
+  changes = refl;
+  leaves = λ t. refl;
+  heard = λ rate s. refl;
+  quiet = refl;
+  done = λ rate s. refl;
+}
+
+pub redo_call : IsCommitCall (Line command.Redo) silent 0 0
+redo_call = record {
+  many = refl;
+  no_pin = refl;
+  tracks_is = λ rate. refl;
+  stops = λ o. refl;
+  changes = refl;
+  leaves = λ t. refl;
+  heard = λ rate s. refl;
+  quiet = refl;
+  done = λ rate s. refl;
+}
+
+pub purge_call : (n : ℕ) → IsCommitCall (Line (command.Purge n)) silent 0 0
+purge_call n = record {
+  many = refl;
+  no_pin = refl;
+  tracks_is = λ rate. refl;
+  stops = λ o. refl;
+  changes = refl;
+  leaves = λ t. refl;
+  heard = λ rate s. refl;
+  quiet = refl;
+  done = λ rate s. refl;
+}
+
+module _ {D : Type 0} (disk : Ghosts D) (s : Core D) (is : IsStudio disk s) where
+  abbrev Move : Call → Body → History (List Track) → Type 1
+  Move c body h = IsCommit (IsHeld disk s) disk s [] c silent 0 (single body) h s.clipboard s.next_track
+
+  same_points : (h : History (List Track)) → h.points ≡ s.history.points → Covers (named_blocks s ++ []) h
+  same_points h e P all =
+      let named = all_left P (named_blocks s) [] all in
+      subst (λ z. AllByRecursion P (history_blocks (record h { points = z }))) (sym e)
+      (all_left P (history_blocks s.history) (pin_blocks s.pins ++ clip_blocks s.clipboard) named)
+
+  -- tags that were given stay given
+  points_later : AllByRecursion
+      (IsSoundTagged s.block_size s.next_block s.next_track (s.commit_number + 1)) s.history.points
+  points_later =
+      all_so (IsSoundTagged s.block_size s.next_block s.next_track s.commit_number)
+      (IsSoundTagged s.block_size s.next_block s.next_track (s.commit_number + 1))
+      (λ p h. (h.0, omega (arith, h.1))) s.history.points is.points
+
+  pub undoes : 0 < s.history.cursor → Move (Line command.Undo) Undo (at_cursor s.history (s.history.cursor - 1))
+  undoes some = record {
+    call = undo_call;
+    gives = omega arith;
+    block_then = λ n. n;
+    block_most = λ n h. h;
+    tells = λ m k e room. (
+      Undo,
+      may_come disk s is m k Undo e (omega (arith, room)) tt
+          (subst (λ (h : History (List Track)). 0 < h.cursor) (sym e.history) some),
+      refl,
+    );
+    leads = λ m k e. λ i. record k {
+      history = at_cursor (e.history i) ((e.history i).cursor - 1);
+      next_track = e.next_track i;
+      commit = k.commit + 1;
+    };
+    covers = same_points (at_cursor s.history (s.history.cursor - 1)) refl;
+    clip_covers = clip_stays s [];
+    clip_few = is.few_clips;
+    clip_fits = is.clipboard;
+    points = points_later;
+    depth = refl;
+    few = is.few_points;
+    says = tt;
+    model = λ held. refl;
+    needs = λ held n one. (refl, ⊎_elim (λ e. e) (λ e. e) one);
+  }
+
+  pub redoes : s.history.cursor + 1 < length s.history.points
+      → Move (Line command.Redo) Redo (at_cursor s.history (s.history.cursor + 1))
+  redoes some = record {
+    call = redo_call;
+    gives = omega arith;
+    block_then = λ n. n;
+    block_most = λ n h. h;
+    tells = λ m k e room. (
+      Redo,
+      may_come disk s is m k Redo e (omega (arith, room)) tt
+          (subst (λ (h : History (List Track)). h.cursor + 1 < length h.points) (sym e.history) (omega (
+            arith,
+            some,
+            length-map {B = List Track × ℕ} s.history.points (λ p. (map unnumbered p.0, p.1)),
+          ))),
+      refl,
+    );
+    leads = λ m k e. λ i. record k {
+      history = at_cursor (e.history i) ((e.history i).cursor + 1);
+      next_track = e.next_track i;
+      commit = k.commit + 1;
+    };
+    covers = same_points (at_cursor s.history (s.history.cursor + 1)) refl;
+    clip_covers = clip_stays s [];
+    clip_few = is.few_clips;
+    clip_fits = is.clipboard;
+    points = points_later;
+    depth = refl;
+    few = is.few_points;
+    says = tt;
+    model = λ held. refl;
+    needs = λ held n one. (refl, ⊎_elim (λ e. e) (λ e. e) one);
+  }
+
+  purge_covers : (n : ℕ) → Covers (named_blocks s ++ []) (purged s.history n)
+  purge_covers n P all =
+      let named = all_left P (named_blocks s) [] all in
+      let blocks : List Track × ℕ → List BlockRef = λ q. point_blocks q.0 in
+      let points = all_each P blocks s.history.points
+      (all_left P (history_blocks s.history) (pin_blocks s.pins ++ clip_blocks s.clipboard) named) in
+      all_joined P blocks (drop n s.history.points)
+      (all_drop (λ (q : List Track × ℕ). AllByRecursion P (point_blocks q.0)) n s.history.points points)
+
+  pub purges : (n : ℕ) → 1 ≤ n → n ≤ s.history.cursor → n < 2 ^ 64
+      → Move (Line (command.Purge n)) (Purge n) (purged s.history n)
+  purges n some few small = record {
+    call = purge_call n;
+    gives = omega arith;
+    block_then = λ n. n;
+    block_most = λ n h. h;
+    tells = λ m k e room. (
+      Purge n,
+      may_come disk s is m k (Purge n) e (omega (arith, room)) small
+          (subst (λ (h : History (List Track)). (1 ≤ n) × (n ≤ h.cursor)) (sym e.history) (some, few)),
+      refl,
+    );
+    leads =
+        λ m k e. λ i. record k {
+          history = (ap (λ (h : History (List Track)). purged h n) e.history ∙ sym (purged_alike s.history n)) i;
+          next_track = e.next_track i;
+          commit = k.commit + 1;
+        };
+    covers = purge_covers n;
+    clip_covers = clip_stays s [];
+    clip_few = is.few_clips;
+    clip_fits = is.clipboard;
+    points = all_drop
+        (IsSoundTagged s.block_size s.next_block s.next_track (s.commit_number + 1)) n s.history.points points_later;
+    depth = refl;
+    few = omega (arith, is.few_points, length-drop n s.history.points);
+    says = tt;
+    model = λ held.
+        let means = meant_purged (sources_of (disk.reads s.store)) s.history n in
+        λ i. record (studio_of disk s).state { history = sym means i; commit = s.commit_number + 1 };
+    needs = λ held n one. (refl, ⊎_elim (λ e. e) (λ e. e) one);
+  }
+
+  -- what a move leaves, where its record was added
+  pub moves : (c : Call) (body : Body) (h : History (List Track)) (mid : Core D) (h' : History (List Track))
+      (uses counts : Counts) → Move c body h
+      → s.stopped ≡ None → call_tests (outside (studio_of disk s) silent) (studio_of disk s).state c ≡ None
+      → layouts_of (outside (studio_of disk s) silent) (studio_of disk s).state c ≡ 0
+      → s.commit_number < 2 ^ 62
+      → AddsBody disk s (single body) (Ok (tt {0})) mid → h' ≡ h
+      → CountsAfter s.pins h s.clipboard s.next_layout s.counts uses counts
+      → Took disk s (quietly c (Ok Done)) (record mid { history = h'; uses = uses; counts = counts })
+  moves c body h mid h' uses counts move going own still number adds is-h after =
+      let clip = ap (λ (z : Core D). z.clipboard) adds.fields.0 in
+      let took = grows_so disk s [] c silent 0 (single body) h s.clipboard s.next_track is (none_made disk s) move going own
+      (omega (arith, is.counters.track_most)) (omega (arith, number)) (omega (arith, is.layouts, still))
+      (tt {0}) mid adds
+      h' uses counts mid.next_track s.next_layout is-h (ap (λ (z : Core D). z.next_track) adds.fields.0) after
+      (omega arith, omega arith) in
+      let layout = ap (λ (z : Core D). z.next_layout) adds.fields.0 in
+      subst (λ (z : Option (List (List Item)) × ℕ). Took disk s (quietly c (Ok Done)) (record mid {
+        history = h';
+        clipboard = z.0;
+        uses = uses;
+        counts = counts;
+        next_layout = z.1;
+      })) (λ i. (sym clip i, sym layout i)) took
+
+  -- where the points stay
+  pub moved : (c : Call) (body : Body) (h : History (List Track)) (mid : Core D) (h' : History (List Track))
+      → Move c body h → h.points ≡ s.history.points
+      → s.stopped ≡ None → call_tests (outside (studio_of disk s) silent) (studio_of disk s).state c ≡ None
+      → layouts_of (outside (studio_of disk s) silent) (studio_of disk s).state c ≡ 0
+      → s.commit_number < 2 ^ 62
+      → AddsBody disk s (single body) (Ok (tt {0})) mid → h' ≡ h
+      → Took disk s (quietly c (Ok Done)) (record mid { history = h' })
+  moved c body h mid h' move points going own still number adds is-h =
+      let fields = adds.fields.0 in
+      let uses : mid.uses ≡ s.uses = ap (λ (z : Core D). z.uses) fields in
+      let counts : mid.counts ≡ s.counts = ap (λ (z : Core D). z.counts) fields in
+      let tracks : history_tracks s.history ≡ history_tracks h =
+      ap (λ (ps : List (List Track × ℕ)). points_tracks (map (λ (p : List Track × ℕ). p.0) ps)) (sym points) in
+      moves c body h mid h' mid.uses mid.counts move going own still number adds is-h (record {
+        layouts = is.layouts;
+        numbered = subst (λ (ts : List Track). AreNumbered (ts ++ pin_tracks s.pins)) tracks is.numbered;
+        drawn = subst (λ (ts : List Track). AreDrawn s.next_layout (ts ++ pin_tracks s.pins)) tracks is.drawn;
+        counted = subst (λ (ts : List Track).
+            AreCounts (ts ++ pin_tracks s.pins) (clip_blocks s.clipboard) mid.uses mid.counts) tracks
+            (subst (λ (u : Counts). AreCounts (studio_tracks s) (clip_blocks s.clipboard) u mid.counts) (sym uses)
+            (subst (λ (z : Counts). AreCounts (studio_tracks s) (clip_blocks s.clipboard) s.uses z) (sym counts)
+            is.counted));
+        files = λ id. (
+          λ t. subst (λ (z : Counts). IsSome (z id)) counts t,
+          λ t. subst (λ (z : Counts). IsSome (z id)) (sym counts) t,
+        );
+      })
+
+  -- what is counted may be counted without the oldest points
+  pub may_purge : (tally : Tally) → count_of tally.uses ≡ s.uses → count_of tally.ledger ≡ s.counts
+      → MayBecome [] (history_tracks s.history) tally
+  may_purge tally uses_are counts_are = record {
+    others = pin_tracks s.pins;
+    blocks = clip_blocks s.clipboard;
+    numbered = is.numbered;
+    few = omega (arith, tracks_few disk s is);
+    counted = subst (λ (u : Counts). AreCounts (studio_tracks s) (clip_blocks s.clipboard) u (count_of tally.ledger))
+        (sym uses_are)
+        (subst (λ (z : Counts). AreCounts (studio_tracks s) (clip_blocks s.clipboard) s.uses z) (sym counts_are)
+        is.counted);
+  }
+
+  -- the counts after a purge
+  pub purged_counts : (n : ℕ) (tally tally' : Tally) → count_of tally.uses ≡ s.uses → count_of tally.ledger ≡ s.counts
+      → Becomes [] (history_tracks s.history) (history_tracks (purged s.history n)) tally tally'
+      → CountsAfter s.pins (purged s.history n) s.clipboard s.next_layout s.counts (count_of tally'.uses)
+      (count_of tally'.ledger)
+  unfolding may_purge
+  purged_counts n tally tally' uses_are counts_are becomes =
+      let may = may_purge tally uses_are counts_are in record {
+        layouts = is.layouts;
+        numbered = becomes.numbered (pin_tracks s.pins) is.numbered;
+        drawn = becomes.drawn s.next_layout (pin_tracks s.pins) is.drawn;
+        counted = becomes.counted (pin_tracks s.pins) (clip_blocks s.clipboard) is.numbered may.few may.counted;
+        files = λ id. subst (λ (z : Counts). IsSome (count_of tally'.ledger id) ↔ IsSome (z id)) counts_are
+            (becomes.ids id);
+      }
+
+-- a commit without new blocks that a test refuses
+pub tested_out : {D : Type 0} (disk : Ghosts D) (s : Core D) (c : Call) (tracks len : ℕ) (own : Option Refusal)
+    (why : Refusal) → IsStudio disk s → Fewer disk s.store
+    → IsCommitCall c silent tracks 0 → len ≤ LONGEST_BODY
+    → (IsHeld disk s → Needs (outside (studio_of disk s) silent) (studio_of disk s) c 0 len)
+    → own ≡ call_tests (outside (studio_of disk s) silent) (studio_of disk s).state c
+    → (stop_of s.stopped) otherwise own otherwise (no_room s.next_track tracks) otherwise (no_room s.commit_number 1)
+    ≡ Some why → Took disk s (quietly c (Err why)) s
+tested_out disk s c tracks len own why is fewer call short needs is_own h =
+    let by = ap (λ (o : Option Refusal). (stop_of s.stopped) otherwise o otherwise
+    (no_room s.next_track tracks) otherwise (no_room s.commit_number 1)) (sym is_own) ∙ h in
+    refuses disk s c silent why is fewer (commit_frees disk s c (Err why) s call.many) refl len (λ off. short) 0 needs
+    (tested (studio_of disk s) c silent tracks call 0 len is.counters.pin_most is.journal.generation_most why
+    (omega (arith, is.counters.block_most)) by) (tested_needed disk s c silent tracks call own is_own why h)
+
+-- it is not for want of memory, where the own tests' refusal is not
+pub no_want : (stopped : Option ℕ) (own : Option Refusal) (track tracks number : ℕ) (why : Refusal)
+    → ((r : Refusal) → own ≡ Some r → IsNoWant r)
+    → (stop_of stopped) otherwise own otherwise (no_room track tracks) otherwise (no_room number 1) ≡ Some why
+    → IsNoWant why
+no_want (Some n) own track tracks number why h e = subst IsNoWant (same_Some (refusal.Stopped n) why e) tt
+no_want None (Some r) track tracks number why h e = subst IsNoWant (same_Some r why e) (h r refl)
+no_want None None track tracks number why h e =
+    spaces (nat_lt (2 ^ 62) (track + tracks)) (nat_lt (2 ^ 62) (number + 1)) e
+  where
+    spaces : (a b : Bool) → (refused_if a (refusal.SpaceSpent track tracks)) otherwise
+        (refused_if b (refusal.SpaceSpent number 1)) ≡ Some why → IsNoWant why
+    spaces true b e = subst IsNoWant (same_Some (refusal.SpaceSpent track tracks) why e) tt
+    spaces false true e = subst IsNoWant (same_Some (refusal.SpaceSpent number 1) why e) tt
+    spaces false false e = absurd (none-some why e)
+
+-- a test that refuses for another reason
+pub other_reason : (b : Bool) (r : Refusal) → IsNoWant r → (o : Refusal) → refused_if b r ≡ Some o → IsNoWant o
+other_reason true r is o e = subst IsNoWant (same_Some r o e) is
+other_reason false r is o e = absurd (none-some o e)
+
+-- it is a range that is refused by the own tests alone
+pub own_range : (stopped : Option ℕ) (own : Option Refusal) (track tracks number : ℕ) (why : Refusal)
+    → (stop_of stopped) otherwise own otherwise (no_room track tracks) otherwise (no_room number 1) ≡ Some why
+    → why ≡ refusal.BadRange → own ≡ Some refusal.BadRange
+own_range (Some n) own track tracks number why e is =
+    let no : ⊥ = cc (same_Some (refusal.Stopped n) why e ∙ is) in absurd no
+own_range None (Some r) track tracks number why e is = e ∙ ap Some is
+own_range None None track tracks number why e is =
+    spaces (nat_lt (2 ^ 62) (track + tracks)) (nat_lt (2 ^ 62) (number + 1)) e
+  where
+    spaces : (a b : Bool) → (refused_if a (refusal.SpaceSpent track tracks)) otherwise
+        (refused_if b (refusal.SpaceSpent number 1)) ≡ Some why → None ≡ Some refusal.BadRange
+    spaces true b e =
+        let no : ⊥ = cc (same_Some (refusal.SpaceSpent track tracks) why e ∙ is) in absurd no
+    spaces false true e =
+        let no : ⊥ = cc (same_Some (refusal.SpaceSpent number 1) why e ∙ is) in absurd no
+    spaces false false e = absurd (none-some why e)
+
+-- the journal refuses no range
+pub added_range : {D R : Type 0} (disk : Ghosts D) (old new : Core D) (bodies : List (List ℕ)) (count whole : ℕ)
+    (why : Refusal) → Adds {R = R} disk old bodies count whole (Err why) new → why ≡ refusal.BadRange → ⊥
+added_range {D} {R} disk old new bodies count whole why adds is =
+    (subst (λ (w : Refusal). Adds {R = R} disk old bodies count whole (Err w) new) is adds).fields

@@ -1,0 +1,311 @@
+-- A purge to a size: the purge of as many points as have to go.
+use Rattle.std.proofs.Common.{◌≡◌, ◌⊎◌, inl, inr, ⊎_elim, refl, sym, ap, ◌∙◌, subst, ℕ, ◌≤◌, Bool, true, false, nat_lt}
+use Rattle.std.proofs.Common.{nat_le, ◌&&◌, not, List, [], ◌++◌, Option, Some, None, Result, Ok, Err, arith}
+use Rattle.std.proofs.lemmas.Bool.{le-leb, lt-ltb, true≢false}
+use Rattle.std.proofs.lemmas.List.{append-nil}
+use Rattle.std.proofs.lemmas.Option.{none-some, same_Some}
+use Rattle.std.specs.List.{AllByRecursion}
+use Rattle.pcm_base.specs.declared.answer.Reply.{Reply}
+use Rattle.pcm_base.specs.declared.answer.Reply.TheVariants as reply
+use Rattle.pcm_base.specs.declared.block.BlockRef.{BlockRef}
+use Rattle.pcm_base.specs.declared.command.Call.{Call}
+use Rattle.pcm_base.specs.declared.command.Call.TheVariants.{Line}
+use Rattle.pcm_base.specs.declared.command.Command.TheVariants as command
+use Rattle.pcm_base.specs.declared.refusal.Refusal.{Refusal}
+use Rattle.pcm_base.specs.declared.refusal.Refusal.TheVariants as refusal
+use Rattle.pcm_base.specs.Counters.{counter_tests, record_test}
+use Rattle.pcm_base.specs.Refusals.{◌otherwise◌, bad_range, call_tests, refused_if}
+use Rattle.pcm_base.specs.Run.{Answers, Breaks, BreaksOff, CarriesOut, LeavesAll, outside, stop_of, told_history}
+use Rattle.pcm_base.specs.Step.{after}
+use Rattle.pcm_base.specs.Studio as model
+use Rattle.disk_model.specs.Disk.{Files}
+use Rattle.disk_model.specs.declared.store.Store.{Ghosts}
+use Rattle.disk_model.proofs.Frames.{Fewer}
+use Rattle.sample_block.specs.Sources.{sources_of}
+use Rattle.project_state.specs.declared.track.Track.{Track}
+use Rattle.project_state.specs.Meaning.{meant_history, point_blocks}
+use Rattle.record_body.specs.KeptSound.{IsSoundTagged}
+use Rattle.layout_uses.specs.Layouts.{AreNumbered, history_tracks, track_blocks}
+use Rattle.layout_uses.proofs.Moves.{numbered_without}
+use Rattle.purge_size.specs.Fits.{AreSmall}
+use Rattle.purge_size.specs.Sizes.{IsPurgeTo}
+use Rattle.editor_state.specs.Bodies.{Writing}
+use Rattle.editor_state.specs.Core.{Core}
+use Rattle.editor_state.specs.Left.{Stops}
+use Rattle.editor_state.specs.Spent.{Leads, Needed, Plans, WouldMake}
+use Rattle.editor_state.specs.Studios.{IsStudio, pin_tracks, studio_of}
+use Rattle.editor_state.specs.Took.{KeepsOneOf, Took, quietly, silent}
+use Rattle.editor_state.proofs.Blocks.NamedBlocks.{history_named}
+use Rattle.editor_state.proofs.Lists.{all_joined, all_so}
+use Rattle.editor_state.proofs.Refusals.PurgeNumbers.{refused_to}
+use Rattle.editor_state.proofs.Calls.QuietCalls.{stopped_first}
+use Rattle.editor_state.proofs.Blocks.BlockLengths.{tracks_short}
+use Rattle.editor_state.proofs.Refusals.EarlyRefusals.{refuses, stays, wants}
+
+-- ---- which test refused
+
+-- the second of some tests refused, or those without it
+own_or_rest : (stop own rest : Option Refusal) (why : Refusal) → stop otherwise own otherwise rest ≡ Some why
+    → ((stop ≡ None) × (own ≡ Some why)) ⊎ (stop otherwise rest ≡ Some why)
+own_or_rest (Some r) own rest why h = inr h
+own_or_rest None (Some r) rest why h = inl (refl, h)
+own_or_rest None None rest why h = inr h
+
+without_own : (stop own rest : Option Refusal) → stop otherwise own otherwise rest ≡ None → stop otherwise rest ≡ None
+without_own (Some r) own rest h = h
+without_own None (Some r) rest h = absurd (none-some r (sym h))
+without_own None None rest h = h
+
+range_is : (b : Bool) (why : Refusal) → refused_if b refusal.BadRange ≡ Some why → why ≡ refusal.BadRange
+range_is true why h = sym (same_Some refusal.BadRange why h)
+range_is false why h = absurd (none-some why h)
+
+not_stopped : (stopped : Option ℕ) → stop_of stopped ≡ None → stopped ≡ None
+not_stopped None h = refl
+not_stopped (Some n) h = absurd (none-some (refusal.Stopped n) (sym h))
+
+-- so many points may go
+pub some_go : (n cursor : ℕ) → 1 ≤ n → n ≤ cursor → bad_range 0 n cursor ≡ Some refusal.BadRange → ⊥
+some_go n cursor some few h =
+    let above : nat_lt 0 n ≡ true = lt-ltb 0 n some in
+    let within : nat_le n cursor ≡ true = le-leb n cursor few in
+    let none : bad_range 0 n cursor ≡ None =
+    λ i. refused_if (not (above i && within i)) refusal.BadRange in
+    none-some refusal.BadRange (sym none ∙ h)
+
+zero_least : (n : ℕ) → 0 ≤ n
+zero_least n = omega arith
+
+-- the files of a block can be measured
+abbrev Small : BlockRef → Type 0
+Small b = b.len ≤ 262144
+
+-- ---- of as many points as have to go
+
+module _ {D : Type 0} (disk : Ghosts D) (s : Core D) (bytes n : ℕ) (some : 1 ≤ n) (few : n ≤ s.history.cursor) where
+  abbrev t : model.Studio
+  t = studio_of disk s
+
+  abbrev counted : Call
+  counted = Line (command.Purge n)
+
+  abbrev sized : Call
+  sized = Line (command.PurgeTo bytes)
+
+  -- what each answers
+  abbrev all_right : Result Reply Refusal
+  all_right = Ok reply.Done
+
+  abbrev so_many : Result Reply Refusal
+  so_many = Ok (reply.Purged n)
+
+  -- what is tested after the own tests, of both alike
+  abbrev rest : ℕ → ℕ → Option Refusal
+  rest blocks len = (counter_tests (outside t silent) t sized blocks len) otherwise (record_test len)
+
+  done : (u : model.Studio) → CarriesOut t counted silent reply.Done u → CarriesOut t sized silent (reply.Purged n) u
+  done u h = record {
+    blocks = h.blocks;
+    len = h.len;
+    layout = h.layout;
+    needs = h.needs;
+    draws = h.draws;
+    passed = without_own (stop_of t.stopped) (call_tests (outside t silent) t.state counted) (rest h.blocks h.len) h.passed;
+    answers = (n, refl, some, few);
+    is = h.is;
+    heard = h.heard;
+  }
+
+  carried : (r : Reply) (u : model.Studio) → CarriesOut t counted silent r u
+      → CarriesOut t sized silent (reply.Purged n) u
+  carried r u h = done u (subst (λ (z : Reply). CarriesOut t counted silent z u) h.answers h)
+
+  still : (c : Files) → KeepsOneOf t counted silent c → KeepsOneOf t sized silent c
+  still c k = ⊎_elim (λ old. inl old)
+      (λ flight. inr (record {
+        reply = reply.Purged n;
+        after = flight.after;
+        carried = carried flight.reply flight.after flight.carried;
+        keeps = flight.keeps;
+      }))
+      k
+
+  -- they go
+  module _ (new : Core D) (took : Took disk s (quietly counted (Ok reply.Done)) new) where
+    goes_on : Stops disk s all_right new → Stops disk s so_many new
+    goes_on h = ⊎_elim (λ same. inl same) (λ bad. let no : ⊥ = cc bad.2 in absurd no) h
+
+    pub purged_to : IsPurgeTo s.history bytes n → Took disk s (quietly sized (Ok (reply.Purged n))) new
+    purged_to is = record {
+      studio = took.studio;
+      held = took.held;
+      step = λ held. done (studio_of disk new) (took.step held);
+      any_moment = λ going held c since. still c (took.any_moment going held c since);
+      refused = λ going held unstopped. tt;
+      now = took.now;
+      number = took.number;
+      rests = took.rests;
+      len = took.len;
+      needs = took.needs;
+      records = took.records;
+      given = took.given;
+      needed = tt;
+      changed = took.changed;
+      frees = took.frees;
+      ids = took.ids;
+      purges = is;
+      untouched = tt;
+      stops = goes_on took.stops;
+      left = tt;
+    }
+
+  -- ---- what they would have made
+
+  -- a purge is no edit that makes blocks
+  no_plan : (blocks : ℕ) (w : Writing) → Plans disk s counted silent blocks w → ⊥
+  no_plan blocks w p =
+      let call = p.means.call in
+      let none : p.edit.more ≡ 0 = omega (arith, call.commit.many) in
+      let needs = call.needs s.rate t 0 0 (zero_least _, omega (arith, none), zero_least _) in
+      omega (arith, needs.1)
+
+  led : (w : Writing) → Leads disk s counted silent w → Leads disk s sized silent w
+  led w l = record {
+    history = l.history;
+    next_track = l.next_track;
+    says = l.says;
+    leads = l.leads;
+    reply = reply.Purged n;
+    answers = (n, refl, some, few);
+    means = λ held. subst
+        (λ (r : Reply). told_history r (after (outside t silent) t.state counted).history
+        ≡ meant_history (sources_of (disk.reads s.store)) l.history) l.answers (l.means held);
+  }
+
+  would : WouldMake disk s counted silent → WouldMake disk s sized silent
+  would it = record {
+    writes = it.writes;
+    commits = it.commits;
+    blocks = it.blocks;
+    so = ⊎_elim (λ plans. absurd (no_plan it.blocks it.writes plans)) (λ leads. inr (leads.0, led it.writes leads.1)) it.so;
+  }
+
+  needed_to : (why : Refusal) → Needed disk s counted silent why → Needed disk s sized silent why
+  unfolding would
+  needed_to (refusal.SpaceSpent have need) h =
+      ⊎_elim (λ number. inl number) (λ made. inr (would made.0, made.1)) h
+  needed_to (refusal.RecordLimit len) h = (would h.0, h.1, h.2)
+  needed_to why h = tt
+
+  -- they do not
+  module _ (why : Refusal) (new : Core D) (took : Took disk s (quietly counted (Err why)) new) where
+    off : (u : model.Studio) → BreaksOff t counted silent u → BreaksOff t sized silent u
+    off u b = record {
+      going = b.going;
+      blocks = b.blocks;
+      len = b.len;
+      needs = b.needs;
+      room = b.room;
+      is = b.is;
+      leaves = b.leaves;
+    }
+
+    breaks : (e : Refusal) (u : model.Studio) → Breaks t counted silent e u → Breaks t sized silent e u
+    breaks (refusal.Damaged file at want have) u b =
+        record { breaks = off u b.breaks; stopped = b.stopped; reads = b.reads; changes = b.changes }
+    breaks refusal.DiskFault u b = record { breaks = off u b.breaks; cause = b.cause }
+    breaks refusal.VaultFault u b =
+        (b.0, record { breaks = off u b.1.breaks; stopped = b.1.stopped; reads = b.1.reads; changes = b.1.changes })
+    breaks refusal.NoMemory u b = b
+    breaks e u b = absurd b
+
+    answers : (u : model.Studio) → Answers t counted silent (Err why) u → Answers t sized silent (Err why) u
+    answers u a = ⊎_elim
+        (λ r. ⊎_elim
+        (λ own. inr (inl (record {
+          bytes = bytes;
+          line = refl;
+          going = not_stopped t.stopped own.0;
+          reason = range_is (not (nat_lt 0 n && nat_le n s.history.cursor)) why own.1;
+          same = r.same;
+          quiet = r.quiet;
+        })))
+        (λ first. inl (record {
+          blocks = r.blocks;
+          len = r.len;
+          needs = r.needs;
+          first = first;
+          same = r.same;
+          quiet = r.quiet;
+        }))
+        (own_or_rest (stop_of t.stopped) (call_tests (outside t silent) t.state counted) (rest r.blocks r.len) why r.first))
+        (λ others. ⊎_elim
+        (λ (left : LeavesAll t counted silent why u). let no : ⊥ = cc left.line in absurd no)
+        (λ b. inr (inr (breaks why u b)))
+        others)
+        a
+
+    pub unpurged_to : (why ≡ refusal.BadRange → IsPurgeTo s.history bytes 0) → Took disk s (quietly sized (Err why)) new
+    unpurged_to none = record {
+      studio = took.studio;
+      held = took.held;
+      step = λ held. answers (studio_of disk new) (took.step held);
+      any_moment = λ going held c since. still c (took.any_moment going held c since);
+      refused = took.refused;
+      now = took.now;
+      number = took.number;
+      rests = took.rests;
+      len = took.len;
+      needs = took.needs;
+      records = took.records;
+      given = tt;
+      needed = needed_to why took.needed;
+      changed = took.changed;
+      frees = took.frees;
+      ids = took.ids;
+      purges = refused_to s.history bytes why none;
+      untouched = took.untouched;
+      stops = took.stops;
+      left = took.left;
+    }
+
+-- ---- before their number is known, and where none has to go
+
+module _ {D : Type 0} (disk : Ghosts D) (s : Core D) (bytes : ℕ) (is : IsStudio disk s) where
+  abbrev line : Call
+  line = Line (command.PurgeTo bytes)
+
+  module _ (fewer : Fewer disk s.store) where
+    pub to_stopped : (faults : ℕ) → s.stopped ≡ Some faults
+        → Took disk s (quietly line (Err (refusal.Stopped faults))) s
+    to_stopped faults at =
+        refuses disk s line silent (refusal.Stopped faults) is fewer refl refl 9 (λ off. omega arith) 0
+        (λ held. (refl, refl)) (stopped_first (studio_of disk s) line 0 9 faults refl at) tt
+
+    pub to_wanting : Took disk s (quietly line (Err refusal.NoMemory)) s
+    to_wanting = wants disk s line silent is fewer tt refl 9 (λ held. (0, (refl, refl)))
+
+    pub to_leaves : s.stopped ≡ None → IsPurgeTo s.history bytes 0 → Took disk s (quietly line (Err refusal.BadRange)) s
+    to_leaves going none =
+        stays disk s line silent refusal.BadRange is fewer refl refl 9 (λ off. omega arith) none tt
+        (λ held. (0, (refl, refl))) tt
+        (λ held. inr (inl (record { bytes = bytes; line = refl; going = going; reason = refl; same = refl; quiet = refl })))
+
+  -- ---- what their number is counted by
+
+  pub numbered_points : AreNumbered (history_tracks s.history)
+  numbered_points =
+      let points = history_tracks s.history in
+      let pins = pin_tracks s.pins in
+      subst AreNumbered (append-nil points) (numbered_without points pins []
+      (subst (λ (ts : List Track). AreNumbered (points ++ ts)) (sym (append-nil pins)) is.numbered))
+
+  pub small_blocks : AreSmall (track_blocks (history_tracks s.history))
+  small_blocks =
+      let each = all_so (IsSoundTagged s.block_size s.next_block s.next_track s.commit_number)
+      (λ (p : List Track × ℕ). AllByRecursion Small (point_blocks p.0))
+      (λ p sound. all_so (λ (b : BlockRef). b.len ≤ s.block_size) Small
+      (λ b short. omega (arith, short, is.format.block_most)) (point_blocks p.0)
+      (tracks_short s.block_size s.next_block s.next_track p.0 sound.0.sound)) s.history.points is.points in
+      subst (AllByRecursion Small) (sym (history_named s.history))
+      (all_joined Small (λ (p : List Track × ℕ). point_blocks p.0) s.history.points each)

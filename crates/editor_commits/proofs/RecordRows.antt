@@ -1,0 +1,103 @@
+-- Records that wait together.
+use Rattle.std.proofs.Common.{◌≡◌, ◌∙◌, refl, sym, ap, subst, ℕ, zero, suc, ◌+◌, ◌*◌, ◌^◌, ◌≤◌, ◌<◌, List, [], ◌∷◌, ◌++◌}
+use Rattle.std.proofs.Common.{length, replicate, add-mul, arith}
+use Rattle.pcm_base.specs.declared.limits.TheConstants.{LONGEST_BODY}
+use Rattle.project_journal.specs.Journal.{AreWaiting, opened, rows_length}
+use Rattle.project_journal.proofs.Together.{waiting_more}
+use Rattle.record_body.specs.declared.body.Body.{Body}
+use Rattle.project_state.specs.declared.track.Track.{Track}
+use Rattle.record_body.specs.Batches.{with_point}
+use Rattle.record_body.specs.Spelling.{spelling}
+use Rattle.editor_state.specs.Bodies.{bodies_by, bytes_by, whole_by}
+use Rattle.editor_commits.proofs.BodyBytes.{rows_step}
+
+pub times_more : {A : Type 0} (n : ℕ) (x : A) → replicate n x ++ x ∷ [] ≡ replicate (n + 1) x
+times_more zero x = refl
+times_more (suc n) x = ap (λ (l : List _). x ∷ l) (times_more n x)
+    ∙ ap (λ (k : ℕ). replicate k x) {x = suc (n + 1)} {y = suc n + 1} (omega arith)
+
+-- those of a batch
+pub rows_are : (version : ℕ) (current : List Track) (body : Body) (more : ℕ)
+    → replicate more (bytes_by version current (with_point current body)) ++ bytes_by version current body ∷ []
+    ≡ bodies_by version current more body
+rows_are version current body zero = refl
+rows_are version current body (suc more) =
+    ap (λ (l : List (List ℕ)). bytes_by version current (with_point current body) ∷ l)
+    (rows_are version current body more)
+
+next_times : (more n : ℕ) → suc more * n ≡ n + more * n
+next_times more n = ap (λ (k : ℕ). k * n) {x = suc more} {y = more + 1} (omega arith) ∙ add-mul more 1 n ∙ omega arith
+
+pub rows_closed : (version : ℕ) (current : List Track) (body : Body) (more : ℕ)
+    → rows_length (bodies_by version current more body)
+    ≡ more * (length (bytes_by version current (with_point current body)) + 5) + length (bytes_by version current body)
+rows_closed version current body zero = omega arith
+rows_closed version current body (suc more) =
+    let one = bytes_by version current (with_point current body) in
+    omega (
+      arith,
+      rows_step one version current more body,
+      rows_closed version current body more,
+      next_times more (length one + 5),
+    )
+
+pub whole_closed : (current : List Track) (body : Body) (more : ℕ) → whole_by current more body
+    ≡ more * (length (spelling (with_point current body)) + 5) + length (spelling body)
+whole_closed current body zero = omega arith
+whole_closed current body (suc more) = omega (
+  arith,
+  whole_closed current body more,
+  next_times more (length (spelling (with_point current body)) + 5),
+)
+
+-- a record that says the current point is no longer than all
+pub again_short : (version : ℕ) (current : List Track) (body : Body) (more : ℕ) → 0 < more
+    → rows_length (bodies_by version current more body) ≤ LONGEST_BODY
+    → length (bytes_by version current (with_point current body)) ≤ LONGEST_BODY
+again_short version current body zero some few = absurd (omega (arith, some))
+again_short version current body (suc more) some few =
+    omega (arith, few, rows_step (bytes_by version current (with_point current body)) version current more body)
+
+pub last_short : (version : ℕ) (current : List Track) (body : Body) (more : ℕ)
+    → rows_length (bodies_by version current more body) ≤ LONGEST_BODY
+    → length (bytes_by version current body) ≤ LONGEST_BODY
+last_short version current body more few = omega (arith, few, rows_closed version current body more)
+
+-- ---- what the code computes and writes
+
+-- the length of all, by those of one that says the current point and of the last
+pub rows_total : (version : ℕ) (current : List Track) (body again : Body) (more one last len : ℕ)
+    → again ≡ with_point current body → one ≡ length (bytes_by version current again)
+    → last ≡ length (bytes_by version current body) → len ≡ more * (one + 5) + last
+    → len ≡ rows_length (bodies_by version current more body)
+rows_total version current body again more one last len is one_is last_is len_is =
+    let still = one_is ∙ ap (λ (b : Body). length (bytes_by version current b)) is in
+    len_is ∙ (λ i. more * (still i + 5) + last_is i) ∙ sym (rows_closed version current body more)
+
+pub whole_total : (current : List Track) (body again : Body) (more one last len : ℕ)
+    → again ≡ with_point current body → one ≡ length (spelling again) → last ≡ length (spelling body)
+    → len ≡ more * (one + 5) + last → len ≡ whole_by current more body
+whole_total current body again more one last len is one_is last_is len_is =
+    let still = one_is ∙ ap (λ (b : Body). length (spelling b)) is in
+    len_is ∙ (λ i. more * (still i + 5) + last_is i) ∙ sym (whole_closed current body more)
+
+-- those that say the current point wait in an empty row
+pub again_waits : (version : ℕ) (current : List Track) (body : Body) (more : ℕ) (before rows written : List ℕ)
+    → before ≡ [] → written ≡ bytes_by version current (with_point current body)
+    → ((bodies : List (List ℕ)) → AreWaiting before bodies → AreWaiting rows (bodies ++ replicate more written))
+    → AreWaiting rows (replicate more (bytes_by version current (with_point current body)))
+again_waits version current body more before rows written empty is added =
+    subst (λ (b : List ℕ). AreWaiting rows (replicate more b)) is
+    (added [] (record { spelled = empty; short = tt }))
+
+-- and with the last all wait
+pub all_wait : (version : ℕ) (current : List Track) (body : Body) (more : ℕ) (before rows written : List ℕ)
+    → AreWaiting before (replicate more (bytes_by version current (with_point current body)))
+    → written ≡ bytes_by version current body → rows_length (bodies_by version current more body) ≤ LONGEST_BODY
+    → rows ≡ before ++ opened (written ∷ []) → AreWaiting rows (bodies_by version current more body)
+all_wait version current body more before rows written are is few added =
+    let last = bytes_by version current body in
+    let short : length last < 2 ^ 32 = omega (arith, last_short version current body more few) in
+    subst (AreWaiting rows) (rows_are version current body more)
+    (waiting_more before rows (replicate more (bytes_by version current (with_point current body))) last are short
+    (added ∙ ap (λ (b : List ℕ). before ++ opened (b ∷ [])) is))

@@ -1,0 +1,155 @@
+-- One track put in the place of another.
+use Rattle.std.proofs.Common.{◌≡◌, ⊎_elim, refl, sym, ap, ◌∙◌, subst, ℕ, ◌+◌, ◌<◌, true, false, eqb, if◌then◌else◌}
+use Rattle.std.proofs.Common.{List, [], ◌∷◌, map, drop, Some, arith}
+use Rattle.std.proofs.lemmas.Bool.{eq-eqb, ne_eqb}
+use Rattle.std.proofs.lemmas.Bool.Decides.{eqb_tells}
+use Rattle.std.proofs.lemmas.Option.{none-some, same_Some}
+use Rattle.std.proofs.lemmas.List.{drop-map}
+use Rattle.std.specs.List.{AllByRecursion}
+use Rattle.pcm_base.specs.declared.block.BlockRef.{BlockRef}
+use Rattle.pcm_base.specs.declared.refusal.Refusal.TheVariants.{NoTrack}
+use Rattle.pcm_base.specs.Pieces.{Sources}
+use Rattle.pcm_base.specs.Cells.{Project, tracks_from, replaced_at, changed_at}
+use Rattle.pcm_base.specs.Cells as cells
+use Rattle.pcm_base.specs.History.{History}
+use Rattle.pcm_base.specs.State.{first_point}
+use Rattle.pcm_base.specs.Refusals.{refused_if, is_empty}
+use Rattle.clip_track.specs.Clips.{layout_blocks}
+use Rattle.project_state.specs.declared.track.Track.{Track}
+use Rattle.record_body.specs.Sound.{IsSoundTrack, AllSoundTracks}
+use Rattle.project_state.specs.Tracks.{AreAbove, AllBelow, track_of}
+use Rattle.record_body.specs.Kept.{first_tracks, current_tracks}
+use Rattle.project_state.specs.Meaning.{meant, meant_track, point_blocks}
+use Rattle.editor_state.specs.Points.{put_one, put_in, lacks}
+use Rattle.record_body.proofs.KeptBounds.{all_append}
+use Rattle.editor_state.proofs.Lists.{all_left, all_right}
+
+-- ---- the current project
+
+first_meant : (src : Sources) (ps : List (List Track × ℕ))
+    → first_point (map (λ p. (meant src p.0, p.1)) ps) ≡ meant src (first_tracks ps)
+first_meant src [] = refl
+first_meant src (p ∷ ps) = refl
+
+pub current_is : (src : Sources) (h : History (List Track))
+    → first_point (drop h.cursor (map (λ p. (meant src p.0, p.1)) h.points)) ≡ meant src (current_tracks h)
+current_is src h =
+    ap first_point (drop-map (λ p. (meant src p.0, p.1)) h.cursor h.points) ∙ first_meant src (drop h.cursor h.points)
+
+-- ---- whether there is a track
+
+pub lacks_is : (src : Sources) (id : ℕ) (ts : List Track)
+    → refused_if (is_empty (tracks_from id (meant src ts))) (NoTrack id) ≡ lacks id (track_of id ts)
+lacks_is src id [] = refl
+lacks_is src id (t ∷ ts) = ⊎_elim
+    (λ same. rw (same.0, eq-eqb id t.id (sym same.1)) refl)
+    (λ other. rw (other.0, ne_eqb id t.id (λ e. other.1 (sym e))) (lacks_is src id ts))
+    (eqb_tells t.id id)
+
+-- ---- one put in the place of another
+
+put_above : (new : Track) (n : ℕ) (ts : List Track) → AreAbove n ts → new.id < n → put_in new ts ≡ ts
+put_above new n [] above less = refl
+put_above new n (t ∷ ts) above less =
+    let other : eqb t.id new.id ≡ false = ne_eqb t.id new.id (λ e. absurd (omega (arith, e, above.0, less))) in
+    let rest = put_above new (t.id + 1) ts above.1 (omega (arith, above.0, less)) in
+    λ i. (if other i then new else t) ∷ rest i
+
+module _ (src : Sources) (id : ℕ) (new t : Track) (f : cells.Track → cells.Track) (is : new.id ≡ id)
+    (changes : meant_track src new ≡ f (meant_track src t)) where
+  pub put_means : (n : ℕ) (ts : List Track) → AreAbove n ts → track_of id ts ≡ Some t
+      → meant src (put_in new ts) ≡ changed_at id f (meant src ts)
+  put_means n [] above found = absurd (none-some t found)
+  put_means n (x ∷ xs) above found = ⊎_elim
+      (λ same.
+      let here : eqb id x.id ≡ true = eq-eqb id x.id (sym same.1) in
+      let there : eqb x.id new.id ≡ true = eq-eqb x.id new.id (same.1 ∙ sym is) in
+      let it : x ≡ t = same_Some x t (sym (ap (λ b. if b then Some x else track_of id xs) here) ∙ found) in
+      let rest : put_in new xs ≡ xs = put_above new (x.id + 1) xs above.1 (omega (arith, is, same.1)) in
+      let one : meant src (put_in new (x ∷ xs)) ≡ meant_track src new ∷ meant src xs =
+      λ i. meant_track src (if there i then new else x) ∷ meant src (rest i) in
+      let two : meant_track src new ∷ meant src xs ≡ f (meant_track src x) ∷ meant src xs =
+      λ i. (changes ∙ sym (ap (λ z. f (meant_track src z)) it)) i ∷ meant src xs in
+      let three : changed_at id f (meant src (x ∷ xs)) ≡ f (meant_track src x) ∷ meant src xs = ap (λ b. if b then f
+      (meant_track src x) ∷ meant src xs else meant_track src x ∷ changed_at id f (meant src xs)) same.0 in
+      one ∙ two ∙ sym three)
+      (λ other.
+      let here : eqb id x.id ≡ false = ne_eqb id x.id (λ e. other.1 (sym e)) in
+      let there : eqb x.id new.id ≡ false = ne_eqb x.id new.id (λ e. other.1 (e ∙ is)) in
+      let later : track_of id xs ≡ Some t = sym (ap (λ b. if b then Some x else track_of id xs) here) ∙ found in
+      let rest = put_means (x.id + 1) xs above.1 later in
+      let one : meant src (put_in new (x ∷ xs)) ≡ meant_track src x ∷ changed_at id f (meant src xs) =
+      λ i. meant_track src (if there i then new else x) ∷ rest i in
+      let three : changed_at id f (meant src (x ∷ xs)) ≡ meant_track src x ∷ changed_at id f (meant src xs) = ap
+      (λ b. if b then f (meant_track src x) ∷ meant src xs else meant_track src x ∷ changed_at id f (meant src xs))
+      other.0 in
+      one ∙ sym three)
+      (eqb_tells x.id id)
+
+-- ---- what holds of its blocks
+
+pub layout_of : (P : BlockRef → Type 0) (id : ℕ) (ts : List Track) (t : Track) → track_of id ts ≡ Some t
+    → AllByRecursion P (point_blocks ts) → AllByRecursion P (layout_blocks t.layout)
+layout_of P id [] t found all = absurd (none-some t found)
+layout_of P id (x ∷ xs) t found all = ⊎_elim
+    (λ same.
+    let it : x ≡ t = same_Some x t (sym (ap (λ b. if b then Some x else track_of id xs) same.0) ∙ found) in
+    subst (λ (z : Track). AllByRecursion P (layout_blocks z.layout)) it
+    (all_left P (layout_blocks x.layout) (point_blocks xs) all))
+    (λ other.
+    let later : track_of id xs ≡ Some t = sym (ap (λ b. if b then Some x else track_of id xs) other.0) ∙ found in
+    layout_of P id xs t later (all_right P (layout_blocks x.layout) (point_blocks xs) all))
+    (eqb_tells id x.id)
+
+put_one_all : (P : Track → Type 0) (new t : Track) → P new → P t → P (put_one new t)
+put_one_all P new t a b = ⊎_elim (λ same. rw (same.0) a) (λ other. rw (other.0) b) (eqb_tells t.id new.id)
+
+pub put_all : (P : BlockRef → Type 0) (new : Track) (ts : List Track) → AllByRecursion P (layout_blocks new.layout)
+    → AllByRecursion P (point_blocks ts) → AllByRecursion P (point_blocks (put_in new ts))
+put_all P new [] a all = tt
+put_all P new (t ∷ ts) a all =
+    all_append P (layout_blocks (put_one new t).layout) (point_blocks (put_in new ts))
+    (put_one_all (λ (z : Track). AllByRecursion P (layout_blocks z.layout)) new t a
+    (all_left P (layout_blocks t.layout) (point_blocks ts) all))
+    (put_all P new ts a (all_right P (layout_blocks t.layout) (point_blocks ts) all))
+
+-- ---- it is sound
+
+pub put_id : (new t : Track) → (put_one new t).id ≡ t.id
+put_id new t = ⊎_elim (λ same. rw (same.0) (sym same.1)) (λ other. rw (other.0) refl) (eqb_tells t.id new.id)
+
+pub put_below : (new : Track) (ts : List Track) (n : ℕ) → AllBelow n ts → AllBelow n (put_in new ts)
+put_below new [] n below = tt
+put_below new (t ∷ ts) n below = (omega (arith, put_id new t, below.0), put_below new ts n below.1)
+
+pub put_rising : (new : Track) (n : ℕ) (ts : List Track) → AreAbove n ts → AreAbove n (put_in new ts)
+put_rising new n [] above = tt
+put_rising new n (t ∷ ts) above =
+    let same = put_id new t in (
+      omega (arith, same, above.0),
+      subst (λ (k : ℕ). AreAbove (k + 1) (put_in new ts)) (sym same) (put_rising new (t.id + 1) ts above.1),
+    )
+
+pub put_sound : (m next_block next_track : ℕ) (new : Track) (ts : List Track) → IsSoundTrack m next_block next_track new
+    → AllSoundTracks m next_block next_track ts → AllSoundTracks m next_block next_track (put_in new ts)
+put_sound m next_block next_track new [] a all = tt
+put_sound m next_block next_track new (t ∷ ts) a all =
+    (put_one_all (IsSoundTrack m next_block next_track) new t a all.0, put_sound m next_block next_track new ts a all.1)
+
+pub sound_of : (m next_block next_track id : ℕ) (ts : List Track) (t : Track) → track_of id ts ≡ Some t
+    → AllSoundTracks m next_block next_track ts → IsSoundTrack m next_block next_track t
+sound_of m next_block next_track id [] t found all = absurd (none-some t found)
+sound_of m next_block next_track id (x ∷ xs) t found all = ⊎_elim
+    (λ same. subst (IsSoundTrack m next_block next_track)
+    (same_Some x t (sym (ap (λ b. if b then Some x else track_of id xs) same.0) ∙ found)) all.0)
+    (λ other. sound_of m next_block next_track id xs t
+    (sym (ap (λ b. if b then Some x else track_of id xs) other.0) ∙ found) all.1)
+    (eqb_tells id x.id)
+
+pub id_of : (id : ℕ) (ts : List Track) (t : Track) → track_of id ts ≡ Some t → t.id ≡ id
+id_of id [] t found = absurd (none-some t found)
+id_of id (x ∷ xs) t found = ⊎_elim
+    (λ same. sym (same.1 ∙ ap (λ (z : Track). z.id)
+    (same_Some x t (sym (ap (λ b. if b then Some x else track_of id xs) same.0) ∙ found))))
+    (λ other. id_of id xs t (sym (ap (λ b. if b then Some x else track_of id xs) other.0) ∙ found))
+    (eqb_tells id x.id)

@@ -1,0 +1,12 @@
+-- The lengths of records that come together, written out whole.
+use Rattle.record_body.specs.Kept.{current_tracks}
+use Rattle.editor_core.specs.Core.{core_of}
+use Rattle.editor_commits.proofs.RecordRows.{whole_total}
+use Rattle.editor_core.proofs.studio.Studio.whole_size.Goals as goal
+
+pub returns-clause-value : goal.returns-clause-value
+returns-clause-value g c =
+    let s = core_of c.args.self.now in
+    whole_total (current_tracks s.history) c.args.body.now c.in_ok-again.again c.args.more c.body_len-2.result
+    c.body_len-3.result c.len_together.result c.in_ok-again.ensures c.body_len-2.ensures.value
+    c.body_len-3.ensures.value c.len_together.ensures.value

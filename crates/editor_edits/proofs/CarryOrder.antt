@@ -1,0 +1,50 @@
+-- How an edit is carried out: once a block was made, nothing but the disk refuses.
+use Rattle.std.proofs.Common.{◌≡◌, ◌⊎◌, inr, ⊎_elim, refl, ap}
+use Rattle.std.proofs.Common.{length, Result, Ok, Err, IfErr, arith}
+use Rattle.pcm_base.specs.declared.refusal.Refusal.{Refusal}
+use Rattle.pcm_base.specs.declared.refusal.Refusal.TheVariants as refusal
+use Rattle.disk_model.specs.declared.store.Store.{Ghosts}
+use Rattle.project_journal.specs.Journal.{rows_length}
+use Rattle.editor_state.specs.Adding.{Adds, IsNoWant}
+use Rattle.editor_state.specs.Core.{Core}
+use Rattle.editor_state.specs.Edits.{Carried, IsPrepared, BlockCommit}
+use Rattle.editor_state.specs.Made.{batch_of, ids_from}
+use Rattle.editor_state.specs.Makes.{AreSynced, Making}
+
+either_one : {A : Type 0} → A ⊎ A → A
+either_one h = ⊎_elim (λ x. x) (λ x. x) h
+
+-- ---- how the code carries it out: after the first block was made nothing but the disk refuses
+
+pub carried_by : {D : Type 0} (disk : Ghosts D) (s mid new : Core D) (c : BlockCommit)
+    (result : Result (Unit {0}) Refusal)
+    → Making disk s (batch_of c.given c.makes) (length c.makes) mid
+    → disk.read_fault_count mid.store ≡ disk.read_fault_count s.store
+    → AreSynced disk (ids_from s.next_block (length c.makes)) mid.store
+    → IsPrepared s (length c.makes) c.tracks c.layouts c.count (rows_length c.bodies)
+    → Adds disk mid c.bodies c.count (rows_length c.bodies) result new
+    → Adds disk mid c.bodies c.count c.whole result new → IfErr result IsNoWant
+    → Carried disk s c result new
+carried_by disk s mid new c (Ok done) making reads synced prepared exact adds no_want =
+    record { mid = mid; making = making; reads = reads; synced = synced; prepared = prepared; adds = adds }
+carried_by disk s mid new c (Err refusal.DiskFault) making reads synced prepared exact adds no_want =
+    inr (inr (
+      refl,
+      record {
+        mid = mid;
+        making = making;
+        reads = reads;
+        synced = synced;
+        prepared = prepared;
+        adds = adds;
+      },
+    ))
+carried_by disk s mid new c (Err refusal.NoMemory) making reads synced prepared exact adds no_want =
+    absurd no_want
+carried_by disk s mid new c (Err (refusal.SpaceSpent have need)) making reads synced prepared exact adds no_want =
+    let over = either_one exact.fields.1 in
+    absurd (omega (arith, over.0, prepared.place, ap (λ (z : Core _). z.journal_end) making.is))
+carried_by disk s mid new c (Err (refusal.RecordLimit n)) making reads synced prepared exact adds no_want =
+    let over = either_one exact.fields.1 in absurd (omega (arith, over.1, prepared.short))
+carried_by disk s mid new c (Err why) making reads synced prepared exact adds no_want =
+    absurd adds.fields

@@ -1,0 +1,141 @@
+-- What an edit takes out comes into the clipboard, after the point that it records.
+use Rattle.std.proofs.Common.{ℤ, ◌≡◌, ◌↔◌, sym, ap, ◌∙◌, subst, ℕ, ◌+◌, ◌*◌, ◌^◌, ◌≤◌, ◌<◌, IsSome, Option, Some}
+use Rattle.std.proofs.Common.{None, List, [], ◌∷◌}
+use Rattle.std.proofs.Common.{◌++◌, length, length-append, flat_map, arith}
+use Rattle.std.specs.List.{AllByRecursion}
+use Rattle.pcm_base.specs.History.{History}
+use Rattle.disk_model.specs.declared.store.Store.{Ghosts}
+use Rattle.block_ledger.specs.Counts.{Counts, IsFreshCount, occurrences}
+use Rattle.block_ledger.specs.Entries.{count_of}
+use Rattle.clip_track.specs.declared.items.Item.{Item}
+use Rattle.edit_ops.specs.declared.types.NewBlock.{NewBlock}
+use Rattle.project_state.specs.declared.track.Track.{Track}
+use Rattle.project_state.specs.Meaning.{history_blocks, point_blocks}
+use Rattle.record_body.specs.KeptSound.{IsSoundTagged}
+use Rattle.pcm_base.specs.declared.block.BlockRef.{BlockRef}
+use Rattle.layout_uses.specs.declared.tally.Tally.{Tally}
+use Rattle.layout_uses.specs.Layouts.{history_tracks, numbers_of, track_blocks, used_blocks}
+use Rattle.layout_uses.specs.Tallies.{AreCounts, Becomes}
+use Rattle.layout_uses.proofs.Naming.{counts_most}
+use Rattle.editor_state.specs.Core.{Core}
+use Rattle.editor_state.specs.Edits.{IsPlanned, TaggedEdit, clip_behind, history_behind}
+use Rattle.editor_state.specs.Made.{batch_of}
+use Rattle.editor_state.specs.Makes.{Making}
+use Rattle.editor_state.specs.Occurrences.{HasAll, HasIds, Moves}
+use Rattle.editor_state.specs.Studios.{IsStudio, clip_blocks, ids_of, pin_blocks, pin_tracks, studio_tracks}
+use Rattle.editor_state.proofs.Blocks.BlockNumbers.{named_few, named_most, point_few}
+use Rattle.editor_edits.proofs.EditPlans.{clip_there}
+use Rattle.editor_commits.proofs.CurrentProject.{counts_then}
+use Rattle.editor_commits.proofs.CommitStudios.{CountsAfter}
+use Rattle.editor_state.proofs.Blocks.NamedBlocks.{others_counted, others_moved, tracks_named}
+use Rattle.editor_state.proofs.Lists.{all_so}
+use Rattle.editor_commits.proofs.PointTags.{all_recorded, recorded_depth, recorded_few}
+
+points_few : (ps : List (List Track × ℕ))
+    → AllByRecursion (λ (p : List Track × ℕ). length (point_blocks p.0) ≤ 2 ^ 38) ps
+    → length (flat_map (λ (p : List Track × ℕ). point_blocks p.0) ps) ≤ length ps * 2 ^ 38
+points_few [] h = omega arith
+points_few (p ∷ ps) h = omega (
+  arith,
+  h.0,
+  points_few ps h.1,
+  length-append (point_blocks p.0) (flat_map (λ (q : List Track × ℕ). point_blocks q.0) ps),
+)
+
+module _ {D : Type 0} (disk : Ghosts D) (s : Core D) (is : IsStudio disk s) (going : s.stopped ≡ None)
+    (e : TaggedEdit) (plan : IsPlanned s e) where
+  abbrev given : ℕ → ℤ
+  given = e.given
+
+  abbrev makes : List NewBlock
+  makes = e.plan.makes
+
+  abbrev tracks : ℕ
+  tracks = e.plan.tracks
+
+  abbrev point : List Track
+  point = e.plan.point
+
+  abbrev clip : Option (List (List Item))
+  clip = clip_behind s e.plan
+
+  abbrev h : History (List Track)
+  h = history_behind s e
+
+  history_few : length (history_blocks h) ≤ 2 ^ 54
+  history_few =
+      let Q : List Track × ℕ → Type 0 = λ p. length (point_blocks p.0) ≤ 2 ^ 38 in
+      let old = all_so (IsSoundTagged s.block_size s.next_block s.next_track s.commit_number) Q
+      (λ p k. point_few s.block_size s.next_block s.next_track p.0 k.0) s.history.points is.points in
+      let new = point_few s.block_size (s.next_block + length makes) (s.next_track + tracks) point plan.sound in
+      omega (
+        arith,
+        points_few h.points (all_recorded s.history point e.tag Q old new new),
+        recorded_few s.history point e.tag,
+        recorded_depth s.history point e.tag,
+        is.format.depth_most,
+      )
+
+  abbrev after : ℕ
+  after = s.next_layout + e.plan.layouts
+
+  -- the pins' blocks, and the clipboard's
+  abbrev rest : List BlockRef
+  rest = pin_blocks s.pins ++ clip_blocks s.clipboard
+
+  -- what the studio with its new blocks counts: a file that was made is counted, and named by nothing
+  pub counted_mid : (mid : Core D) → Making disk s (batch_of given makes) (length makes) mid → (tally : Tally)
+      → count_of tally.uses ≡ s.uses → count_of tally.ledger ≡ mid.counts
+      → AreCounts (studio_tracks s) (clip_blocks s.clipboard) (count_of tally.uses) (count_of tally.ledger)
+  counted_mid mid making tally uses_are counts_are = record {
+    fresh_uses = subst (IsFreshCount (numbers_of (studio_tracks s))) (sym uses_are) is.counted.fresh_uses;
+    none_free = subst (λ (u : Counts). (n : ℕ) → u n ≡ Some 0 → ⊥) (sym uses_are) is.counted.none_free;
+    fresh_counts = subst (IsFreshCount (ids_of (used_blocks (studio_tracks s) ++ clip_blocks s.clipboard)))
+        (sym counts_are) (λ id. making.ledger.counts id ∙ is.counted.fresh_counts id);
+  }
+
+  module _ (mid : Core D) (making : Making disk s (batch_of given makes) (length makes) mid)
+      (most : s.next_layout + e.plan.layouts ≤ 2 ^ 62) (tally tally' : Tally)
+      (uses_are : count_of tally.uses ≡ s.uses) (counts_are : count_of tally.ledger ≡ mid.counts)
+      (becomes : Becomes point (history_tracks s.history) (history_tracks h) tally tally') where
+    taken_so : CountsAfter s.pins h s.clipboard after (count_of tally.ledger) (count_of tally'.uses)
+        (count_of tally'.ledger)
+    taken_so = counts_then disk s is point after h tally tally' plan.layouts plan.sound.few most
+        (counted_mid mid making tally uses_are counts_are) becomes
+
+    pub taken_there : s.next_block + length makes ≤ 2 ^ 62 → HasIds (count_of tally'.ledger) (clip_blocks clip)
+    taken_there fits = λ id some. (taken_so.files id).1 (subst (λ (c : Counts). IsSome (c id)) (sym counts_are)
+        (clip_there disk s is going e plan mid making fits id some))
+
+    pub taken_room : (id : ℕ) → occurrences (count_of tally'.ledger id) < 2 ^ 102
+    taken_room id =
+        omega (
+          arith,
+          counts_most (history_tracks h ++ pin_tracks s.pins) (clip_blocks s.clipboard) (count_of tally'.uses)
+              (count_of tally'.ledger) taken_so.counted id,
+          named_most id (track_blocks (history_tracks h ++ pin_tracks s.pins) ++ clip_blocks s.clipboard),
+          ap length (tracks_named h s.pins (clip_blocks s.clipboard)),
+          length-append (history_blocks h) rest,
+          history_few,
+          length-append (history_blocks s.history) rest,
+          named_few disk s is,
+        )
+
+    pub taken_named : HasAll (count_of tally'.ledger) (clip_blocks s.clipboard)
+    taken_named = others_counted (history_tracks h ++ pin_tracks s.pins) (clip_blocks s.clipboard)
+        (count_of tally'.uses) (count_of tally'.ledger) taken_so.counted
+
+    module _ (last : Counts) (takes : Moves (count_of tally'.ledger) last (clip_blocks s.clipboard) (clip_blocks clip))
+      where
+        pub taken_counted : CountsAfter s.pins h clip after mid.counts (count_of tally'.uses) last
+        taken_counted = record {
+          layouts = taken_so.layouts;
+          numbered = taken_so.numbered;
+          drawn = taken_so.drawn;
+          counted = others_moved (history_tracks h ++ pin_tracks s.pins) (clip_blocks s.clipboard) (clip_blocks clip)
+              (count_of tally'.uses) (count_of tally'.ledger) last taken_so.counted takes;
+          files = λ id. subst (λ (c : Counts). IsSome (last id) ↔ IsSome (c id)) counts_are (
+            λ k. (taken_so.files id).0 ((takes.ids id).0 k),
+            λ k. (takes.ids id).1 ((taken_so.files id).1 k),
+          );
+        }

@@ -1,0 +1,192 @@
+-- An edit whose commit was carried out, as the code takes its point, and then its clipboard.
+use Rattle.std.proofs.Common.{◌≡◌, ◌∙◌, sym, ap, subst, ℕ, suc, ◌+◌, List, Option, Ok, ◌≤◌, ◌<◌, ◌^◌, None}
+use Rattle.pcm_base.specs.declared.answer.Reply.TheVariants.{Done}
+use Rattle.pcm_base.specs.declared.command.Call.{Call}
+use Rattle.pcm_base.specs.declared.entry.SoundMove.{SoundMove}
+use Rattle.pcm_base.specs.Counters.{commits_of}
+use Rattle.pcm_base.specs.History.{History, recorded}
+use Rattle.disk_model.specs.declared.store.Store.{Ghosts}
+use Rattle.disk_model.proofs.Frames.{Fewer}
+use Rattle.block_ledger.specs.Counts.{Counts, occurrences}
+use Rattle.block_ledger.specs.Entries.{count_of}
+use Rattle.layout_uses.specs.declared.tally.Tally.{Tally}
+use Rattle.layout_uses.specs.Layouts.{history_tracks}
+use Rattle.layout_uses.specs.Tallies.{Becomes, MayBecome}
+use Rattle.clip_track.specs.declared.items.Item.{Item}
+use Rattle.project_state.specs.declared.track.Track.{Track}
+use Rattle.project_state.specs.Meaning.{point_blocks}
+use Rattle.editor_state.specs.Applied.{Lasts}
+use Rattle.editor_state.specs.Core.{Core}
+use Rattle.editor_state.specs.Edits.{Committed, IsEdit, IsPlanned, TaggedEdit, clip_behind, clip_then, history_behind}
+use Rattle.editor_state.specs.Occurrences.{HasAll, HasIds, Moves}
+use Rattle.editor_state.specs.Studios.{IsStudio, MayPaste, clip_blocks}
+use Rattle.editor_state.specs.Took.{Took, with_sound}
+use Rattle.editor_edits.proofs.EditBodies.{commit_of}
+use Rattle.editor_edits.proofs.EditPlans.{point_few, point_there}
+use Rattle.editor_commits.proofs.CurrentProject.{may_become}
+use Rattle.editor_edits.proofs.EditSteps.{edit_ok}
+use Rattle.editor_commits.proofs.CommitStudios.{CountsAfter}
+use Rattle.editor_edits.proofs.EditLasts.{lasts_ok}
+use Rattle.editor_edits.proofs.EditClipboard.{counted_mid, taken_counted, taken_named, taken_room, taken_there}
+use Rattle.layout_uses.proofs.Times.{Few}
+
+-- the commit of an edit carried out, and the point that came back from its body recorded
+pub record IsPointed {D : Type 0} (disk : Ghosts D) (s : Core D) (e : TaggedEdit) (now : Core D) : Type 0 where
+  pub new : Core D
+  pub committed : Committed disk s (commit_of s e) (Ok (tt {0})) new
+  pub history : new.history ≡ s.history
+  pub layouts : s.next_layout + e.plan.layouts ≤ 2 ^ 62
+  pub point : List Track
+  pub point_is : e.plan.point ≡ point
+  pub before : Tally
+  pub after : Tally
+  pub uses_before : count_of before.uses ≡ new.uses
+  pub counts_before : count_of before.ledger ≡ new.counts
+  pub uses_after : count_of after.uses ≡ now.uses
+  pub counts_after : count_of after.ledger ≡ now.counts
+  pub fields : now ≡ record new {
+    history = recorded new.history point e.tag;
+    uses = now.uses;
+    counts = now.counts;
+    next_track = new.next_track + e.plan.tracks;
+    next_layout = new.next_layout + e.plan.layouts;
+  }
+  pub counted : Becomes point (history_tracks new.history) (history_tracks
+      (recorded new.history point e.tag)) before after
+
+module _ {D : Type 0} (disk : Ghosts D) (s : Core D) (is : IsStudio disk s) (going : s.stopped ≡ None)
+    (e : TaggedEdit) (plan : IsPlanned s e) where
+  -- ---- before the point is recorded
+
+  module _ (new : Core D) (k : Committed disk s (commit_of s e) (Ok (tt {0})) new) where
+    counts_are : k.mid.counts ≡ new.counts
+    counts_are = sym (ap (λ (z : Core D). z.counts) k.adds.fields.0)
+
+    pub recorded_there : HasIds new.counts (point_blocks e.plan.point)
+    recorded_there = subst (λ (z : Counts). HasIds z (point_blocks e.plan.point)) counts_are
+        (point_there disk s is going e plan k.mid k.making k.prepared.blocks)
+
+    pub recorded_few : Few new.counts (point_blocks e.plan.point)
+    recorded_few = subst (λ (z : Counts). Few z (point_blocks e.plan.point)) counts_are
+        (point_few disk s is going e plan k.mid k.making k.prepared.blocks)
+
+    uses_are : new.uses ≡ s.uses
+    uses_are = ap (λ (z : Core D). z.uses) k.adds.fields.0 ∙ ap (λ (z : Core D). z.uses) k.making.is
+
+    -- the point may be counted
+    pub recorded_counted : (tally : Tally) → count_of tally.uses ≡ new.uses → count_of tally.ledger ≡ new.counts
+        → MayBecome e.plan.point (history_tracks s.history) tally
+    recorded_counted tally uses counts = may_become disk s is e.plan.point (s.next_layout + e.plan.layouts) plan.layouts
+        plan.sound.few tally (counted_mid disk s is going e plan k.mid k.making tally (uses ∙ uses_are)
+        (counts ∙ sym counts_are))
+
+  -- ---- after it, before the clipboard is taken
+
+  module _ (now : Core D) (at : IsPointed disk s e now) where
+    abbrev new : Core D
+    new = at.new
+
+    abbrev k : Committed disk s (commit_of s e) (Ok (tt {0})) at.new
+    k = at.committed
+
+    uses_was : count_of at.before.uses ≡ s.uses
+    uses_was = at.uses_before ∙ uses_are new k
+
+    counts_was : count_of at.before.ledger ≡ k.mid.counts
+    counts_was = at.counts_before ∙ sym (counts_are new k)
+
+    becomes : Becomes e.plan.point (history_tracks s.history) (history_tracks (history_behind s e)) at.before at.after
+    becomes = subst (λ (q : List Track).
+        Becomes q (history_tracks s.history) (history_tracks (recorded s.history q e.tag)) at.before at.after)
+        (sym at.point_is)
+        (subst (λ (h : History (List Track)).
+        Becomes at.point (history_tracks h) (history_tracks (recorded h at.point e.tag)) at.before at.after) at.history
+        at.counted)
+
+    clip_was : now.clipboard ≡ s.clipboard
+    clip_was = ap (λ (z : Core D). z.clipboard) at.fields ∙ ap (λ (z : Core D). z.clipboard) k.adds.fields.0
+        ∙ ap (λ (z : Core D). z.clipboard) k.making.is
+
+    size_was : now.block_size ≡ s.block_size
+    size_was = ap (λ (z : Core D). z.block_size) at.fields ∙ ap (λ (z : Core D). z.block_size) k.adds.fields.0
+        ∙ ap (λ (z : Core D). z.block_size) k.making.is
+
+    pub out_there : HasIds now.counts (clip_blocks (clip_behind now e.plan))
+    out_there = subst (λ (z : Option (List (List Item))). HasIds now.counts (clip_blocks (clip_then e.plan.clip z)))
+        (sym clip_was)
+        (subst (λ (z : Counts). HasIds z (clip_blocks (clip_behind s e.plan))) at.counts_after
+        (taken_there disk s is going e plan k.mid k.making at.layouts at.before at.after uses_was counts_was becomes
+        k.prepared.blocks))
+
+    pub out_room : (id : ℕ) → occurrences (now.counts id) < 2 ^ 102
+    out_room id = subst (λ (z : Counts). occurrences (z id) < 2 ^ 102) at.counts_after
+        (taken_room disk s is going e plan k.mid k.making at.layouts at.before at.after uses_was counts_was becomes id)
+
+    pub out_fits : MayPaste now.block_size (clip_behind now e.plan)
+    out_fits = subst (λ (m : ℕ). MayPaste m (clip_behind now e.plan)) (sym size_was)
+        (subst (λ (z : Option (List (List Item))). MayPaste s.block_size (clip_then e.plan.clip z)) (sym clip_was)
+        plan.clip_fits)
+
+    pub out_named : HasAll now.counts (clip_blocks now.clipboard)
+    out_named = subst (λ (z : Option (List (List Item))). HasAll now.counts (clip_blocks z)) (sym clip_was)
+        (subst (λ (z : Counts). HasAll z (clip_blocks s.clipboard)) at.counts_after
+        (taken_named disk s is going e plan k.mid k.making at.layouts at.before at.after uses_was counts_was becomes))
+
+    -- ---- after it all
+
+    module _ (last : Core D)
+        (fields : last ≡ record now { clipboard = clip_behind now e.plan; counts = last.counts })
+        (taken : Moves now.counts last.counts (clip_blocks now.clipboard) (clip_blocks (clip_behind now e.plan))) where
+      takes : Moves now.counts last.counts (clip_blocks s.clipboard) (clip_blocks (clip_behind s e.plan))
+      takes = subst (λ (z : Option (List (List Item))).
+          Moves now.counts last.counts (clip_blocks z) (clip_blocks (clip_then e.plan.clip z))) clip_was taken
+
+      layout_was : s.next_layout + e.plan.layouts ≡ new.next_layout + e.plan.layouts
+      layout_was = ap (λ (n : ℕ). n + e.plan.layouts) (sym (ap (λ (z : Core D). z.next_layout) k.adds.fields.0
+          ∙ ap (λ (z : Core D). z.next_layout) k.making.is))
+
+      counted_then : CountsAfter s.pins (history_behind s e) (clip_behind s e.plan) (new.next_layout + e.plan.layouts)
+          k.mid.counts now.uses last.counts
+      counted_then = subst (λ (n : ℕ).
+          CountsAfter s.pins (history_behind s e) (clip_behind s e.plan) n k.mid.counts now.uses last.counts) layout_was
+          (subst (λ (u : Counts). CountsAfter s.pins (history_behind s e) (clip_behind s e.plan)
+          (s.next_layout + e.plan.layouts) k.mid.counts u last.counts) at.uses_after
+          (taken_counted disk s is going e plan k.mid k.making at.layouts at.before at.after uses_was counts_was becomes
+          last.counts (subst (λ (z : Counts). Moves z last.counts (clip_blocks s.clipboard)
+          (clip_blocks (clip_behind s e.plan))) (sym at.counts_after) takes)))
+
+      abbrev history_now : History (List Track)
+      history_now = recorded new.history at.point e.tag
+
+      moved : history_now ≡ history_behind s e
+      moved = λ i. recorded (at.history i) (sym at.point_is i) e.tag
+
+      tracked : new.next_track + e.plan.tracks ≡ s.next_track + e.plan.tracks
+      tracked = ap (λ (n : ℕ). n + e.plan.tracks) (ap (λ (z : Core D). z.next_track) k.adds.fields.0
+          ∙ ap (λ (z : Core D). z.next_track) k.making.is)
+
+      all : last ≡ record new {
+        history = history_now;
+        clipboard = clip_behind s e.plan;
+        uses = now.uses;
+        counts = last.counts;
+        next_track = new.next_track + e.plan.tracks;
+        next_layout = new.next_layout + e.plan.layouts;
+      }
+      all = fields ∙ (λ i. record (at.fields i) {
+        clipboard = clip_then e.plan.clip (clip_was i);
+        counts = last.counts;
+      })
+
+      pub took_so : ((store : D) → Fewer disk store) → (c : Call) (sound : SoundMove) → IsEdit disk s c sound e
+          → Took disk s (with_sound c sound (Ok Done)) last
+      took_so fewer c sound edit = subst (λ (z : Core D). Took disk s (with_sound c sound (Ok Done)) z) (sym all)
+          (edit_ok disk s is going e plan c sound edit fewer (tt {0}) new k history_now now.uses last.counts
+          (new.next_track + e.plan.tracks) (new.next_layout + e.plan.layouts) moved tracked counted_then
+          (sym layout_was))
+
+      pub lasts_so : (c : Call) (sound : SoundMove) → commits_of c ≡ suc e.more
+          → Lasts disk s (with_sound c sound (Ok Done)) last
+      lasts_so c sound one = subst (λ (z : Core D). Lasts disk s (with_sound c sound (Ok Done)) z) (sym all)
+          (lasts_ok disk s is going e plan c sound one (tt {0}) new k history_now now.uses last.counts
+          (new.next_track + e.plan.tracks) (new.next_layout + e.plan.layouts) moved tracked counted_then)

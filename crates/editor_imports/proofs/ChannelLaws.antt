@@ -1,0 +1,108 @@
+-- Tracks for the channels of a sound, as an edit that makes blocks.
+use Rattle.std.proofs.Common.{◌≡◌, refl, sym, ap, ap₂, ◌∙◌, subst, ℕ, zero, suc, ◌+◌, ◌*◌, ◌^◌, ◌≤◌, nat_lt, not, ℤ}
+use Rattle.std.proofs.Common.{Bool, true, false, Option, Some, None, List, [], ◌∷◌, ◌++◌, length, map, replicate, arith}
+use Rattle.std.proofs.lemmas.Bool.{eq-eqb}
+use Rattle.std.proofs.lemmas.List.{length-map}
+use Rattle.pcm_base.specs.declared.refusal.Refusal.{Refusal}
+use Rattle.pcm_base.specs.declared.refusal.Refusal.TheVariants as refusal
+use Rattle.pcm_base.specs.Refusals.{◌otherwise◌, file_tests, import_tests, length_limit, refused_if}
+use Rattle.pcm_base.specs.Refusals.{track_limit}
+use Rattle.pcm_base.specs.Sizes.{lists_length}
+use Rattle.pcm_base.specs.State.{State, current}
+use Rattle.pcm_base.specs.Step.{channels_in, channels_of}
+use Rattle.pcm_base.proofs.Pieces.{length-stretch}
+use Rattle.envelope_view.specs.Answers.{IsUndamaged}
+use Rattle.project_state.specs.declared.track.Track.{Track}
+use Rattle.record_body.specs.Sound.{AllSoundTracks}
+use Rattle.project_state.specs.Tracks.{AllBelow, AreAbove}
+use Rattle.editor_state.specs.Vaults.{HasChannels, IsInside}
+use Rattle.editor_imports.specs.Imports.{channels_refusal, parts_from, total_of}
+use Rattle.editor_state.proofs.Refusals.RefusalEffects.{IsPlain, own_plain}
+use Rattle.editor_state.proofs.Refusals.CallTests.{either, lengths, one, own_by}
+use Rattle.editor_commits.proofs.TrackLists.{above_less}
+
+-- ---- the channels of a sound
+
+pub channels_are : (sound : Option (List ℕ)) (rate : ℕ) (channels : List (List ℤ)) → HasChannels sound rate channels
+    → channels_of sound ≡ channels
+channels_are None rate channels has = absurd has
+channels_are (Some bytes) rate channels has = ap channels_in has
+
+pub tests_are : (sound : Option (List ℕ)) (rate : ℕ) (channels : List (List ℤ)) (st : State)
+    → HasChannels sound rate channels
+    → import_tests rate st sound ≡ channels_refusal (length (current st)) (map length channels)
+tests_are None rate channels st has = absurd has
+tests_are (Some bytes) rate channels st has =
+    let limits : Option Refusal = (track_limit st (length channels)) otherwise (length_limit (map length channels)) in
+    ap (file_tests rate st) has
+    ∙ ap (λ (b : Bool). (refused_if (not b) (refusal.RateDiffers rate rate)) otherwise limits) (eq-eqb rate rate refl)
+    ∙ ap (λ (n : ℕ). (refused_if (nat_lt 64 (length (current st) + n)) refusal.TrackLimit) otherwise
+    (length_limit (map length channels))) (sym (length-map channels length))
+
+pub total_lists : (channels : List (List ℤ)) → total_of (map length channels) ≡ lists_length channels
+total_lists [] = refl
+total_lists (c ∷ cs) = ap (λ (n : ℕ). length c + n) (total_lists cs)
+
+-- parts of what is brought have the lengths that were asked for
+pub parts_counts : (given : ℕ → ℤ) (from : ℕ) (counts : List ℕ) → map length (parts_from given from counts) ≡ counts
+parts_counts given from [] = refl
+parts_counts given from (n ∷ ns) =
+    ap₂ (λ (k : ℕ) (ks : List ℕ). k ∷ ks) (length-stretch given from n) (parts_counts given (from + n) ns)
+
+pub total_alike : (n frames : ℕ) → total_of (replicate n frames) ≡ n * frames
+total_alike zero frames = omega arith
+total_alike (suc n) frames =
+    let rest = total_alike n frames in
+    let more : frames + n * frames ≡ suc n * frames = omega arith in
+    ap (λ (k : ℕ). frames + k) rest ∙ more
+
+-- ---- what refuses them tells of no damaged file and of no vault
+
+abbrev TellsBoth : Option Refusal → Type 0
+TellsBoth None = Unit {0}
+TellsBoth (Some why) = IsUndamaged why × IsInside why
+
+both_tell : (a b : Option Refusal) → TellsBoth a → TellsBoth b → TellsBoth (a otherwise b)
+both_tell None b x y = y
+both_tell (Some why) b x y = x
+
+many_tell : (b : Bool) → TellsBoth (refused_if b refusal.TrackLimit)
+many_tell true = (tt, tt)
+many_tell false = tt
+
+long_tells : (b : Bool) (n : ℕ) → TellsBoth (refused_if b (refusal.LengthLimit n))
+long_tells true n = (tt, tt)
+long_tells false n = tt
+
+lengths_tell : (counts : List ℕ) → TellsBoth (length_limit counts)
+lengths_tell [] = tt
+lengths_tell (n ∷ ns) =
+    both_tell (refused_if (nat_lt (2 ^ 32) n) (refusal.LengthLimit n)) (length_limit ns)
+    (long_tells (nat_lt (2 ^ 32) n) n) (lengths_tell ns)
+
+pub channels_tell : (tracks : ℕ) (counts : List ℕ) (why : Refusal) → channels_refusal tracks counts ≡ Some why
+    → IsUndamaged why × IsInside why
+channels_tell tracks counts why is =
+    let many = nat_lt 64 (tracks + length counts) in
+    subst TellsBoth is
+    (both_tell (refused_if many refusal.TrackLimit) (length_limit counts) (many_tell many) (lengths_tell counts))
+
+pub channels_plain : (tracks : ℕ) (counts : List ℕ) (why : Refusal) → channels_refusal tracks counts ≡ Some why
+    → IsPlain why
+channels_plain tracks counts why is =
+    let many = nat_lt 64 (tracks + length counts) in
+    own_plain why (own_by (channels_refusal tracks counts) why
+    (either (refused_if many refusal.TrackLimit) (length_limit counts) (one many refusal.TrackLimit tt)
+    (lengths counts)) is)
+
+-- ---- tracks after others
+
+pub rising_append : (n id : ℕ) (xs ys : List Track) → n ≤ id → AreAbove n xs → AllBelow id xs → AreAbove id ys
+    → AreAbove n (xs ++ ys)
+rising_append n id [] ys le a b c = above_less n id ys le c
+rising_append n id (x ∷ xs) ys le a b c = (a.0, rising_append (x.id + 1) id xs ys (omega (arith, b.0)) a.1 b.1 c)
+
+pub sound_append : (m block track : ℕ) (xs ys : List Track) → AllSoundTracks m block track xs
+    → AllSoundTracks m block track ys → AllSoundTracks m block track (xs ++ ys)
+sound_append m block track [] ys a b = b
+sound_append m block track (x ∷ xs) ys a b = (a.0, sound_append m block track xs ys a.1 b)

@@ -1,0 +1,143 @@
+-- How many blocks there may be.
+use Rattle.std.proofs.Common.{◌≡◌, ⊎_elim, refl, ap, ℕ, zero, suc, ◌+◌, ◌*◌, ◌^◌, ◌≤◌, ◌<◌, eqb, List, [], ◌∷◌, ◌++◌}
+use Rattle.std.proofs.Common.{length, flat_map, length-append, IsSome, Option, Some, None, if◌then◌else◌, false, arith}
+use Rattle.std.proofs.lemmas.Bool.Decides.{eqb_tells}
+use Rattle.std.specs.List.{AllByRecursion}
+use Rattle.pcm_base.specs.declared.block.BlockRef.{BlockRef}
+use Rattle.pcm_base.specs.Blocks.{blocks_len, NoneEmpty}
+use Rattle.clip_track.specs.declared.clips.Clip.{Clip}
+use Rattle.clip_track.specs.Clips.{AreClips, IsLayout, end_of, clip_end}
+use Rattle.clip_track.specs.Clips.{layout_blocks}
+use Rattle.project_state.specs.declared.track.Track.{Track}
+use Rattle.record_body.specs.Sound.{AllSoundTracks}
+use Rattle.disk_model.specs.declared.store.Store.{Ghosts}
+use Rattle.block_ledger.specs.Counts.{occurrences}
+use Rattle.project_state.specs.Meaning.{point_blocks, history_blocks}
+use Rattle.record_body.specs.KeptSound.{IsSoundPoint, IsSoundTagged}
+use Rattle.editor_state.specs.Core.{Core}
+use Rattle.editor_state.specs.declared.pin.Pin.{Pin}
+use Rattle.editor_state.specs.Occurrences.{times_named}
+use Rattle.editor_state.specs.Studios.{IsStudio, named_blocks, pin_blocks, clip_blocks}
+use Rattle.editor_state.proofs.Blocks.NamedBlocks.{counted_most, named_counted, numbers_few}
+use Rattle.editor_state.proofs.Lists.{all_so}
+
+pub named_most : (id : ℕ) (bs : List BlockRef) → times_named id bs ≤ length bs
+named_most id [] = omega arith
+named_most id (b ∷ bs) = ⊎_elim
+    (λ same. rw (same.0) (omega (arith, named_most id bs)))
+    (λ other. rw (other.0) (omega (arith, named_most id bs)))
+    (eqb_tells b.id id)
+
+-- ---- of a point
+
+blocks_few : (bs : List BlockRef) → NoneEmpty bs → length bs ≤ blocks_len bs
+blocks_few [] h = omega arith
+blocks_few (b ∷ bs) h = omega (arith, h.0, blocks_few bs h.1)
+
+clips_few : (from at : ℕ) (cs : List Clip) → AreClips from cs → at ≤ from
+    → length (layout_blocks cs) + at ≤ end_of at cs
+clips_few from at [] h le = omega arith
+clips_few from at (c ∷ cs) h le =
+    let here = blocks_few c.blocks h.2 in
+    let later = clips_few (clip_end c + 1) (clip_end c) cs h.3 (omega arith) in
+    omega (arith, here, later, h.0, le, length-append c.blocks (layout_blocks cs))
+
+layout_few : (cs : List Clip) → IsLayout cs → length (layout_blocks cs) ≤ 2 ^ 32
+layout_few cs h = omega (arith, clips_few 0 0 cs h.apart (omega arith), h.few)
+
+tracks_few : (m next_block next_track : ℕ) (ts : List Track) → AllSoundTracks m next_block next_track ts
+    → length (point_blocks ts) ≤ length ts * 2 ^ 32
+tracks_few m next_block next_track [] h = omega arith
+tracks_few m next_block next_track (t ∷ ts) h =
+    omega (
+      arith,
+      layout_few t.layout h.0.layout,
+      tracks_few m next_block next_track ts h.1,
+      length-append (layout_blocks t.layout) (point_blocks ts),
+    )
+
+pub point_few : (m next_block next_track : ℕ) (ts : List Track) → IsSoundPoint m next_block next_track ts
+    → length (point_blocks ts) ≤ 2 ^ 38
+point_few m next_block next_track ts h = omega (arith, tracks_few m next_block next_track ts h.sound, h.few)
+
+-- ---- of all
+
+parts_few : {X : Type 0} (f : X → List BlockRef) (xs : List X) → AllByRecursion (λ x. length (f x) ≤ 2 ^ 38) xs
+    → length (flat_map f xs) ≤ length xs * 2 ^ 38
+parts_few f [] h = omega arith
+parts_few f (x ∷ xs) h = omega (arith, h.0, parts_few f xs h.1, length-append (f x) (flat_map f xs))
+
+module _ {D : Type 0} (disk : Ghosts D) (s : Core D) (is : IsStudio disk s) where
+  history_few : length (history_blocks s.history) ≤ 2 ^ 54
+  history_few =
+      let each = all_so (IsSoundTagged s.block_size s.next_block s.next_track s.commit_number)
+      (λ p. length (point_blocks p.0) ≤ 2 ^ 38)
+      (λ p h. point_few s.block_size s.next_block s.next_track p.0 h.0) s.history.points is.points in
+      omega (arith, parts_few (λ p. point_blocks p.0) s.history.points each, is.few_points, is.format.depth_most)
+
+  pins_few : length (pin_blocks s.pins) ≤ 2 ^ 100
+  pins_few =
+      let each = all_so (λ (p : Pin). IsSoundPoint s.block_size s.next_block s.next_track p.point)
+      (λ (p : Pin). length (point_blocks p.point) ≤ 2 ^ 38)
+      (λ p h. point_few s.block_size s.next_block s.next_track p.point h) s.pins is.pins in
+      omega (
+        arith,
+        parts_few (λ (p : Pin). point_blocks p.point) s.pins each,
+        numbers_few 1 s.next_pin s.pins is.numbers,
+        is.counters.pin_least,
+        is.counters.pin_most,
+      )
+
+  pub named_few : length (named_blocks s) < 2 ^ 101
+  named_few = omega (
+    arith,
+    history_few,
+    pins_few,
+    is.few_clips,
+    length-append (history_blocks s.history)
+        (pin_blocks s.pins ++ clip_blocks s.clipboard),
+    length-append (pin_blocks s.pins) (clip_blocks s.clipboard),
+  )
+
+  -- the counts have room for a point more
+  pub few_more : (ts : List Track) (next_track : ℕ) → IsSoundPoint s.block_size s.next_block next_track ts → (id : ℕ)
+      → occurrences (s.counts id) + times_named id (point_blocks ts) < 2 ^ 128
+  few_more ts next_track h id =
+      omega (
+        arith,
+        counted_most disk s is id,
+        named_most id (named_blocks s),
+        named_few,
+        named_most id (point_blocks ts),
+        point_few s.block_size s.next_block next_track ts h,
+      )
+
+-- ---- which ids are there
+
+pub absent : (id : ℕ) (bs : List BlockRef) → times_named id bs ≡ 0
+    → AllByRecursion (λ (b : BlockRef). eqb b.id id ≡ false) bs
+absent id [] none = tt
+absent id (b ∷ bs) none = ⊎_elim
+    (λ same. absurd (omega (arith, none, ap {B = ℕ} (λ t. if t then 1 else 0) same.0)))
+    (λ other. (other.0, absent id bs (omega (arith, none))))
+    (eqb_tells b.id id)
+
+none_of : (id : ℕ) (bs : List BlockRef) → AllByRecursion (λ (b : BlockRef). eqb b.id id ≡ false) bs
+    → times_named id bs ≡ 0
+none_of id [] all = refl
+none_of id (b ∷ bs) all = omega (arith, ap {B = ℕ} (λ t. if t then 1 else 0) all.0, none_of id bs all.1)
+
+some_count : (o : Option ℕ) → 0 < occurrences o → IsSome o
+some_count None h = absurd (omega (arith, h))
+some_count (Some n) h = refl
+
+-- what only names blocks that are named finds them counted
+pub named_there : {D : Type 0} (disk : Ghosts D) (s : Core D) → IsStudio disk s → (bs : List BlockRef)
+    → ((P : BlockRef → Type 0) → AllByRecursion P (named_blocks s) → AllByRecursion P bs)
+    → (id : ℕ) → 0 < times_named id bs → IsSome (s.counts id)
+named_there disk s is bs covers id some = go (times_named id (named_blocks s)) refl
+  where
+    go : (n : ℕ) → times_named id (named_blocks s) ≡ n → IsSome (s.counts id)
+    go zero none = absurd
+        (omega (arith, some, none_of id bs (covers (λ b. eqb b.id id ≡ false) (absent id (named_blocks s) none))))
+    go (suc n) more = some_count (s.counts id) (named_counted disk s is id (omega (arith, more)))

@@ -1,0 +1,177 @@
+-- Calls that remove no file, and the ids that are counted after them.
+use Rattle.std.proofs.Common.{◌≡◌, ◌↔◌, ◌⊎◌, ◌∙◌, inl, inr, ⊎_elim, refl, sym, subst, ℕ, suc, ◌+◌, ◌≤◌, ◌<◌}
+use Rattle.std.proofs.Common.{IsSome, List, [], true}
+use Rattle.std.proofs.Common.{Option, Some, None, Result, Ok, Err, Bool, false, if◌then◌else◌, ap, arith}
+use Rattle.std.specs.Prelude.{Contains, IfOk}
+use Rattle.std.proofs.lemmas.Bool.{true≢false}
+use Rattle.pcm_base.specs.declared.answer.Reply.{Reply}
+use Rattle.pcm_base.specs.declared.command.Call.{Call}
+use Rattle.pcm_base.specs.declared.command.Call.TheVariants.{Line}
+use Rattle.pcm_base.specs.declared.command.Command.TheVariants.{Compact, Import, Reclaim}
+use Rattle.pcm_base.specs.declared.refusal.Refusal.{Refusal}
+use Rattle.pcm_base.specs.Counters.{commits_of}
+use Rattle.disk_model.specs.Frames.{Kept}
+use Rattle.disk_model.specs.declared.store.Store.{Ghosts}
+use Rattle.block_ledger.specs.Counts.{Counts}
+use Rattle.editor_state.specs.Core.{Core}
+use Rattle.pcm_base.specs.Run.{name_in}
+use Rattle.editor_state.specs.Exchanges.{is_broken_off, is_cut_off, may_begin, may_have_begun, reads_sound}
+use Rattle.editor_state.specs.Left.{CountsIds}
+use Rattle.editor_state.specs.Makes.{AddsFree}
+use Rattle.editor_state.specs.Records.{Records}
+use Rattle.editor_state.specs.Removals.{Forgets, Frees, PacksJournal}
+use Rattle.editor_state.specs.Spent.{NamesGiven}
+
+-- ---- the files
+
+-- a call that is no reclaim
+abbrev pub RemovesNone : Call → Type 0
+RemovesNone (Line (Reclaim limit)) = ⊥
+RemovesNone call = Unit {0}
+
+pub commit_removes_none : {more : ℕ} (c : Call) → commits_of c ≡ suc more → RemovesNone c
+commit_removes_none (Line (Reclaim limit)) many = absurd (omega (arith, many))
+commit_removes_none c many = tt
+
+-- a call that is no compact
+abbrev pub PacksNone : Call → Type 0
+PacksNone (Line Compact) = ⊥
+PacksNone call = Unit {0}
+
+pub commit_leaves_journal : {more : ℕ} (c : Call) → commits_of c ≡ suc more → PacksNone c
+commit_leaves_journal (Line Compact) many = absurd (omega (arith, many))
+commit_leaves_journal c many = tt
+
+pub frees_none : {D : Type 0} (disk : Ghosts D) (old : Core D) (c : Call) (told : Result Reply Refusal) (new : Core D)
+    → RemovesNone c → PacksNone c → Frees disk old c told [] new
+frees_none disk old (Line (Reclaim limit)) told new none plain = absurd none
+frees_none disk old (Line Compact) told new none plain = absurd plain
+frees_none disk old c told new none plain = refl
+
+-- a compact that was refused says nothing of the journal
+pub packs_refused : {D : Type 0} (disk : Ghosts D) (old : Core D) (why : Refusal) (new : Core D)
+    → PacksJournal disk old (Err why) new
+packs_refused disk old why new = record {
+  size = tt;
+  alone = λ told. tt;
+  settled = λ keeps. tt;
+  gone = λ told. tt;
+  fields = tt;
+}
+
+pub frees_refused : {D : Type 0} (disk : Ghosts D) (old : Core D) (c : Call) (why : Refusal) (new : Core D)
+    → RemovesNone c → Frees disk old c (Err why) [] new
+frees_refused disk old (Line (Reclaim limit)) why new none = absurd none
+frees_refused disk old (Line Compact) why new none = (refl, packs_refused disk old why new)
+frees_refused disk old c why new none = refl
+
+pub commit_frees : {D : Type 0} {more : ℕ} (disk : Ghosts D) (old : Core D) (c : Call) (told : Result Reply Refusal)
+    (new : Core D) → commits_of c ≡ suc more → Frees disk old c told [] new
+commit_frees disk old c told new many =
+    frees_none disk old c told new (commit_removes_none c many) (commit_leaves_journal c many)
+
+-- ---- the disk, where it broke the call off
+
+pub off_untouched : {D : Type 0} (disk : Ghosts D) (old new : D) (why : Refusal) → is_broken_off why ≡ true
+    → is_broken_off why ≡ false → Kept disk old new
+off_untouched disk old new why off plain = absurd (true≢false (sym off ∙ plain))
+
+-- the same of any call
+pub begun_untouched : {D : Type 0} (disk : Ghosts D) (old new : D) (c : Call) (why : Refusal)
+    → may_have_begun c why ≡ true → may_have_begun c why ≡ false → Kept disk old new
+begun_untouched disk old new c why off plain = absurd (true≢false (sym off ∙ plain))
+
+if_so : (b c : Bool) → c ≡ true → (if b then true else c) ≡ true
+if_so true c e = refl
+if_so false c e = e
+
+if_both : (b c d : Bool) → c ≡ true → d ≡ true → (if b then c else d) ≡ true
+if_both true c d one two = one
+if_both false c d one two = two
+
+pub broken_begins : (c : Call) (why : Refusal) → is_broken_off why ≡ true → may_have_begun c why ≡ true
+broken_begins c why off = if_both (reads_sound c) (may_begin why) (is_broken_off why)
+    (if_so (is_cut_off why) (is_broken_off why) off) off
+
+pub cut_begins : (c : Call) (why : Refusal) → reads_sound c ≡ true → is_cut_off why ≡ true
+    → may_have_begun c why ≡ true
+cut_begins c why reads cut =
+    ap (λ (b : Bool). if b then may_begin why else is_broken_off why) reads
+    ∙ ap (λ (b : Bool). if b then true else is_broken_off why) cut
+
+-- a call that reads a sound names it
+pub names_sound : (c : Call) → reads_sound c ≡ true → IsSome (name_in c)
+names_sound (Line (Import name)) reads = refl
+names_sound c reads = absurd (true≢false (sym reads))
+
+-- ---- the record
+
+-- none was added
+pub no_record : {D : Type 0} (old : Core D) (told : Result Reply Refusal) (new : Core D) → Records old told new 0
+no_record old (Ok r) new = inl refl
+no_record old (Err why) new = λ off. omega arith
+
+-- ---- the ids
+
+-- where no id was given there is none to be named
+pub none_given : {D : Type 0} (told : Result Reply Refusal) (s new : Core D) → new.next_block ≡ s.next_block
+    → IfOk told (λ r. NamesGiven s new)
+none_given (Ok r) s new next = λ id least less. absurd (omega (arith, least, less, next))
+none_given (Err why) s new next = tt
+
+none_in : (id : ℕ) → Contains [] id → ⊥
+none_in id h = omega (arith, h.1)
+
+module _ {D : Type 0} (old new : Core D) where
+  -- no file was removed, and n blocks were made
+  pub ids_made : (counts : Counts) (n : ℕ) → AddsFree old.next_block n old.counts counts
+      → ((id : ℕ) → IsSome (new.counts id) ↔ IsSome (counts id)) → new.next_block ≡ old.next_block + n
+      → CountsIds old [] new
+  ids_made counts n adds same next id = (
+    λ some. (to ((adds.ids id).0 ((same id).0 some)), none_in id),
+    λ has. (same id).1 ((adds.ids id).1 (from has.0)),
+  )
+    where
+      to : IsSome (old.counts id) ⊎ ((old.next_block ≤ id) × (id < old.next_block + n))
+          → IsSome (old.counts id) ⊎ ((old.next_block ≤ id) × (id < new.next_block))
+      to (inl some) = inl some
+      to (inr at) = inr (at.0, omega (arith, at.1, next))
+
+      from : IsSome (old.counts id) ⊎ ((old.next_block ≤ id) × (id < new.next_block))
+          → IsSome (old.counts id) ⊎ ((old.next_block ≤ id) × (id < old.next_block + n))
+      from (inl some) = inl some
+      from (inr at) = inr (at.0, omega (arith, at.1, next))
+
+  -- no file was removed, and no block was made
+  pub ids_still : ((id : ℕ) → IsSome (new.counts id) ↔ IsSome (old.counts id)) → new.next_block ≡ old.next_block
+      → CountsIds old [] new
+  ids_still same next id = (
+    λ some. (inl ((same id).0 some), none_in id),
+    λ has. ⊎_elim (λ some. (same id).1 some) (λ at. absurd (omega (arith, at.0, at.1, next))) has.0,
+  )
+
+  -- these files were removed, and no block was made
+  pub ids_freed : (counts : Counts) (ids : List ℕ) → Forgets old.counts counts ids → new.counts ≡ counts
+      → new.next_block ≡ old.next_block → CountsIds old ids new
+  ids_freed counts ids was is next id = (
+    λ some. let here = subst (λ (k : Counts). IsSome (k id)) is some in
+        let spared = λ (one : Contains ids id). some_not (counts id) (was.gone id one) here in
+        (inl (subst IsSome (was.others id spared) here), spared),
+    λ has. subst (λ (k : Counts). IsSome (k id)) (sym is)
+        (subst IsSome (sym (was.others id has.1))
+        (⊎_elim (λ some. some) (λ at. absurd (omega (arith, at.0, at.1, next))) has.0)),
+  )
+    where
+      some_not : (o : Option ℕ) → o ≡ None → IsSome o → ⊥
+      some_not None none some = absurd (cc some)
+      some_not (Some n) none some = absurd (cc none)
+
+-- nothing of the counts and of the next block changed
+pub ids_same : {D : Type 0} (s new : Core D) → new.counts ≡ s.counts → new.next_block ≡ s.next_block
+    → CountsIds s [] new
+ids_same s new counts next = ids_still s new
+    (λ id. (
+      λ some. subst (λ (k : Counts). IsSome (k id)) counts some,
+      λ some. subst (λ (k : Counts). IsSome (k id)) (sym counts) some,
+    ))
+    next

@@ -1,0 +1,137 @@
+-- The studio names other blocks, and nothing is asked of the disk.
+use Rattle.std.proofs.Common.{◌≡◌, ◌↔◌, inl, refl, ℕ, ◌^◌, ◌≤◌, IsSome, List, ◌++◌, length, Option, Ok, arith}
+use Rattle.std.specs.List.{AllByRecursion}
+use Rattle.pcm_base.specs.declared.answer.Reply.{Reply}
+use Rattle.pcm_base.specs.declared.block.BlockRef.{BlockRef}
+use Rattle.pcm_base.specs.declared.command.Call.{Call}
+use Rattle.pcm_base.specs.Run.{CarriesOut}
+use Rattle.disk_model.specs.declared.store.Store.{Ghosts}
+use Rattle.disk_model.proofs.Frames.{Fewer, changed_none}
+use Rattle.sample_block.specs.Sources.{IsWhole}
+use Rattle.block_ledger.specs.Counts.{Counts}
+use Rattle.clip_track.specs.declared.items.Item.{Item}
+use Rattle.record_body.specs.KeptSound.{IsSoundPoint}
+use Rattle.editor_state.specs.Core.{Core}
+use Rattle.editor_state.specs.declared.pin.Pin.{Pin}
+use Rattle.editor_state.specs.Left.{MayRemove}
+use Rattle.layout_uses.specs.Layouts.{AreDrawn, AreNumbered, history_tracks}
+use Rattle.layout_uses.specs.Tallies.{AreCounts}
+use Rattle.editor_state.specs.Studios.{IsGiven, PinsRise, MayPaste, IsHeld, IsStudio, studio_of, named_blocks}
+use Rattle.editor_state.specs.Studios.{clip_blocks, pin_tracks}
+use Rattle.editor_state.specs.Took.{Took, quietly, silent}
+use Rattle.editor_state.proofs.Images.ImageProjects.{keeps_now}
+use Rattle.editor_state.proofs.Calls.OtherFiles.{others_none}
+use Rattle.editor_state.proofs.Refusals.PurgeNumbers.{quiet_purges}
+use Rattle.editor_state.proofs.Calls.QuietCalls.{IsQuiet}
+use Rattle.editor_state.proofs.Calls.FileRemovals.{PacksNone, RemovesNone, frees_none, ids_still, no_record, none_given}
+
+-- another clipboard, other pins, uses and counts
+abbrev pub renamed : {D : Type 0} → Core D → Option (List (List Item)) → List Pin → ℕ → Counts → Counts → Core D
+renamed s clip pins next_pin uses counts =
+    record s { clipboard = clip; pins = pins; next_pin = next_pin; uses = uses; counts = counts }
+
+-- these name no blocks but those that the studio names
+pub record Renames {D : Type 0} (s : Core D) (clip : Option (List (List Item))) (pins : List Pin) (next_pin : ℕ)
+    (uses counts : Counts) : Type 1 where
+  pub covers : (P : BlockRef → Type 0) → AllByRecursion P (named_blocks s)
+      → AllByRecursion P (named_blocks (renamed s clip pins next_pin uses counts))
+  pub numbers : PinsRise 1 next_pin pins
+  pub pin_least : 1 ≤ next_pin
+  pub pin_most : next_pin ≤ 2 ^ 62
+  pub sound : AllByRecursion (λ (p : Pin). IsSoundPoint s.block_size s.next_block s.next_track p.point) pins
+  pub few_clips : length (clip_blocks clip) ≤ 2 ^ 71
+  pub clip_fits : MayPaste s.block_size clip
+  pub numbered : AreNumbered (history_tracks s.history ++ pin_tracks pins)
+  pub drawn : AreDrawn s.next_layout (history_tracks s.history ++ pin_tracks pins)
+  pub counted : AreCounts (history_tracks s.history ++ pin_tracks pins) (clip_blocks clip) uses counts
+  pub ids : (id : ℕ) → IsSome (counts id) ↔ IsSome (s.counts id)
+
+module _ {D : Type 0} (disk : Ghosts D) (s : Core D) (is : IsStudio disk s) (clip : Option (List (List Item)))
+    (pins : List Pin) (next_pin : ℕ) (uses counts : Counts)
+    (names : Renames s clip pins next_pin uses counts) where
+  abbrev new : Core D
+  new = renamed s clip pins next_pin uses counts
+
+  pub renamed_studio : IsStudio disk new
+  renamed_studio = record {
+    format = is.format;
+    counters = record {
+      block_least = is.counters.block_least;
+      block_most = is.counters.block_most;
+      track_least = is.counters.track_least;
+      track_most = is.counters.track_most;
+      pin_least = names.pin_least;
+      pin_most = names.pin_most;
+      commit_most = is.counters.commit_most;
+      end_least = is.counters.end_least;
+      end_most = is.counters.end_most;
+    };
+    journal = is.journal;
+    few_points = is.few_points;
+    few_clips = names.few_clips;
+    points = is.points;
+    pins = names.sound;
+    numbers = names.numbers;
+    clipboard = names.clip_fits;
+    ids = names.covers (λ (b : BlockRef). IsGiven s.next_block b.id) is.ids;
+    layouts = is.layouts;
+    numbered = names.numbered;
+    drawn = names.drawn;
+    counted = names.counted;
+    given = λ id some. is.given id ((names.ids id).0 some);
+    pages = is.pages;
+  }
+
+  pub renamed_held : IsHeld disk s → IsHeld disk new
+  renamed_held held = record {
+    tells = held.tells;
+    whole = names.covers (IsWhole (disk.reads s.store)) held.whole;
+    durable = λ going.
+        let d = held.durable going in record {
+          log = d.log;
+          base = d.base;
+          kept = d.kept;
+          there = d.there;
+          generation = d.generation;
+          begins = d.begins;
+          told = d.told;
+          rate = d.rate;
+          block_size = d.block_size;
+          history = d.history;
+          next_block = d.next_block;
+          next_track = d.next_track;
+          commit = d.commit;
+          blocks = λ c now. names.covers (λ b. c b.id ≡ disk.reads s.store b.id) (d.blocks c now);
+          files = λ id least most.
+              let was = d.files id least most in
+              (λ have. was.0 ((names.ids id).0 have), λ there. (names.ids id).1 (was.1 there));
+        };
+  }
+
+  -- `rests` where the studio had stopped
+  pub renamed_took : (c : Call) → IsQuiet c → RemovesNone c → PacksNone c → (r : Reply) → Fewer disk s.store
+      → (IsSome s.stopped → new ≡ record s { pins = pins; uses = uses; counts = counts })
+      → (IsHeld disk s → CarriesOut (studio_of disk s) c silent r (studio_of disk new))
+      → Took disk s (quietly c (Ok r)) new
+  renamed_took c quiet none plain r fewer rests step = record {
+    studio = renamed_studio;
+    held = renamed_held;
+    step = step;
+    any_moment = λ going held f now. inl (keeps_now disk s is.journal.among going held f now);
+    refused = λ going held still. tt;
+    now = λ going held f now. keeps_now disk s is.journal.among going held f now;
+    number = omega (arith, quiet.no_commit);
+    rests = rests;
+    len = 0;
+    needs = λ held. (0, quiet.needs (studio_of disk s));
+    records = no_record s (Ok r) new;
+    given = none_given (Ok r) s new refl;
+    needed = tt;
+    changed = changed_none s.store (others_none s.next_block s.next_block (MayRemove c s.counts)) fewer;
+    frees = frees_none disk s c (Ok r) new none plain;
+    ids = ids_still s new names.ids refl;
+    purges = quiet_purges s.history c (Ok r) quiet.no_commit;
+    untouched = tt;
+    stops = inl (refl, refl);
+    left = tt;
+  }

@@ -1,0 +1,123 @@
+-- What a call leaves of other files, by what each of its parts leaves.
+use Rattle.std.proofs.Common.{◌≡◌, ◌≢◌, ◌⊎◌, inl, inr, ⊎_elim, refl, sym, ◌∙◌, subst, ℕ, ◌+◌, ◌^◌, ◌≤◌, ◌<◌, IsSome}
+use Rattle.std.proofs.Common.{None, arith}
+use Rattle.std.proofs.lemmas.Bool.{cases_eq, cases_lt}
+use Rattle.pcm_base.specs.declared.command.Call.{Call}
+use Rattle.pcm_base.specs.declared.command.Call.TheVariants.{Line}
+use Rattle.pcm_base.specs.declared.command.Command.TheVariants.{Reclaim}
+use Rattle.disk_model.specs.Disk.{Files, RemoveStep, SameElsewhere}
+use Rattle.disk_model.specs.declared.store.Store.{Ghosts}
+use Rattle.editor_state.specs.Core.{Core}
+use Rattle.editor_state.specs.Left.{IsBegun, LeavesForeign, LeavesOthers, MayRemove}
+use Rattle.editor_state.specs.Made.{SameOutside}
+use Rattle.editor_state.specs.Studios.{IsStudio}
+
+-- no file may go
+abbrev pub NoneGoes : ℕ → Type 0
+NoneGoes file = ⊥
+
+-- what a call that removes none does to the files
+abbrev pub Leaving : (first last : ℕ) → Files → Files → Type 0
+Leaving first last = LeavesOthers first last NoneGoes
+
+pub others_none : (first last : ℕ) (MayGo : ℕ → Type 0) (c : Files) → LeavesOthers first last MayGo c c
+others_none first last MayGo c = record { others = λ file other apart. inl refl }
+
+-- calls in turn
+pub others_then : (first last : ℕ) (MayGo : ℕ → Type 0) (d e c : Files) → LeavesOthers first last MayGo d e
+    → LeavesOthers first last MayGo e c → LeavesOthers first last MayGo d c
+others_then first last MayGo d e c one two = record {
+  others = λ file other apart. ⊎_elim
+      (λ same. ⊎_elim (λ before. inl (same ∙ before)) (λ gone. inr (gone.0, same ∙ gone.1))
+      (one.others file other apart))
+      (λ gone. inr gone)
+      (two.others file other apart);
+}
+
+-- the same of more blocks, and where more may go
+pub others_wider : (first last low high : ℕ) (Goes MayGo : ℕ → Type 0) (d c : Files) → low ≤ first → last ≤ high
+    → ((file : ℕ) → Goes file → MayGo file) → LeavesOthers first last Goes d c → LeavesOthers low high MayGo d c
+others_wider first last low high Goes MayGo d c below above goes step = record {
+  others = λ file other apart. ⊎_elim
+      (λ same. inl same)
+      (λ gone. inr (goes file gone.0, gone.1))
+      (step.others file other
+      (λ begun. apart (record {
+        least = omega (arith, begun.least, below);
+        most = omega (arith, begun.most, above);
+        block = begun.block;
+      })));
+}
+
+-- where more may go
+pub others_more : (first last : ℕ) (MayGo : ℕ → Type 0) (d c : Files) → Leaving first last d c
+    → LeavesOthers first last MayGo d c
+others_more first last MayGo d c step =
+    others_wider first last first last NoneGoes MayGo d c (omega arith) (omega arith) (λ file none. absurd none) step
+
+-- a record of the journal
+pub others_record : (at first last : ℕ) (MayGo : ℕ → Type 0) → at ≤ 1 → (d c : Files) → SameElsewhere at d c
+    → LeavesOthers first last MayGo d c
+others_record at first last MayGo few d c same =
+    record { others = λ file other apart. inl (same file (λ e. absurd (omega (arith, e, other, few)))) }
+
+-- blocks that were made, and that may be
+pub others_made : (first n last : ℕ) (MayGo : ℕ → Type 0) (d c : Files) → first + n ≤ last + 1 → first + n ≤ 2 ^ 62
+    → SameOutside first n d c → LeavesOthers first last MayGo d c
+others_made first n last MayGo d c few most same = record {
+  others = λ file other apart. inl (same file (outside file apart (cases_lt file first) (cases_lt file (first + n))));
+}
+  where
+    outside : (file : ℕ) → (IsBegun first last file → ⊥) → (file < first) ⊎ (first ≤ file)
+        → (file < first + n) ⊎ (first + n ≤ file)
+        → (file < first) ⊎ (first + n ≤ file)
+    outside file apart (inl below) cases = inl below
+    outside file apart (inr least) (inl within) =
+        absurd
+        (apart (record { least = least; most = omega (arith, within, few); block = omega (arith, within, most) }))
+    outside file apart (inr least) (inr above) = inr above
+
+-- a file that may go
+pub others_removed : (first last : ℕ) (MayGo : ℕ → Type 0) (id : ℕ) (d c : Files) → MayGo id → RemoveStep id d c
+    → LeavesOthers first last MayGo d c
+others_removed first last MayGo id d c may step = record { others = λ file other apart. by file (cases_eq file id) }
+  where
+    by : (file : ℕ) → (file ≡ id) ⊎ (file ≢ id) → (c file ≡ d file) ⊎ (MayGo file × (c file ≡ None))
+    by file (inl is) = subst (λ (k : ℕ). (c k ≡ d k) ⊎ (MayGo k × (c k ≡ None))) (sym is)
+        (⊎_elim (λ same. inl same) (λ gone. inr (may, gone)) step.gone)
+    by file (inr ne) = inl (step.others file ne)
+
+-- ---- many calls
+
+-- what a call may remove is a block's
+pub removed_block : {D : Type 0} (disk : Ghosts D) (s : Core D) → IsStudio disk s → (call : Call) (file : ℕ)
+    → MayRemove call s.counts file
+    → (16 ≤ file) × (file < 2 ^ 62)
+removed_block disk s is (Line (Reclaim limit)) file free =
+    let given = is.given file (subst IsSome (sym free) refl) in
+    (given.0, omega (arith, given.1, is.counters.block_most))
+removed_block disk s is call file free = absurd free
+
+pub foreign_left : (first last : ℕ) (MayGo : ℕ → Type 0) (d c : Files) → 16 ≤ first
+    → ((file : ℕ) → MayGo file → (16 ≤ file) × (file < 2 ^ 62))
+    → LeavesOthers first last MayGo d c → LeavesForeign d c
+foreign_left first last MayGo d c least goes step = record {
+  foreign = λ file other apart. ⊎_elim
+      (λ same. same)
+      (λ gone. absurd (apart (goes file gone.0)))
+      (step.others file other (λ begun. apart (omega (arith, least, begun.least), begun.block)));
+}
+
+pub foreign_then : (d e c : Files) → LeavesForeign d e → LeavesForeign e c → LeavesForeign d c
+foreign_then d e c one two =
+    record { foreign = λ file other apart. two.foreign file other apart ∙ one.foreign file other apart }
+
+pub foreign_same : (c : Files) → LeavesForeign c c
+foreign_same c = record { foreign = λ file other apart. refl }
+
+-- what a call leaves, said of all files of others
+pub foreign_of : {D : Type 0} (disk : Ghosts D) (s new : Core D) (call : Call) → IsStudio disk s → (d c : Files)
+    → LeavesOthers s.next_block new.next_block (MayRemove call s.counts) d c → LeavesForeign d c
+foreign_of disk s new call is d c step =
+    foreign_left s.next_block new.next_block (MayRemove call s.counts) d c is.counters.block_least
+    (removed_block disk s is call) step

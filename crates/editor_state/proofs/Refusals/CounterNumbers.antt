@@ -1,0 +1,152 @@
+-- The numbers of a refusal: what a counter had no room for.
+use Rattle.std.proofs.Common.{◌≡◌, ◌∙◌, ◌⊎◌, inl, inr, ⊎_elim, refl, sym, ap, subst, ℕ, suc, ◌+◌, ◌<◌, Bool, true}
+use Rattle.std.proofs.Common.{false, Option, Some, None, arith}
+use Rattle.std.specs.Prelude.{nat_lt}
+use Rattle.std.proofs.lemmas.Bool.{ltb-true, true≢false}
+use Rattle.std.proofs.lemmas.Option.{none-some, same_Some}
+use Rattle.pcm_base.specs.declared.command.Call.{Call}
+use Rattle.pcm_base.specs.declared.entry.SoundMove.{SoundMove}
+use Rattle.pcm_base.specs.declared.refusal.Refusal.{Refusal}
+use Rattle.pcm_base.specs.declared.refusal.Refusal.TheVariants as refusal
+use Rattle.pcm_base.specs.declared.limits.TheConstants.{LONGEST_BODY}
+use Rattle.pcm_base.specs.Counters.{commits_of, layouts_of, no_room, record_test}
+use Rattle.pcm_base.specs.Outside.{Outside}
+use Rattle.pcm_base.specs.Refusals.{◌otherwise◌, call_tests, refused_if}
+use Rattle.pcm_base.specs.Run.{outside, stop_of}
+use Rattle.pcm_base.specs.Studio as model
+use Rattle.disk_model.specs.declared.store.Store.{Ghosts}
+use Rattle.editor_state.specs.Adding.{Outgrows}
+use Rattle.editor_state.specs.Bodies.{IsLength}
+use Rattle.editor_state.specs.Core.{Core}
+use Rattle.editor_state.specs.Exchanges.{is_broken_off}
+use Rattle.editor_state.specs.Spent.{IsNumberSpent, IsSpent, Needed, WouldMake}
+use Rattle.editor_state.specs.Studios.{studio_of}
+use Rattle.editor_state.proofs.Refusals.RefusalEffects.{IsOwn}
+use Rattle.editor_state.proofs.Refusals.CallTests.{own, own_by, stop}
+use Rattle.editor_state.proofs.Refusals.CommitTests.{IsCommitCall}
+
+either_of : (a b : Option Refusal) (why : Refusal) → a otherwise b ≡ Some why → (a ≡ Some why) ⊎ (b ≡ Some why)
+either_of None b why h = inr h
+either_of (Some r) b why h = inl h
+
+spent_is : (b : Bool) (r why : Refusal) → refused_if b r ≡ Some why → why ≡ r
+spent_is true r why h = sym (same_Some r why h)
+spent_is false r why h = absurd (none-some why h)
+
+long_is : (b : Bool) (r why : Refusal) → refused_if b r ≡ Some why → b ≡ true
+long_is true r why h = refl
+long_is false r why h = absurd (none-some why h)
+
+room_is : (have need : ℕ) (why : Refusal) → no_room have need ≡ Some why → why ≡ refusal.SpaceSpent have need
+room_is have need why h = spent_is _ (refusal.SpaceSpent have need) why h
+
+module _ {D : Type 0} (disk : Ghosts D) (s : Core D) (c : Call) (sound : SoundMove) where
+  abbrev t : model.Studio
+  t = studio_of disk s
+
+  abbrev out : Outside
+  out = outside t sound
+
+  -- ---- no counter refused it
+
+  pub own_needed : (why : Refusal) → IsOwn why → Needed disk s c sound why
+  own_needed (refusal.SpaceSpent have need) own = absurd own
+  own_needed (refusal.RecordLimit n) own = absurd own
+  own_needed why own = tt
+
+  pub off_needed : (why : Refusal) → is_broken_off why ≡ true → Needed disk s c sound why
+  off_needed (refusal.SpaceSpent have need) off = absurd (true≢false (sym off))
+  off_needed (refusal.RecordLimit n) off = absurd (true≢false (sym off))
+  off_needed why off = tt
+
+  pub tests_needed : (why : Refusal) → call_tests out t.state c ≡ Some why → Needed disk s c sound why
+  tests_needed why h = own_needed why (own_by (call_tests out t.state c) why (own out t.state c) h)
+
+  stop_needed : (why : Refusal) → stop_of s.stopped ≡ Some why → Needed disk s c sound why
+  stop_needed why h = own_needed why (own_by (stop_of s.stopped) why (stop s.stopped) h)
+
+  pub early_needed : (why : Refusal) → (stop_of s.stopped) otherwise (call_tests out t.state c) ≡ Some why
+      → Needed disk s c sound why
+  early_needed why h = ⊎_elim (stop_needed why) (tests_needed why)
+      (either_of (stop_of s.stopped) (call_tests out t.state c) why h)
+
+  -- ---- one of the numbers is spent
+
+  number_needed : (have need : ℕ) (why : Refusal) → IsSpent have need why
+      → (IsSpent have need (refusal.SpaceSpent have need)
+      → IsNumberSpent disk s c sound (refusal.SpaceSpent have need))
+      → Needed disk s c sound why
+  number_needed have need why h by =
+      let is = room_is have need why h in
+      subst (Needed disk s c sound) (sym is) (inl (by (h ∙ ap Some is)))
+
+  module _ (tracks : ℕ) {more : ℕ} (call : IsCommitCall c sound tracks more) where
+    numbers_needed : (why : Refusal)
+        → (no_room s.next_track tracks) otherwise (no_room s.commit_number (suc more)) ≡ Some why → Needed disk s c sound why
+    numbers_needed why h = ⊎_elim
+        (λ track. number_needed s.next_track tracks why track (λ is.
+        inl (subst (λ (k : ℕ). IsSpent s.next_track k (refusal.SpaceSpent s.next_track tracks))
+        (sym (call.tracks_is s.rate)) is)))
+        (λ number. number_needed s.commit_number (suc more) why number (λ is.
+        inr (inl (subst (λ (k : ℕ). IsSpent s.commit_number k (refusal.SpaceSpent s.commit_number (suc more)))
+        (sym call.many) is))))
+        (either_of (no_room s.next_track tracks) (no_room s.commit_number (suc more)) why h)
+
+    -- a test before the record is made
+    pub tested_needed : (own : Option Refusal) → own ≡ call_tests out t.state c → (why : Refusal)
+        → (stop_of s.stopped) otherwise own otherwise (no_room s.next_track tracks)
+        otherwise (no_room s.commit_number (suc more)) ≡ Some why → Needed disk s c sound why
+    tested_needed own is why h =
+        let rest = (no_room s.next_track tracks) otherwise (no_room s.commit_number (suc more)) in
+        ⊎_elim (stop_needed why)
+        (λ later. ⊎_elim (λ test. tests_needed why (sym is ∙ test)) (numbers_needed why)
+        (either_of own rest why later))
+        (either_of (stop_of s.stopped) (own otherwise rest) why h)
+
+    -- ---- by what it would have made
+
+    pub spent_needed : (it : WouldMake disk s c sound) (why : Refusal) → (no_room s.next_block it.blocks) otherwise
+        (no_room s.next_track tracks) otherwise (no_room s.commit_number (suc more)) ≡ Some why
+        → Needed disk s c sound why
+    spent_needed it why h = ⊎_elim
+        (λ block.
+        let is = room_is s.next_block it.blocks why block in
+        subst (Needed disk s c sound) (sym is) (inr (it, inl (block ∙ ap Some is))))
+        (numbers_needed why)
+        (either_of (no_room s.next_block it.blocks)
+        ((no_room s.next_track tracks) otherwise (no_room s.commit_number (suc more))) why h)
+
+  -- the journal's places for its records, the numbers of its layouts, or their length
+  pub outgrowing_needed : (it : WouldMake disk s c sound) (len : ℕ) → IsLength s it.writes len → (layouts : ℕ)
+      → layouts ≡ layouts_of out t.state c → (why : Refusal)
+      → Outgrows s.journal_end s.next_layout layouts len why → Needed disk s c sound why
+  outgrowing_needed it len one layouts same why h =
+      let place = no_room s.journal_end (6 + len) in
+      let draws = no_room s.next_layout layouts in
+      ⊎_elim
+      (λ early. ⊎_elim
+      (λ end.
+      let is = room_is s.journal_end (6 + len) why end in
+      subst (Needed disk s c sound) (sym is) (inr (it, inr (len, one, end ∙ ap Some is))))
+      (λ spent. number_needed s.next_layout layouts why spent (λ is.
+      inr (inr (inr (inr (subst (λ (k : ℕ). IsSpent s.next_layout k (refusal.SpaceSpent s.next_layout layouts))
+      same is))))))
+      (either_of place draws why early))
+      (λ late.
+      let is = spent_is (nat_lt LONGEST_BODY len) (refusal.RecordLimit len) why late in
+      let over : LONGEST_BODY < len = ltb-true LONGEST_BODY len
+      (long_is (nat_lt LONGEST_BODY len) (refusal.RecordLimit len) why late) in
+      subst (Needed disk s c sound) (sym is) (it, one, over))
+      (either_of (place otherwise draws) (record_test len) why h)
+
+  -- ---- of another call that is no commit either
+
+  pub other_needed : (d : Call) → commits_of c ≡ 0
+      → ((why : Refusal) → IsNumberSpent disk s c sound why → IsNumberSpent disk s d sound why)
+      → (why : Refusal) → Needed disk s c sound why → Needed disk s d sound why
+  other_needed d none numbers (refusal.SpaceSpent have need) h = ⊎_elim
+      (λ number. inl (numbers (refusal.SpaceSpent have need) number))
+      (λ made. absurd (omega (arith, none, made.0.commits)))
+      h
+  other_needed d none numbers (refusal.RecordLimit n) h = absurd (omega (arith, none, h.0.commits))
+  other_needed d none numbers why h = tt

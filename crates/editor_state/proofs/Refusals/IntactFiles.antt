@@ -1,0 +1,17 @@
+-- No file is told to be damaged, where the disk held the studio.
+use Rattle.pcm_base.specs.declared.refusal.Refusal.{Refusal}
+use Rattle.pcm_base.specs.declared.refusal.Refusal.TheVariants as refusal
+use Rattle.disk_model.specs.declared.store.Store.{Ghosts}
+use Rattle.envelope_view.specs.Answers.{IsUndamaged}
+use Rattle.envelope_view.proofs.AnswerLaws.{whole_undamaged}
+use Rattle.editor_state.specs.Core.{Core}
+use Rattle.editor_state.specs.Left.{Left}
+use Rattle.editor_state.specs.Studios.{IsHeld, named_blocks}
+
+-- what is told of the disk is so, and each block that the studio names is whole
+pub held_undamaged : {D : Type 0} (disk : Ghosts D) (old new : Core D) (why : Refusal)
+    → IsHeld disk old → Left disk old new why → IsUndamaged why
+held_undamaged disk old new (refusal.Damaged file at want have) held left =
+    whole_undamaged (disk.reads old.store) (named_blocks old) (refusal.Damaged file at want have) held.whole
+    (left.so held.tells)
+held_undamaged disk old new why held left = tt

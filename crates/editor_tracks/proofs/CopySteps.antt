@@ -1,0 +1,237 @@
+-- A copy is a step: other strips come into the clipboard.
+use Rattle.std.proofs.Common.{◌≡◌, ◌⊎◌, inl, inr, ⊎_elim, refl, sym, ap, ◌∙◌, subst, ℕ, ◌^◌, ◌≤◌, ◌<◌, Bool, true}
+use Rattle.std.proofs.Common.{false, not, nat_lt, nat_le, ◌&&◌, List, ◌++◌, length, map, take, Option, Some, None, Ok}
+use Rattle.std.proofs.Common.{Err, arith}
+use Rattle.std.specs.List.{AllByRecursion}
+use Rattle.std.proofs.lemmas.Bool.Decides.{leb_tells}
+use Rattle.std.proofs.lemmas.List.{length-map}
+use Rattle.std.proofs.lemmas.Option.{none-some}
+use Rattle.pcm_base.specs.declared.answer.Reply.TheVariants.{Copied}
+use Rattle.pcm_base.specs.declared.block.BlockRef.{BlockRef}
+use Rattle.pcm_base.specs.declared.command.Call.{Call}
+use Rattle.pcm_base.specs.declared.command.Call.TheVariants.{Line}
+use Rattle.pcm_base.specs.declared.command.Command.TheVariants as command
+use Rattle.pcm_base.specs.declared.refusal.Refusal.{Refusal}
+use Rattle.pcm_base.specs.declared.refusal.Refusal.TheVariants as refusal
+use Rattle.pcm_base.specs.Cells.{Project, tracks_from, longest}
+use Rattle.pcm_base.specs.Cells as cells
+use Rattle.pcm_base.specs.Edits.{range_of}
+use Rattle.pcm_base.specs.Pieces.{Sources}
+use Rattle.pcm_base.specs.Refusals.{◌otherwise◌, call_tests, refused_if, too_narrow, bad_range}
+use Rattle.pcm_base.specs.Run.{outside, stop_of}
+use Rattle.pcm_base.specs.State.{current}
+use Rattle.pcm_base.specs.Step.{after, copied}
+use Rattle.pcm_base.specs.Studio as model
+use Rattle.disk_model.specs.declared.store.Store.{Ghosts}
+use Rattle.disk_model.proofs.Frames.{Fewer}
+use Rattle.sample_block.specs.Sources.{sources_of}
+use Rattle.block_ledger.specs.Counts.{Counts, occurrences}
+use Rattle.clip_track.specs.declared.clips.Clip.{Clip}
+use Rattle.clip_track.specs.declared.items.Item.{Item}
+use Rattle.clip_track.specs.Items.{strip_cells}
+use Rattle.edit_ops.specs.Runs.{longest_of, copy_tests, AreCopies}
+use Rattle.project_state.specs.declared.track.Track.{Track}
+use Rattle.record_body.specs.Kept.{current_tracks}
+use Rattle.project_state.specs.Meaning.{meant_track, history_blocks}
+use Rattle.record_body.specs.Sound.{AllSoundTracks}
+use Rattle.project_state.specs.Tracks.{track_of}
+use Rattle.record_body.proofs.KeptBounds.{all_append}
+use Rattle.editor_tracks.specs.declared.run_range.RunRange.{RunRange}
+use Rattle.editor_tracks.specs.Copies.{run_of, Copies, strips_blocks}
+use Rattle.editor_state.specs.Core.{Core}
+use Rattle.editor_state.specs.Occurrences.{HasAll, Moves}
+use Rattle.editor_state.specs.Points.{lacks}
+use Rattle.editor_state.specs.Reads.{HasLayout}
+use Rattle.editor_state.specs.Studios.{IsClipboard, IsStudio, clip_blocks, pin_blocks, named_blocks, studio_of}
+use Rattle.editor_state.specs.Studios.{studio_tracks}
+use Rattle.editor_state.specs.Took.{Took, quietly, silent}
+use Rattle.editor_state.proofs.Blocks.BlockNumbers.{named_few, named_most}
+use Rattle.editor_tracks.proofs.CopyStrips.{from_track, layout_of, run_meant, run_is, from_sound, from_few, from_blocks}
+use Rattle.editor_tracks.proofs.CopyStrips.{longest_is, longest_most, copies_mean, copies_few, copies_fit, copies_short}
+use Rattle.editor_tracks.proofs.CopyStrips.{copies_all}
+use Rattle.editor_commits.proofs.CursorTracks.{track_there}
+use Rattle.editor_commits.proofs.CurrentProject.{current_sound, current_meant, track_is, old_names}
+use Rattle.editor_state.proofs.Blocks.NamedBlocks.{counted_most, others_counted, others_moved}
+use Rattle.editor_state.proofs.Lists.{all_left, all_right}
+use Rattle.editor_state.proofs.Calls.NameChanges.{renamed, Renames, renamed_took}
+use Rattle.editor_state.proofs.Calls.QuietCalls.{IsQuiet, quiet_passes, carried, room_of, refused_own, refused_stopped}
+use Rattle.editor_state.proofs.Calls.QuietCalls.{refused_wanting}
+use Rattle.editor_state.proofs.Refusals.CommitTests.{fits}
+use Rattle.editor_state.proofs.Refusals.EarlyRefusals.{stopped_not}
+
+-- a range that is not refused ends by the end
+ends_by : (a : Bool) (to len : ℕ) → refused_if (not (a && nat_le to len)) refusal.BadRange ≡ None → to ≤ len
+ends_by a to len none = ⊎_elim (λ le. le.1) (λ lt. absurd (beyond a (nat_le to len) lt.0 none)) (leb_tells to len)
+  where
+    beyond : (a b : Bool) → b ≡ false → refused_if (not (a && b)) refusal.BadRange ≡ None → ⊥
+    beyond true true e f = absurd (cc e)
+    beyond true false e f = none-some refusal.BadRange (sym f)
+    beyond false b e f = none-some refusal.BadRange (sym f)
+
+second : (a b : Option Refusal) → a otherwise b ≡ None → b ≡ None
+second None b e = e
+second (Some r) b e = absurd (none-some r (sym e))
+
+module _ {D : Type 0} (disk : Ghosts D) (s : Core D) (is : IsStudio disk s) where
+  -- the clipboard's blocks are counted
+  pub clip_counted : HasAll s.counts (clip_blocks s.clipboard)
+  clip_counted = others_counted (studio_tracks s) (clip_blocks s.clipboard) s.uses s.counts is.counted
+
+  -- the counts have room
+  pub clip_room : (b : ℕ) → occurrences (s.counts b) < 2 ^ 102
+  clip_room b = omega (arith, counted_most disk s is b, named_most b (named_blocks s), named_few disk s is)
+
+module _ {D : Type 0} (disk : Ghosts D) (s : Core D) (is : IsStudio disk s) (range : RunRange)
+    (fewer : Fewer disk s.store) where
+  abbrev src : Sources
+  src = sources_of (disk.reads s.store)
+
+  abbrev t : model.Studio
+  t = studio_of disk s
+
+  abbrev ts : List Track
+  ts = current_tracks s.history
+
+  abbrev id : ℕ
+  id = range.track
+
+  abbrev n : ℕ
+  n = range.count
+
+  abbrev from : ℕ
+  from = range.from
+
+  abbrev to : ℕ
+  to = range.to
+
+  abbrev line : Call
+  line = Line (command.Copy id n from to)
+
+  copy_quiet : IsQuiet line
+  copy_quiet = record {
+    needs = λ t. (refl, refl);
+    no_commit = refl;
+    no_track = λ t. refl;
+    no_layout = λ t. refl;
+    quiet = λ t. refl;
+  }
+
+  abbrev rest_tests : Project → Option Refusal
+  rest_tests p =
+      (too_narrow (length (tracks_from id p)) n) otherwise (bad_range from to (longest (take n (tracks_from id p))))
+
+  pub copy_stopped : (faults : ℕ) → s.stopped ≡ Some faults → Took disk s (quietly line (Err (refusal.Stopped faults)))
+      s
+  copy_stopped faults stopped = refused_stopped disk s line copy_quiet tt is fewer faults refl stopped
+
+  pub copy_lacks : (why : Refusal) → s.stopped ≡ None → lacks id (track_of id ts) ≡ Some why
+      → Took disk s (quietly line (Err why)) s
+  copy_lacks why going lack =
+      refused_own disk s line copy_quiet tt is fewer why (ap stop_of going)
+      ((λ i. (sym (track_is disk s is id) i) otherwise (rest_tests (current t.state)))
+      ∙ (λ i. (lack i) otherwise (rest_tests (current t.state))))
+
+  -- where the track is there the tests are those of the run of layouts
+  module _ (layout : List Clip) (has : HasLayout id ts layout) (going : s.stopped ≡ None) where
+    abbrev run : List Track
+    run = from_track id ts
+
+    layouts : run_of id ts ≡ map layout_of run
+    layouts = run_is id 1 ts has.track (current_sound disk s is).rising has.found
+
+    tests_are : call_tests (outside t silent) t.state line ≡ copy_tests (run_of id ts) n from to
+    tests_are =
+        let no = sym (track_is disk s is id) ∙ track_there disk s is id layout has in
+        let mean = ap (tracks_from id) (current_meant disk s is) ∙ run_meant src id ts in
+        let few : length (tracks_from id (current t.state)) ≡ length (run_of id ts) =
+        ap length mean ∙ length-map run (meant_track src) ∙ sym (ap length layouts ∙ length-map run layout_of) in
+        let sound = from_sound s.block_size s.next_block s.next_track id ts (current_sound disk s is).sound in
+        let long : longest (take n (tracks_from id (current t.state))) ≡ longest_of (take n (run_of id ts)) =
+        ap (λ (p : Project). longest (take n p)) mean ∙ longest_is s.block_size s.next_block s.next_track src n run
+        sound ∙ sym (ap (λ (z : List (List Clip)). longest_of (take n z)) layouts) in
+        λ i. (no i) otherwise (too_narrow (few i) n) otherwise (bad_range from to (long i))
+
+    pub copy_refused : (why : Refusal) → (copy_tests (run_of id ts) n from to ≡ Some why) ⊎ (why ≡ refusal.NoMemory)
+        → Took disk s (quietly line (Err why)) s
+    copy_refused why (inl test) = refused_own disk s line copy_quiet tt is fewer why (ap stop_of going) (tests_are ∙ test)
+    copy_refused why (inr want) = subst (λ (z : Refusal). Took disk s (quietly line (Err z)) s) (sym want)
+        (refused_wanting disk s line copy_quiet tt is fewer)
+
+    -- ---- carried out
+    module _ (v : List (List Item)) (copies : Copies (run_of id ts) range (Ok v)) where
+      copies_of : AreCopies from to (take n (map layout_of run)) v
+      copies_of = subst (λ (z : List (List Clip)). AreCopies from to (take n z) v) layouts copies.1
+
+      sound_run : AllSoundTracks s.block_size s.next_block s.next_track run
+      sound_run = from_sound s.block_size s.next_block s.next_track id ts (current_sound disk s is).sound
+
+      pub strips_few : length v ≤ 64
+      strips_few = omega (arith, copies_few from to n run v copies_of, from_few id ts, (current_sound disk s is).few)
+
+      pub strips_named : (P : BlockRef → Type 0) → AllByRecursion P (named_blocks s)
+          → AllByRecursion P (strips_blocks v)
+      strips_named P all = copies_all P from to n run v copies_of (from_blocks P id ts (old_names disk s is P all))
+
+      range_most : to ≤ 2 ^ 32
+      range_most =
+          let len = longest_of (take n (run_of id ts)) in
+          let good = second (too_narrow (length (run_of id ts)) n) (bad_range from to len) copies.0 in
+          omega (
+            arith,
+            ends_by (nat_lt from to) to len good,
+            ap (λ (z : List (List Clip)). longest_of (take n z)) layouts,
+            longest_most s.block_size s.next_block s.next_track n run sound_run,
+          )
+
+      pub may_paste : IsClipboard s.block_size v
+      may_paste = record {
+        few = strips_few;
+        short = copies_short from to n run v range_most copies_of;
+        fits = copies_fit s.block_size s.next_block s.next_track from to n run v copies_of sound_run;
+      }
+
+      meaning : map (strip_cells src) v ≡ copied id n from to (current t.state)
+      meaning =
+          copies_mean src from to n run v copies_of
+          ∙ ap (λ (p : Project). map (λ (t : cells.Track). range_of from to t.cells) (take n p))
+          (sym (run_meant src id ts))
+          ∙ ap (copied id n from to) (sym (current_meant disk s is))
+
+      module _ (counts : Counts) (moves : Moves s.counts counts (clip_blocks s.clipboard) (strips_blocks v))
+          (most : length (strips_blocks v) ≤ 2 ^ 71) where
+        abbrev new : Core D
+        new = renamed s (Some v) s.pins s.next_pin s.uses counts
+
+        copy_renames : Renames s (Some v) s.pins s.next_pin s.uses counts
+        copy_renames = record {
+          covers = λ P all.
+              let rest = all_right P (history_blocks s.history) (pin_blocks s.pins ++ clip_blocks s.clipboard) all in
+              all_append P (history_blocks s.history) (pin_blocks s.pins ++ strips_blocks v)
+              (all_left P (history_blocks s.history) (pin_blocks s.pins ++ clip_blocks s.clipboard) all)
+              (all_append P (pin_blocks s.pins) (strips_blocks v)
+              (all_left P (pin_blocks s.pins) (clip_blocks s.clipboard) rest) (strips_named P all));
+          numbers = is.numbers;
+          pin_least = is.counters.pin_least;
+          pin_most = is.counters.pin_most;
+          sound = is.pins;
+          few_clips = most;
+          clip_fits = may_paste;
+          numbered = is.numbered;
+          drawn = is.drawn;
+          counted = others_moved (studio_tracks s) (clip_blocks s.clipboard) (strips_blocks v) s.uses s.counts counts
+              is.counted moves;
+          ids = moves.ids;
+        }
+
+        copy_state : studio_of disk new ≡ record t { state = after (outside t silent) t.state line }
+        copy_state = let mean = meaning in λ i. record t { state = record t.state { clipboard = Some (mean i) } }
+
+        pub copy_done : Took disk s (quietly line (Ok Copied)) new
+        copy_done =
+            let room = room_of disk s line is in
+            let passed = quiet_passes t line copy_quiet room refl (ap stop_of going) (tests_are ∙ copies.0)
+            (fits s.next_pin 0 (omega (arith, is.counters.pin_most))) in
+            renamed_took disk s is
+            (Some v) s.pins s.next_pin s.uses counts copy_renames line copy_quiet tt tt Copied fewer
+            (λ some. absurd (stopped_not s.stopped some going))
+            (λ _. carried t line copy_quiet room refl Copied (studio_of disk new) passed refl copy_state)

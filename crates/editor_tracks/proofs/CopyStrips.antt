@@ -1,0 +1,196 @@
+-- What is copied is a range of each track of the run.
+use Rattle.std.proofs.Common.{◌≡◌, ⊎_elim, refl, sym, ap, ◌∙◌, subst, ℕ, zero, suc, ◌+◌, ◌^◌, ◌≤◌, ◌<◌, max}
+use Rattle.std.proofs.Common.{◌==◌, if◌then◌else◌, List, [], ◌∷◌}
+use Rattle.std.proofs.Common.{◌++◌, length, map, take, flat_map, Some, get_or, arith}
+use Rattle.std.specs.List.{AllByRecursion}
+use Rattle.std.proofs.lemmas.Bool.{ne_eqb, le-leb, lt-leb}
+use Rattle.std.proofs.lemmas.Bool.Decides.{eqb_tells}
+use Rattle.std.proofs.lemmas.Option.{none-some}
+use Rattle.pcm_base.specs.declared.block.BlockRef.{BlockRef}
+use Rattle.pcm_base.specs.declared.piece.Piece.TheVariants.{Old, Scaled, Zero, Given}
+use Rattle.pcm_base.specs.Cells.{tracks_from, longest}
+use Rattle.pcm_base.specs.Cells as cells
+use Rattle.pcm_base.specs.Edits.{range_of}
+use Rattle.pcm_base.specs.Pieces.{Sources}
+use Rattle.clip_track.specs.declared.clips.Clip.{Clip}
+use Rattle.clip_track.specs.declared.items.Item.{Item}
+use Rattle.clip_track.specs.declared.items.Item.TheVariants.{Gap, Sound}
+use Rattle.clip_track.specs.Clips.{layout_blocks}
+use Rattle.clip_track.specs.Items.{strip_cells, strip_len, strip_blocks, item_blocks, AreItems}
+use Rattle.clip_track.proofs.Layouts.{length-layout}
+use Rattle.edit_ops.specs.Runs.{longest_of, AreCopies, AreClips}
+use Rattle.edit_ops.specs.Strips.{ItemsFrom}
+use Rattle.project_state.specs.declared.track.Track.{Track}
+use Rattle.project_state.specs.Meaning.{meant, point_blocks}
+use Rattle.record_body.specs.Sound.{AllSoundTracks}
+use Rattle.project_state.specs.Tracks.{AreAbove, track_of}
+use Rattle.record_body.proofs.KeptBounds.{all_append}
+use Rattle.editor_tracks.specs.Copies.{run_of, strips_blocks}
+use Rattle.editor_state.proofs.Lists.{all_left, all_right}
+
+-- ---- the blocks of a strip
+
+-- item by item
+pub strip_flat : (xs : List Item) → strip_blocks xs ≡ flat_map item_blocks xs
+strip_flat [] = refl
+strip_flat (x ∷ xs) = ap (λ (z : List BlockRef). item_blocks x ++ z) (strip_flat xs)
+
+-- no item names more blocks than it has cells
+pub items_few : (xs : List Item) → AreItems xs → length (strip_blocks xs) ≤ strip_len xs
+items_few [] ok = omega arith
+items_few (Gap n ∷ xs) ok = omega (arith, items_few xs ok.1)
+items_few (Sound (Old b from to) ∷ xs) ok = omega (arith, items_few xs ok.1, ok.0.0)
+items_few (Sound (Scaled b from to gain) ∷ xs) ok = omega (arith, items_few xs ok.1, ok.0.0)
+items_few (Sound (Zero len) ∷ xs) ok = omega (arith, items_few xs ok.1)
+items_few (Sound (Given from to) ∷ xs) ok = omega (arith, items_few xs ok.1)
+
+-- ---- the run
+
+abbrev pub from_track : ℕ → List Track → List Track
+from_track id [] = []
+from_track id (t ∷ ts) = if t.id == id then t ∷ ts else from_track id ts
+
+abbrev pub layout_of : Track → List Clip
+layout_of t = t.layout
+
+pub run_meant : (src : Sources) (id : ℕ) (ts : List Track)
+    → tracks_from id (meant src ts) ≡ meant src (from_track id ts)
+run_meant src id [] = refl
+run_meant src id (t ∷ ts) =
+    ⊎_elim (λ same. rw (same.0) refl) (λ other. rw (other.0) (run_meant src id ts)) (eqb_tells t.id id)
+
+all_above : (id n : ℕ) (ts : List Track) → AreAbove n ts → id ≤ n → run_of id ts ≡ map layout_of ts
+all_above id n [] above le = refl
+all_above id n (t ∷ ts) above le =
+    rw (le-leb id t.id (omega (arith, le, above.0)))
+    (ap (λ (z : List (List Clip)). t.layout ∷ z) (all_above id (t.id + 1) ts above.1 (omega (arith, le, above.0))))
+
+pub found_above : (id n : ℕ) (ts : List Track) (x : Track) → AreAbove n ts → track_of id ts ≡ Some x → n ≤ id
+found_above id n [] x above found = absurd (none-some x found)
+found_above id n (t ∷ ts) x above found = ⊎_elim
+    (λ same. omega (arith, same.1, above.0))
+    (λ other.
+    let later : track_of id ts ≡ Some x = sym (ap (λ b. if b then Some t else track_of id ts) other.0) ∙ found in
+    omega (arith, above.0, found_above id (t.id + 1) ts x above.1 later))
+    (eqb_tells id t.id)
+
+pub run_is : (id n : ℕ) (ts : List Track) (x : Track) → AreAbove n ts → track_of id ts ≡ Some x
+    → run_of id ts ≡ map layout_of (from_track id ts)
+run_is id n [] x above found = refl
+run_is id n (t ∷ ts) x above found = ⊎_elim
+    (λ same. rw (same.0, le-leb id t.id (omega (arith, same.1)))
+    (ap (λ (z : List (List Clip)). t.layout ∷ z) (all_above id (t.id + 1) ts above.1 (omega (arith, same.1)))))
+    (λ other.
+    let later : track_of id ts ≡ Some x =
+    sym (ap (λ b. if b then Some t else track_of id ts) (ne_eqb id t.id (λ e. other.1 (sym e)))) ∙ found in
+    let less = found_above id (t.id + 1) ts x above.1 later in
+    rw (other.0, lt-leb id t.id (omega (arith, less))) (run_is id (t.id + 1) ts x above.1 later))
+    (eqb_tells t.id id)
+
+pub from_sound : (m next_block next_track id : ℕ) (ts : List Track) → AllSoundTracks m next_block next_track ts
+    → AllSoundTracks m next_block next_track (from_track id ts)
+from_sound m next_block next_track id [] all = tt
+from_sound m next_block next_track id (t ∷ ts) all = ⊎_elim (λ same. rw (same.0) all)
+    (λ other. rw (other.0) (from_sound m next_block next_track id ts all.1)) (eqb_tells t.id id)
+
+pub from_few : (id : ℕ) (ts : List Track) → length (from_track id ts) ≤ length ts
+from_few id [] = omega arith
+from_few id (t ∷ ts) = ⊎_elim (λ same. rw (same.0) (omega arith))
+    (λ other. rw (other.0) (omega (arith, from_few id ts))) (eqb_tells t.id id)
+
+pub from_blocks : (P : BlockRef → Type 0) (id : ℕ) (ts : List Track) → AllByRecursion P (point_blocks ts)
+    → AllByRecursion P (point_blocks (from_track id ts))
+from_blocks P id [] all = tt
+from_blocks P id (t ∷ ts) all = ⊎_elim (λ same. rw (same.0) all) (λ other.
+    rw (other.0) (from_blocks P id ts (all_right P (layout_blocks t.layout) (point_blocks ts) all))) (eqb_tells t.id id)
+
+-- ---- its lengths
+
+module _ (m next_block next_track : ℕ) where
+  pub longest_is : (src : Sources) (n : ℕ) (ts : List Track) → AllSoundTracks m next_block next_track ts
+      → longest (take n (meant src ts)) ≡ longest_of (take n (map layout_of ts))
+  longest_is src zero ts all = refl
+  longest_is src (suc n) [] all = refl
+  longest_is src (suc n) (t ∷ ts) all =
+      let here = length-layout src t.layout all.0.layout.apart in
+      let later = longest_is src n ts all.1 in
+      λ i. max (here i) (later i)
+
+  pub longest_most : (n : ℕ) (ts : List Track) → AllSoundTracks m next_block next_track ts
+      → longest_of (take n (map layout_of ts)) ≤ 2 ^ 32
+  longest_most zero ts all = omega arith
+  longest_most (suc n) [] all = omega arith
+  longest_most (suc n) (t ∷ ts) all = omega (arith, all.0.layout.few, longest_most n ts all.1)
+
+  -- ---- the strips
+
+  pub copies_fit : (from to n : ℕ) (ts : List Track) (v : List (List Item))
+      → AreCopies from to (take n (map layout_of ts)) v → AllSoundTracks m next_block next_track ts → AreClips m v
+  copies_fit from to zero ts [] all sound = tt
+  copies_fit from to zero ts (s ∷ ss) all sound = absurd all
+  copies_fit from to (suc n) [] [] all sound = tt
+  copies_fit from to (suc n) [] (s ∷ ss) all sound = absurd all
+  copies_fit from to (suc n) (t ∷ ts) [] all sound = absurd all
+  copies_fit from to (suc n) (t ∷ ts) (s ∷ ss) all sound =
+      (all.0.clip m sound.0.half_full, copies_fit from to n ts ss all.1 sound.1)
+
+pub copies_mean : (src : Sources) (from to n : ℕ) (ts : List Track) (v : List (List Item))
+    → AreCopies from to (take n (map layout_of ts)) v
+    → map (strip_cells src) v ≡ map (λ (t : cells.Track). range_of from to t.cells) (take n (meant src ts))
+copies_mean src from to zero ts [] all = refl
+copies_mean src from to zero ts (s ∷ ss) all = absurd all
+copies_mean src from to (suc n) [] [] all = refl
+copies_mean src from to (suc n) [] (s ∷ ss) all = absurd all
+copies_mean src from to (suc n) (t ∷ ts) [] all = absurd all
+copies_mean src from to (suc n) (t ∷ ts) (s ∷ ss) all =
+    let here = all.0.cells src in
+    let later = copies_mean src from to n ts ss all.1 in
+    λ i. here i ∷ later i
+
+pub copies_few : (from to n : ℕ) (ts : List Track) (v : List (List Item))
+    → AreCopies from to (take n (map layout_of ts)) v → length v ≤ length ts
+copies_few from to zero ts [] all = omega arith
+copies_few from to zero ts (s ∷ ss) all = absurd all
+copies_few from to (suc n) [] [] all = omega arith
+copies_few from to (suc n) [] (s ∷ ss) all = absurd all
+copies_few from to (suc n) (t ∷ ts) [] all = absurd all
+copies_few from to (suc n) (t ∷ ts) (s ∷ ss) all = omega (arith, copies_few from to n ts ss all.1)
+
+pub copies_short : (from to n : ℕ) (ts : List Track) (v : List (List Item)) → to ≤ 2 ^ 32
+    → AreCopies from to (take n (map layout_of ts)) v → AllByRecursion (λ strip. strip_len strip ≤ 2 ^ 32) v
+copies_short from to zero ts [] most all = tt
+copies_short from to zero ts (s ∷ ss) most all = absurd all
+copies_short from to (suc n) [] [] most all = tt
+copies_short from to (suc n) [] (s ∷ ss) most all = absurd all
+copies_short from to (suc n) (t ∷ ts) [] most all = absurd all
+copies_short from to (suc n) (t ∷ ts) (s ∷ ss) most all =
+    (omega (arith, all.0.len, most), copies_short from to n ts ss most all.1)
+
+all_at : (P : BlockRef → Type 0) (bs : List BlockRef) (b : BlockRef) → AllByRecursion P bs → (k : ℕ) → k < length bs
+    → get_or bs k b ≡ b → P b
+all_at P [] b all k lt e = absurd (omega (arith, lt))
+all_at P (x ∷ xs) b all zero lt e = subst P e all.0
+all_at P (x ∷ xs) b all (suc k) lt e = all_at P xs b all.1 k (omega (arith, lt)) e
+
+origin_all : (P : BlockRef → Type 0) (bs : List BlockRef) (xs : List Item) → AllByRecursion P bs → ItemsFrom bs 0 xs
+    → AllByRecursion P (strip_blocks xs)
+origin_all P bs [] all from = tt
+origin_all P bs (Gap n ∷ xs) all from = origin_all P bs xs all from.1
+origin_all P bs (Sound (Old b lo hi) ∷ xs) all from =
+    (all_at P bs b all from.0.0 from.0.1 from.0.2, origin_all P bs xs all from.1)
+origin_all P bs (Sound (Scaled b lo hi gain) ∷ xs) all from =
+    (all_at P bs b all from.0.0 from.0.1 from.0.2, origin_all P bs xs all from.1)
+origin_all P bs (Sound (Zero len) ∷ xs) all from = origin_all P bs xs all from.1
+origin_all P bs (Sound (Given lo hi) ∷ xs) all from = origin_all P bs xs all from.1
+
+pub copies_all : (P : BlockRef → Type 0) (from to n : ℕ) (ts : List Track) (v : List (List Item)) → AreCopies from to
+    (take n (map layout_of ts)) v → AllByRecursion P (point_blocks ts) → AllByRecursion P (strips_blocks v)
+copies_all P from to zero ts [] all has = tt
+copies_all P from to zero ts (s ∷ ss) all has = absurd all
+copies_all P from to (suc n) [] [] all has = tt
+copies_all P from to (suc n) [] (s ∷ ss) all has = absurd all
+copies_all P from to (suc n) (t ∷ ts) [] all has = absurd all
+copies_all P from to (suc n) (t ∷ ts) (s ∷ ss) all has =
+    all_append P (strip_blocks s) (strips_blocks ss)
+    (origin_all P (layout_blocks t.layout) s (all_left P (layout_blocks t.layout) (point_blocks ts) has) all.0.origin)
+    (copies_all P from to n ts ss all.1 (all_right P (layout_blocks t.layout) (point_blocks ts) has))

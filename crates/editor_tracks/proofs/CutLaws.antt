@@ -1,0 +1,173 @@
+-- A range of a run that is taken out into the clipboard, as an edit that makes blocks.
+use Rattle.std.proofs.Common.{◌≡◌, ⊎_elim, refl, sym, ap, ◌∙◌, subst, ℕ, zero, suc, ◌*◌, ◌^◌, ◌≤◌, nat_lt, Bool}
+use Rattle.std.proofs.Common.{true, false, Option, Some, None, List, [], ◌∷◌, length, length-append, map, take}
+use Rattle.std.proofs.Common.{replicate, Contains, arith}
+use Rattle.std.specs.List.{AllByRecursion}
+use Rattle.std.proofs.lemmas.Bool.{ltb-false}
+use Rattle.std.proofs.lemmas.List.{length-map}
+use Rattle.std.proofs.lemmas.Option.{none-some}
+use Rattle.pcm_base.specs.declared.block.BlockRef.{BlockRef}
+use Rattle.pcm_base.specs.declared.refusal.Refusal.{Refusal}
+use Rattle.pcm_base.specs.declared.refusal.Refusal.TheVariants as refusal
+use Rattle.pcm_base.specs.declared.sound.Cell.{Cell}
+use Rattle.pcm_base.specs.Cells.{Project, longest, tracks_from}
+use Rattle.pcm_base.specs.Pieces.{Sources}
+use Rattle.pcm_base.specs.Refusals.{◌otherwise◌, bad_range, is_empty, refused_if, too_narrow}
+use Rattle.disk_model.specs.declared.store.Store.{Ghosts}
+use Rattle.clip_track.specs.declared.clips.Clip.{Clip}
+use Rattle.clip_track.specs.declared.items.Item.{Item}
+use Rattle.clip_track.specs.Clips.{layout_blocks}
+use Rattle.clip_track.specs.Items.{AreItems, strip_blocks, strip_len}
+use Rattle.edit_ops.specs.declared.types.Plan.{Plan}
+use Rattle.edit_ops.specs.Plans.{Start}
+use Rattle.edit_ops.specs.Runs.{AllTracksHalfFull, AreCuts, copy_tests, longest_of, start_behind}
+use Rattle.envelope_view.specs.Answers.{IsUndamaged}
+use Rattle.project_state.specs.declared.track.Track.{Track}
+use Rattle.record_body.specs.Kept.{current_tracks}
+use Rattle.project_state.specs.Meaning.{meant, meant_track, point_blocks}
+use Rattle.record_body.specs.Sound.{AllSoundTracks}
+use Rattle.project_state.specs.Tracks.{AreAbove, track_of}
+use Rattle.model_laws.proofs.OwnTests.{both_passed, not_refused}
+use Rattle.editor_tracks.specs.Copies.{run_of, strips_blocks}
+use Rattle.editor_tracks.specs.declared.run_range.RunRange.{RunRange}
+use Rattle.editor_state.specs.Core.{Core}
+use Rattle.editor_tracks.specs.Cuts.{NoCutPlan, cut_refusal}
+use Rattle.editor_state.specs.Edits.{AreAmong}
+use Rattle.editor_state.specs.Points.{lacks}
+use Rattle.editor_state.specs.Studios.{IsStudio}
+use Rattle.editor_tracks.proofs.CopyStrips.{from_sound, from_track, items_few, layout_of, longest_is, run_is, run_meant}
+use Rattle.editor_commits.proofs.CurrentProject.{current_sound}
+use Rattle.editor_state.proofs.Lists.{all_left, all_right}
+use Rattle.editor_state.proofs.Refusals.DamageTests.{TellsNone, either_tells, lacks_tells, range_tells, tests_tell}
+use Rattle.editor_tracks.proofs.RunPlans.{AreLaid, CellEdit, edits_at, plan_more}
+use Rattle.editor_commits.proofs.TrackChanges.{lacks_is}
+
+-- ---- the run
+
+tracks_half_full : (m next track : ℕ) (ts : List Track) → AllSoundTracks m next track ts
+    → AllTracksHalfFull m (map layout_of ts)
+tracks_half_full m next track [] all = tt
+tracks_half_full m next track (t ∷ ts) all = (all.0.half_full, tracks_half_full m next track ts all.1)
+
+pub run_half_full : {D : Type 0} (disk : Ghosts D) (s : Core D) → IsStudio disk s → (id : ℕ) (t : Track)
+    → track_of id (current_tracks s.history) ≡ Some t
+    → AllTracksHalfFull s.block_size (run_of id (current_tracks s.history))
+run_half_full disk s is id t found =
+    let ts = current_tracks s.history in
+    let sound = current_sound disk s is in
+    subst (AllTracksHalfFull s.block_size) (sym (run_is id 1 ts t sound.rising found))
+    (tracks_half_full s.block_size s.next_block s.next_track (from_track id ts)
+    (from_sound s.block_size s.next_block s.next_track id ts sound.sound))
+
+-- a run has a plan for each of the tracks that are cut
+pub cuts_few : (edit : List Cell → List Cell) (start : Start) (n : ℕ) (run : List (List Clip)) (ps : List Plan)
+    → AreCuts edit start (take n run) ps → length ps ≤ length run
+cuts_few edit start zero run [] cuts = omega arith
+cuts_few edit start zero run (p ∷ ps) cuts = absurd cuts
+cuts_few edit start (suc n) [] [] cuts = omega arith
+cuts_few edit start (suc n) [] (p ∷ ps) cuts = absurd cuts
+cuts_few edit start (suc n) (t ∷ ts) [] cuts = absurd cuts
+cuts_few edit start (suc n) (t ∷ ts) (p ∷ ps) cuts =
+    omega (arith, cuts_few edit (start_behind start p) n ts ps cuts.1)
+
+-- a run has the tracks that are needed
+pub wide : (have need : ℕ) (rest : Option Refusal) → (too_narrow have need) otherwise rest ≡ None → need ≤ have
+wide have need rest passed = ltb-false have need
+    (not_refused (nat_lt have need) (refusal.TooNarrow have need) (both_passed (too_narrow have need) rest passed).0)
+
+-- the same edit of each of this many tracks
+abbrev pub each_so : ℕ → (List Cell → List Cell) → List CellEdit
+each_so n edit = replicate n (λ (src : Sources). edit)
+
+pub cuts_laid : (edit : List Cell → List Cell) (start : Start) (n : ℕ) (xs : List BlockRef) (ts : List Track)
+    (ps : List Plan) → AreAmong xs (point_blocks ts) → AreCuts edit start (take n (map layout_of ts)) ps
+    → AreLaid (each_so n edit) start.block_size start.next xs ts ps
+cuts_laid edit start zero xs ts [] among cuts = tt
+cuts_laid edit start zero xs ts (p ∷ ps) among cuts = absurd cuts
+cuts_laid edit start (suc n) xs [] [] among cuts = tt
+cuts_laid edit start (suc n) xs [] (p ∷ ps) among cuts = absurd cuts
+cuts_laid edit start (suc n) xs (t ∷ ts) [] among cuts = absurd cuts
+cuts_laid edit start (suc n) xs (t ∷ ts) (p ∷ ps) among cuts =
+    let here = all_left (Contains xs) (layout_blocks t.layout) (point_blocks ts) among in
+    let later = all_right (Contains xs) (layout_blocks t.layout) (point_blocks ts) among in (
+      record {
+        plan = plan_more start (layout_blocks t.layout) xs p here cuts.0.plan;
+        cells = cuts.0.cells;
+        few = cuts.0.few_made;
+      },
+      cuts_laid edit (start_behind start p) n xs ts ps later cuts.1,
+    )
+
+pub same_edits : (src : Sources) (n : ℕ) (edit : List Cell → List Cell)
+    → edits_at src (each_so n edit) ≡ replicate n edit
+same_edits src zero edit = refl
+same_edits src (suc n) edit = ap (λ (z : List (List Cell → List Cell)). edit ∷ z) (same_edits src n edit)
+
+-- short strips of items name few blocks
+pub strips_short : (v : List (List Item)) → AllByRecursion AreItems v
+    → AllByRecursion (λ strip. strip_len strip ≤ 2 ^ 32) v
+    → length (strips_blocks v) ≤ length v * 2 ^ 32
+strips_short [] items short = omega arith
+strips_short (x ∷ xs) items short =
+    omega (
+      arith,
+      length-append (strip_blocks x) (strips_blocks xs),
+      items_few x items.0,
+      short.0,
+      strips_short xs items.1 short.1,
+    )
+
+-- ---- what refuses it
+
+pub narrow_tells : (have need : ℕ) → TellsNone (too_narrow have need)
+narrow_tells have need = by (nat_lt have need)
+  where
+    by : (b : Bool) → TellsNone (refused_if b (refusal.TooNarrow have need))
+    by true = tt
+    by false = tt
+
+pub no_cut_tells : {D : Type 0} (range : RunRange) (s : Core D) (why : Refusal) → NoCutPlan range s why
+    → IsUndamaged why
+no_cut_tells range s why not =
+    let ts = current_tracks s.history in
+    let run = run_of range.track ts in
+    let long = longest_of (take range.count run) in
+    let lack = lacks range.track (track_of range.track ts) in
+    let narrow = too_narrow (length run) range.count in
+    let bad = bad_range range.from range.to long in
+    ⊎_elim
+    (λ own. tests_tell (cut_refusal range ts) why
+    (either_tells lack (narrow otherwise bad) (lacks_tells range.track (track_of range.track ts))
+    (either_tells narrow bad (narrow_tells (length run) range.count) (range_tells range.from range.to long))) own)
+    (λ memory. subst IsUndamaged (sym memory) tt)
+    not
+
+-- the tests of the model's state are those of the run
+pub run_tests_are : (src : Sources) (id n from to m next track : ℕ) (ts : List Track) → AreAbove 1 ts
+    → AllSoundTracks m next track ts → (o : Option Track) → track_of id ts ≡ o
+    → ((refused_if (is_empty (tracks_from id (meant src ts))) (refusal.NoTrack id)) otherwise
+    (too_narrow (length (tracks_from id (meant src ts))) n)
+    otherwise (bad_range from to (longest (take n (tracks_from id (meant src ts))))))
+    ≡ ((lacks id o) otherwise (copy_tests (run_of id ts) n from to))
+run_tests_are src id n from to m next track ts above sound None found =
+    let first = lacks_is src id ts ∙ ap (lacks id) found in
+    let rest = tracks_from id (meant src ts) in
+    λ i. (first i) otherwise (too_narrow (length rest) n) otherwise (bad_range from to (longest (take n rest)))
+run_tests_are src id n from to m next track ts above sound (Some t) found =
+    let first = lacks_is src id ts ∙ ap (lacks id) found in
+    let run = from_track id ts in
+    let mean = run_meant src id ts in
+    let layouts = run_is id 1 ts t above found in
+    let few : length (tracks_from id (meant src ts)) ≡ length (run_of id ts) =
+    ap length mean ∙ length-map run (meant_track src) ∙ sym (ap length layouts ∙ length-map run layout_of) in
+    let long : longest (take n (tracks_from id (meant src ts))) ≡ longest_of (take n (run_of id ts)) =
+    ap (λ (p : Project). longest (take n p)) mean
+    ∙ longest_is m next track src n run (from_sound m next track id ts sound)
+    ∙ sym (ap (λ (z : List (List Clip)). longest_of (take n z)) layouts) in
+    λ i. (first i) otherwise (too_narrow (few i) n) otherwise (bad_range from to (long i))
+
+-- a track that is not lacking is there
+pub there_of : (id : ℕ) (ts : List Track) (rest : Option Refusal) (o : Option Track) → track_of id ts ≡ o
+    → (lacks id o) otherwise rest ≡ None → (t : Track) × (track_of id ts ≡ Some t)
+there_of id ts rest None found none = absurd (none-some (refusal.NoTrack id) (sym none))
+there_of id ts rest (Some t) found none = (t, found)

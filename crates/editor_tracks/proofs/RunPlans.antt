@@ -1,0 +1,261 @@
+-- A run of tracks laid out by plans: what holds of the new project, and of the blocks that are to be made for it.
+use Rattle.std.proofs.Common.{◌≡◌, inl, inr, ⊎_elim, refl, sym, subst, ℕ, ◌+◌, ◌*◌, ◌≤◌}
+use Rattle.std.proofs.Common.{List, [], ◌∷◌, ◌++◌, length, length-append, map, drop, Contains, arith}
+use Rattle.std.specs.List.{AllByRecursion}
+use Rattle.std.proofs.lemmas.Bool.Decides.{leb_tells}
+use Rattle.std.proofs.lemmas.List.{map-append}
+use Rattle.pcm_base.specs.declared.block.BlockRef.{BlockRef}
+use Rattle.pcm_base.specs.declared.sound.Cell.{Cell}
+use Rattle.pcm_base.specs.Pieces.{Sources}
+use Rattle.clip_track.specs.Clips.{AllHalfFull, IsLayout, layout_blocks}
+use Rattle.edit_ops.specs.declared.types.NewBlock.{NewBlock}
+use Rattle.edit_ops.specs.declared.types.Plan.{Plan}
+use Rattle.edit_ops.specs.Plans.{AllNewFrom, AreNew, AreOldOrNew, AreWritten, IsPlan, Means, Start, ref_of}
+use Rattle.project_state.specs.declared.track.Track.{Track}
+use Rattle.project_state.specs.Meaning.{point_blocks}
+use Rattle.record_body.specs.Sound.{AllClipsGiven, AllSoundTracks, IsSoundTrack}
+use Rattle.project_state.specs.Tracks.{AreAbove}
+use Rattle.record_body.proofs.KeptBounds.{all_append}
+use Rattle.editor_state.specs.Edits.{AreAmong}
+use Rattle.editor_tracks.specs.RunEdits.{AreLayouts, laid_by, laid_from, made_by}
+use Rattle.editor_state.specs.Studios.{IsGiven}
+use Rattle.editor_state.proofs.Blocks.BlockLists.{contained}
+use Rattle.editor_state.proofs.Lists.{all_left, all_right}
+use Rattle.editor_blocks.proofs.StudioBlocks.{refs}
+use Rattle.editor_blocks.proofs.PlanBlocks.{ids_clips, new_from_more, old_or_new}
+
+-- ---- plans, one for each track, each begun at the next id of the one before
+
+-- what is made of the cells of a track
+abbrev pub CellEdit : Type 0
+CellEdit = Sources → List Cell → List Cell
+
+pub record IsLaid (f : CellEdit) (m next : ℕ) (xs : List BlockRef) (t : Track) (p : Plan) : Type 0 where
+  pub plan : IsPlan (record { block_size = m; next = next }) xs 0 p
+  pub cells : Means f t.layout p
+  pub few : length p.makes ≤ 8
+
+abbrev pub AreLaid : List CellEdit → ℕ → ℕ → List BlockRef → List Track → List Plan → Type 0
+AreLaid [] m next xs ts [] = Unit {0}
+AreLaid [] m next xs ts (p ∷ ps) = ⊥
+AreLaid (f ∷ fs) m next xs [] [] = Unit {0}
+AreLaid (f ∷ fs) m next xs [] (p ∷ ps) = ⊥
+AreLaid (f ∷ fs) m next xs (t ∷ ts) [] = ⊥
+AreLaid (f ∷ fs) m next xs (t ∷ ts) (p ∷ ps) = IsLaid f m next xs t p × AreLaid fs m p.next xs ts ps
+
+-- the edits, by the samples of the blocks
+abbrev pub edits_at : Sources → List CellEdit → List (List Cell → List Cell)
+edits_at src fs = map (λ (f : CellEdit). f src) fs
+
+-- ---- a plan of some blocks is one of more
+
+old_or_new_more : (a xs : List BlockRef) (bs : List BlockRef) (ns : List NewBlock) → AreAmong xs a → AreOldOrNew a bs ns
+    → AreOldOrNew xs bs ns
+old_or_new_more a xs [] [] among h = tt
+old_or_new_more a xs [] (n ∷ ns) among h = absurd h
+old_or_new_more a xs (b ∷ bs) [] among h = (contained (Contains xs) a b among h.0, old_or_new_more a xs bs [] among h.1)
+old_or_new_more a xs (b ∷ bs) (n ∷ ns) among h = ⊎_elim
+    (λ was. inl (contained (Contains xs) a b among was.0, old_or_new_more a xs bs (n ∷ ns) among was.1))
+    (λ new. inr (new.0, old_or_new_more a xs bs ns among new.1))
+    h
+
+pub plan_more : (start : Start) (a xs : List BlockRef) (p : Plan) → AreAmong xs a → IsPlan start a 0 p
+    → IsPlan start xs 0 p
+plan_more start a xs p among plan = record {
+  half_full = plan.half_full;
+  new = plan.new;
+  origin = new_from_more a xs 0 p.makes among plan.origin;
+  blocks = old_or_new_more a xs (layout_blocks p.layout) p.makes among plan.blocks;
+  next_id = plan.next_id;
+}
+
+-- ---- the blocks that are to be made for them
+
+new_joined : (m next : ℕ) (ks bs : List NewBlock) → AreNew m next ks → AreNew m (next + length ks) bs
+    → AreNew m next (ks ++ bs)
+new_joined m next [] bs a b = subst (λ (k : ℕ). AreNew m k bs) (omega arith) b
+new_joined m next (x ∷ ks) bs a b =
+    (a.0, a.1, a.2, a.3, a.4, new_joined m (next + 1) ks bs a.5 (subst (λ (k : ℕ). AreNew m k bs) (omega arith) b))
+
+from_joined : (xs : List BlockRef) (count : ℕ) (ks bs : List NewBlock) → AllNewFrom xs count ks → AllNewFrom xs count bs
+    → AllNewFrom xs count (ks ++ bs)
+from_joined xs count [] bs a b = b
+from_joined xs count (x ∷ ks) bs a b = (a.0, from_joined xs count ks bs a.1 b)
+
+pub written_left : (src : Sources) (ks bs : List NewBlock) → AreWritten src (ks ++ bs) → AreWritten src ks
+written_left src [] bs h = tt
+written_left src (a ∷ ks) bs h = (h.0, written_left src ks bs h.1)
+
+pub written_right : (src : Sources) (ks bs : List NewBlock) → AreWritten src (ks ++ bs) → AreWritten src bs
+written_right src [] bs h = h
+written_right src (a ∷ ks) bs h = written_right src ks bs h.1
+
+pub laid_new : (fs : List CellEdit) (m next : ℕ) (xs : List BlockRef) (ts : List Track) (ps : List Plan)
+    → AreLaid fs m next xs ts ps → AreNew m next (made_by ps)
+laid_new [] m next xs ts [] laid = tt
+laid_new [] m next xs ts (p ∷ ps) laid = absurd laid
+laid_new (f ∷ fs) m next xs [] [] laid = tt
+laid_new (f ∷ fs) m next xs [] (p ∷ ps) laid = absurd laid
+laid_new (f ∷ fs) m next xs (t ∷ ts) [] laid = absurd laid
+laid_new (f ∷ fs) m next xs (t ∷ ts) (p ∷ ps) laid =
+    new_joined m next p.makes (made_by ps) laid.0.plan.new
+    (subst (λ (k : ℕ). AreNew m k (made_by ps)) laid.0.plan.next_id (laid_new fs m p.next xs ts ps laid.1))
+
+pub laid_origin : (fs : List CellEdit) (m next : ℕ) (xs : List BlockRef) (ts : List Track) (ps : List Plan)
+    → AreLaid fs m next xs ts ps → AllNewFrom xs 0 (made_by ps)
+laid_origin [] m next xs ts [] laid = tt
+laid_origin [] m next xs ts (p ∷ ps) laid = absurd laid
+laid_origin (f ∷ fs) m next xs [] [] laid = tt
+laid_origin (f ∷ fs) m next xs [] (p ∷ ps) laid = absurd laid
+laid_origin (f ∷ fs) m next xs (t ∷ ts) [] laid = absurd laid
+laid_origin (f ∷ fs) m next xs (t ∷ ts) (p ∷ ps) laid =
+    from_joined xs 0 p.makes (made_by ps) laid.0.plan.origin (laid_origin fs m p.next xs ts ps laid.1)
+
+pub laid_few : (fs : List CellEdit) (m next : ℕ) (xs : List BlockRef) (ts : List Track) (ps : List Plan)
+    → AreLaid fs m next xs ts ps → length (made_by ps) ≤ 8 * length fs
+laid_few [] m next xs ts [] laid = omega arith
+laid_few [] m next xs ts (p ∷ ps) laid = absurd laid
+laid_few (f ∷ fs) m next xs [] [] laid = omega arith
+laid_few (f ∷ fs) m next xs [] (p ∷ ps) laid = absurd laid
+laid_few (f ∷ fs) m next xs (t ∷ ts) [] laid = absurd laid
+laid_few (f ∷ fs) m next xs (t ∷ ts) (p ∷ ps) laid =
+    omega (arith, length-append p.makes (made_by ps), laid.0.few, laid_few fs m p.next xs ts ps laid.1)
+
+-- a plan for each, where there are as many tracks
+pub laid_many : (fs : List CellEdit) (m next : ℕ) (xs : List BlockRef) (ts : List Track) (ps : List Plan)
+    → AreLaid fs m next xs ts ps → length fs ≤ length ts → length ps ≡ length fs
+laid_many [] m next xs ts [] laid few = refl
+laid_many [] m next xs ts (p ∷ ps) laid few = absurd laid
+laid_many (f ∷ fs) m next xs [] ps laid few = absurd (omega (arith, few))
+laid_many (f ∷ fs) m next xs (t ∷ ts) [] laid few = absurd laid
+laid_many (f ∷ fs) m next xs (t ∷ ts) (p ∷ ps) laid few =
+    omega (arith, laid_many fs m p.next xs ts ps laid.1 (omega (arith, few)))
+
+-- what holds of the blocks that the plans are of, and of the new ones, holds of those of each layout
+abbrev pub LayoutsAll : (BlockRef → Type 0) → List Plan → Type 0
+LayoutsAll P ps = AllByRecursion (λ (p : Plan). AllByRecursion P (layout_blocks p.layout)) ps
+
+pub laid_all : (P : BlockRef → Type 0) (fs : List CellEdit) (m next : ℕ) (xs : List BlockRef) (ts : List Track)
+    (ps : List Plan) → AreLaid fs m next xs ts ps
+    → AllByRecursion P xs → AllByRecursion P (refs (made_by ps)) → LayoutsAll P ps
+laid_all P [] m next xs ts [] laid old new = tt
+laid_all P [] m next xs ts (p ∷ ps) laid old new = absurd laid
+laid_all P (f ∷ fs) m next xs [] [] laid old new = tt
+laid_all P (f ∷ fs) m next xs [] (p ∷ ps) laid old new = absurd laid
+laid_all P (f ∷ fs) m next xs (t ∷ ts) [] laid old new = absurd laid
+laid_all P (f ∷ fs) m next xs (t ∷ ts) (p ∷ ps) laid old new =
+    let parts = subst (AllByRecursion P) (map-append ref_of p.makes (made_by ps)) new in (
+      old_or_new P xs (layout_blocks p.layout) p.makes laid.0.plan.blocks old
+          (all_left P (refs p.makes) (refs (made_by ps)) parts),
+      laid_all P fs m p.next xs ts ps laid.1 old (all_right P (refs p.makes) (refs (made_by ps)) parts),
+    )
+
+abbrev pub HalfFull : ℕ → List Plan → Type 0
+HalfFull m ps = AllByRecursion (λ (p : Plan). AllHalfFull m p.layout) ps
+
+pub laid_half_full : (fs : List CellEdit) (m next : ℕ) (xs : List BlockRef) (ts : List Track) (ps : List Plan)
+    → AreLaid fs m next xs ts ps → HalfFull m ps
+laid_half_full [] m next xs ts [] laid = tt
+laid_half_full [] m next xs ts (p ∷ ps) laid = absurd laid
+laid_half_full (f ∷ fs) m next xs [] [] laid = tt
+laid_half_full (f ∷ fs) m next xs [] (p ∷ ps) laid = absurd laid
+laid_half_full (f ∷ fs) m next xs (t ∷ ts) [] laid = absurd laid
+laid_half_full (f ∷ fs) m next xs (t ∷ ts) (p ∷ ps) laid =
+    (laid.0.plan.half_full, laid_half_full fs m p.next xs ts ps laid.1)
+
+-- ---- the tracks
+
+id_by : (ps : List Plan) (number : ℕ) (t : Track) → (laid_by ps number t).id ≡ t.id
+id_by [] number t = refl
+id_by (p ∷ ps) number t = refl
+
+pub laid_length : (id : ℕ) (ps : List Plan) (number : ℕ) (ts : List Track)
+    → length (laid_from id ps number ts) ≡ length ts
+laid_length id ps number [] = refl
+laid_length id ps number (t ∷ ts) = ⊎_elim
+    (λ in_run. rw (in_run.0) (omega (arith, laid_length id (drop 1 ps) (number + 1) ts)))
+    (λ before. rw (before.0) (omega (arith, laid_length id ps number ts)))
+    (leb_tells id t.id)
+
+pub laid_rising : (id n : ℕ) (ps : List Plan) (number : ℕ) (ts : List Track) → AreAbove n ts
+    → AreAbove n (laid_from id ps number ts)
+laid_rising id n ps number [] above = tt
+laid_rising id n ps number (t ∷ ts) above = ⊎_elim
+    (λ in_run.
+    let same = id_by ps number t in
+    rw (in_run.0) (
+      omega (arith, same, above.0),
+      subst (λ (k : ℕ). AreAbove (k + 1) (laid_from id (drop 1 ps) (number + 1) ts))
+          (sym same) (laid_rising id (t.id + 1) (drop 1 ps) (number + 1) ts above.1),
+    ))
+    (λ before. rw (before.0) (above.0, laid_rising id (t.id + 1) ps number ts above.1))
+    (leb_tells id t.id)
+
+module _ (P : BlockRef → Type 0) where
+  all_by : (ps : List Plan) (number : ℕ) (t : Track) → LayoutsAll P ps → AllByRecursion P (layout_blocks t.layout)
+      → AllByRecursion P (layout_blocks (laid_by ps number t).layout)
+  all_by [] number t laid all = all
+  all_by (p ∷ ps) number t laid all = laid.0
+
+  rest_all : (ps : List Plan) → LayoutsAll P ps → LayoutsAll P (drop 1 ps)
+  rest_all [] laid = tt
+  rest_all (p ∷ ps) laid = laid.1
+
+  pub laid_names : (id : ℕ) (ps : List Plan) (number : ℕ) (ts : List Track) → LayoutsAll P ps
+      → AllByRecursion P (point_blocks ts) → AllByRecursion P (point_blocks (laid_from id ps number ts))
+  laid_names id ps number [] laid all = tt
+  laid_names id ps number (t ∷ ts) laid all =
+      let here = all_left P (layout_blocks t.layout) (point_blocks ts) all in
+      let later = all_right P (layout_blocks t.layout) (point_blocks ts) all in
+      ⊎_elim
+      (λ in_run. rw (in_run.0) (all_append P (layout_blocks (laid_by ps number t).layout)
+      (point_blocks (laid_from id (drop 1 ps) (number + 1) ts)) (all_by ps number t laid here)
+      (laid_names id (drop 1 ps) (number + 1) ts (rest_all ps laid) later)))
+      (λ before. rw (before.0) (all_append P (layout_blocks t.layout) (point_blocks (laid_from id ps number ts)) here
+      (laid_names id ps number ts laid later)))
+      (leb_tells id t.id)
+
+-- a plan whose layout a track of the project may have
+pub record IsSoundPlan (m next : ℕ) (p : Plan) : Type 0 where
+  pub layout : IsLayout p.layout
+  pub half_full : AllHalfFull m p.layout
+  pub blocks : AllClipsGiven next p.layout
+
+abbrev pub AreSoundPlans : ℕ → ℕ → List Plan → Type 0
+AreSoundPlans m next ps = AllByRecursion (IsSoundPlan m next) ps
+
+pub sound_plans : (m next : ℕ) (ps : List Plan) → AreLayouts ps → HalfFull m ps
+    → LayoutsAll (λ (b : BlockRef). IsGiven next b.id) ps → AreSoundPlans m next ps
+sound_plans m next [] layouts half all = tt
+sound_plans m next (p ∷ ps) layouts half all = (
+  record { layout = layouts.0; half_full = half.0; blocks = ids_clips next p.layout all.0 },
+  sound_plans m next ps layouts.1 half.1 all.1,
+)
+
+module _ (m next track : ℕ) where
+  sound_by : (ps : List Plan) (number : ℕ) (t : Track) → AreSoundPlans m next ps → IsSoundTrack m next track t
+      → IsSoundTrack m next track (laid_by ps number t)
+  sound_by [] number t plans sound = sound
+  sound_by (p ∷ ps) number t plans sound =
+      record {
+        given = sound.given;
+        gain = sound.gain;
+        layout = plans.0.layout;
+        half_full = plans.0.half_full;
+        blocks = plans.0.blocks;
+      }
+
+  rest_sound : (ps : List Plan) → AreSoundPlans m next ps → AreSoundPlans m next (drop 1 ps)
+  rest_sound [] plans = tt
+  rest_sound (p ∷ ps) plans = plans.1
+
+  pub laid_sound : (id : ℕ) (ps : List Plan) (number : ℕ) (ts : List Track) → AreSoundPlans m next ps
+      → AllSoundTracks m next track ts → AllSoundTracks m next track (laid_from id ps number ts)
+  laid_sound id ps number [] plans all = tt
+  laid_sound id ps number (t ∷ ts) plans all = ⊎_elim
+      (λ in_run. rw (in_run.0) (
+        sound_by ps number t plans all.0,
+        laid_sound id (drop 1 ps) (number + 1) ts (rest_sound ps plans) all.1,
+      ))
+      (λ before. rw (before.0) (all.0, laid_sound id ps number ts plans all.1))
+      (leb_tells id t.id)

@@ -1,0 +1,174 @@
+-- An edit of one track by a plan, as an edit that makes blocks.
+use Rattle.std.proofs.Common.{◌≡◌, ⊎_elim, refl, sym, ap, ◌∙◌, subst, ℕ, suc, ◌+◌, ◌*◌, ◌≤◌, ◌<◌, ◌==◌, ℤ}
+use Rattle.std.proofs.Common.{if◌then◌else◌}
+use Rattle.std.proofs.Common.{Option, Some}
+use Rattle.std.proofs.Common.{None, List, [], ◌∷◌, length, Err, arith, mul-le-mul_left}
+use Rattle.pcm_base.specs.declared.command.Call.{Call}
+use Rattle.pcm_base.specs.declared.entry.SoundMove.{SoundMove}
+use Rattle.pcm_base.specs.declared.refusal.Refusal.{Refusal}
+use Rattle.pcm_base.specs.declared.refusal.Refusal.TheVariants as refusal
+use Rattle.pcm_base.specs.declared.refusal.Refusal.TheVariants.{NoTrack}
+use Rattle.pcm_base.specs.declared.sound.Cell.{Cell}
+use Rattle.pcm_base.specs.Cells.{Project, tracks_from, cells_at, with_cells, edited_at, changed_at}
+use Rattle.pcm_base.specs.History.{recorded}
+use Rattle.pcm_base.specs.Pieces.{Sources}
+use Rattle.pcm_base.specs.Refusals.{◌otherwise◌, call_tests, refused_if, is_empty}
+use Rattle.pcm_base.specs.Run.{outside, stop_of}
+use Rattle.pcm_base.specs.State.{current}
+use Rattle.pcm_base.specs.Studio as model
+use Rattle.disk_model.specs.declared.store.Store.{Ghosts}
+use Rattle.disk_model.proofs.Frames.{Fewer}
+use Rattle.sample_block.specs.Sources.{samples_on}
+use Rattle.clip_track.specs.Clips.{layout_cells, end_of}
+use Rattle.clip_track.proofs.Layouts.{length-layout}
+use Rattle.edit_ops.specs.declared.types.NewBlock.{NewBlock}
+use Rattle.piece_store.specs.declared.given.Given.{Given}
+use Rattle.piece_store.specs.Bringing.{brought, brought_by, brought_count}
+use Rattle.project_state.specs.declared.track.Track.{Track}
+use Rattle.record_body.specs.Kept.{current_tracks}
+use Rattle.project_state.specs.Meaning.{meant}
+use Rattle.record_body.specs.KeptSound.{IsSoundPoint}
+use Rattle.record_body.specs.Sound.{AllSoundTracks}
+use Rattle.project_state.specs.Tracks.{track_of}
+use Rattle.project_state.proofs.MeantHistories.{meant_recorded}
+use Rattle.editor_state.specs.declared.planned.Planned.{Planned}
+use Rattle.editor_state.specs.Core.{Core}
+use Rattle.editor_state.specs.Edits.{IsEdit, alone, IsEditCall, clip_then, tagged_by}
+use Rattle.editor_state.specs.Points.{lacks}
+use Rattle.editor_state.specs.Studios.{IsStudio, studio_by, studio_of, clip_cells}
+use Rattle.editor_state.specs.Took.{Took, with_sound}
+use Rattle.editor_tracks.specs.TrackEdits.{IsTrackCall, IsTrackPlan, NoTrackPlan, TrackEdit, track_command}
+use Rattle.editor_tracks.specs.TrackEdits.{track_refusal}
+use Rattle.editor_commits.proofs.CursorTracks.{cells_meant}
+use Rattle.editor_commits.proofs.CurrentProject.{current_sound}
+use Rattle.editor_state.proofs.Refusals.CommitTests.{early}
+use Rattle.editor_state.proofs.Calls.FileRemovals.{commit_frees, commit_removes_none}
+use Rattle.editor_state.proofs.Refusals.EarlyRefusals.{refuses, wants}
+use Rattle.editor_tracks.proofs.TrackPlans.{point_means}
+use Rattle.editor_commits.proofs.TrackChanges.{current_is, lacks_is, sound_of}
+use Rattle.editor_state.proofs.Refusals.CounterNumbers.{early_needed}
+
+-- ---- what refuses the edit of a track
+
+refusal_is : (src : Sources) (id : ℕ) (test : ℕ → Option Refusal) (m next track : ℕ) (ts : List Track)
+    → AllSoundTracks m next track ts → (o : Option Track) → track_of id ts ≡ o
+    → ((refused_if (is_empty (tracks_from id (meant src ts))) (NoTrack id)) otherwise
+    (test (length (cells_at id (meant src ts))))) ≡ track_refusal id test o
+refusal_is src id test m next track ts sound None found =
+    let first = lacks_is src id ts ∙ ap (lacks id) found in
+    λ i. (first i) otherwise (test (length (cells_at id (meant src ts))))
+refusal_is src id test m next track ts sound (Some t) found =
+    let first = lacks_is src id ts ∙ ap (lacks id) found in
+    let is = sound_of m next track id ts t found sound in
+    let long : length (cells_at id (meant src ts)) ≡ end_of 0 t.layout =
+    ap length (cells_meant src id ts t found) ∙ length-layout src t.layout is.layout.apart in
+    λ i. (first i) otherwise (test (long i))
+
+edited_changed : (id : ℕ) (f : List Cell → List Cell) (p : Project) → edited_at id f p ≡ changed_at id (with_cells f) p
+edited_changed id f [] = refl
+edited_changed id f (t ∷ ts) =
+    let rest = edited_changed id f ts in
+    λ i. if t.id == id then with_cells f t ∷ ts else t ∷ rest i
+
+-- as few bytes as this many records have
+least_needs : (more low high : ℕ) {most : ℕ} → (0 ≤ most) × (5 * more ≤ 5 * more) × (5 * more ≤ more * (5 + low) + high)
+least_needs more low high =
+    let fives : more * 5 ≤ more * (5 + low) = mul-le-mul_left more (omega arith) in
+    (omega arith, omega arith, omega (arith, fives))
+
+module _ {D : Type 0} (disk : Ghosts D) (s : Core D) (is : IsStudio disk s) (c : Call) (sound : SoundMove)
+    (e : TrackEdit) (given : Given) (id tag more : ℕ)
+    (line : IsTrackCall c sound (track_command e given id tag more)) where
+  abbrev old : List Track
+  old = current_tracks s.history
+
+  abbrev t : model.Studio
+  t = studio_of disk s
+
+  abbrev found : Option Track
+  found = track_of id old
+
+  old_sound : IsSoundPoint s.block_size s.next_block s.next_track old
+  old_sound = current_sound disk s is
+
+  own_is : (block : ℕ → ℕ → ℤ) → call_tests (outside (studio_by (alone block) disk s) sound)
+      (studio_by (alone block) disk s).state c ≡ track_refusal id e.test found
+  own_is block =
+      let src = alone block in
+      let u = studio_by src disk s in
+      line.own (outside u sound) u.state
+      ∙ ap (λ (q : Project). (refused_if (is_empty (tracks_from id q)) (NoTrack id)) otherwise
+      (e.test (length (cells_at id q)))) (current_is src s.history)
+      ∙ refusal_is src id e.test s.block_size s.next_block s.next_track old old_sound.sound found refl
+
+  -- ---- a stopped studio, a test of the edit, or memory
+
+  early_refused : (why : Refusal) → Fewer disk s.store → more < 64
+      → ((stop_of s.stopped) otherwise (track_refusal id e.test found)) ≡ Some why
+      → Took disk s (with_sound c sound (Err why)) s
+  early_refused why fewer few h =
+      let own = own_is (samples_on (disk.reads s.store)) in
+      let first : ((stop_of s.stopped) otherwise (call_tests (outside t sound) t.state c)) ≡ Some why =
+      (λ i. (stop_of s.stopped) otherwise (own i)) ∙ h in
+      refuses disk s c sound why is fewer (commit_frees disk s c (Err why) s line.call.commit.many)
+      line.call.commit.quiet (5 * more) (λ off. omega (arith, few)) 0
+      (λ held. line.call.needs t.rate t 0 (5 * more) (least_needs more _ _))
+      (early t c sound 0 line.call.commit 0 (5 * more) why first) (early_needed disk s c sound why first)
+
+  pub track_stopped : (faults : ℕ) → Fewer disk s.store → more < 64 → s.stopped ≡ Some faults
+      → Took disk s (with_sound c sound (Err (refusal.Stopped faults))) s
+  track_stopped faults fewer few at =
+      early_refused (refusal.Stopped faults) fewer few (λ i. (stop_of (at i)) otherwise (track_refusal id e.test found))
+
+  pub track_refused : (why : Refusal) → Fewer disk s.store → more < 64 → s.stopped ≡ None
+      → NoTrackPlan e id old why
+      → Took disk s (with_sound c sound (Err why)) s
+  track_refused why fewer few going not = ⊎_elim
+      (λ own. early_refused why fewer few ((λ i. (stop_of (going i)) otherwise (track_refusal id e.test found)) ∙ own))
+      (λ memory.
+      subst (λ (r : Refusal). Took disk s (with_sound c sound (Err r)) s) (sym memory)
+      (wants disk s c sound is fewer (commit_removes_none c line.call.commit.many) line.call.commit.quiet (5 * more)
+      (λ held. (0, line.call.needs t.rate t 0 (5 * more) (least_needs more _ _)))))
+      not
+
+  -- ---- what the call means
+
+  module _ (planned : Planned) (p : IsTrackPlan e (brought_count given) id s planned) (none : planned.tracks ≡ 0)
+      (keeps : planned.clip ≡ None) where
+    pub track_edit : IsEdit disk s c sound (tagged_by planned tag more (brought_by given) (brought given))
+    track_edit = record {
+      most = λ m st. e.most m (cells_at id (current st));
+      call =
+          subst (λ (k : ℕ). IsEditCall c sound k more (λ m st. e.most m (cells_at id (current st)))) (sym none)
+          line.call;
+      few = λ block.
+          let src = alone block in
+          let cells : cells_at id (current (studio_by src disk s).state) ≡ layout_cells src p.track.layout =
+          ap (cells_at id) (current_is src s.history) ∙ cells_meant src id old p.track p.found in
+          subst (λ (bs : List NewBlock). length bs
+          ≤ e.most s.block_size (cells_at id (current (studio_by src disk s).state))) (sym p.makes_is)
+          (subst (λ (xs : List Cell). length p.plan.makes ≤ e.most s.block_size xs) (sym cells) (p.few src));
+      own = λ block. own_is block ∙ (λ i. track_refusal id e.test (p.found i)) ∙ p.tests;
+      layouts = λ block.
+          let u = studio_by (alone block) disk s in line.layouts_is (outside u sound) u.state ∙ sym p.layouts_is;
+      means = λ block written.
+          let src = alone block in
+          let u = studio_by src disk s in
+          let now_state = u.state in
+          let f = e.cells (brought given) in
+          let point : edited_at id f (current now_state) ≡ meant src planned.point =
+          ap (edited_at id f) (current_is src s.history) ∙ edited_changed id f (meant src old)
+          ∙ sym (point_means disk s is e given id planned p block written) in
+          let same : s.next_track ≡ s.next_track + planned.tracks = omega (arith, none) in
+          line.after_is (outside u sound) now_state
+          ∙ (λ i. record now_state {
+            history = recorded now_state.history (point i) tag;
+            commit = s.commit_number + suc more;
+          })
+          ∙ (λ i. record now_state {
+            history = sym (meant_recorded src s.history planned.point tag) i;
+            clipboard = clip_cells src (clip_then (sym keeps i) s.clipboard);
+            next_track = same i;
+            commit = s.commit_number + suc more;
+          });
+    }

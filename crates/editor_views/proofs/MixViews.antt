@@ -1,0 +1,202 @@
+-- Hearing frames of the mix of the current project, or of a pin.
+use Rattle.std.proofs.Common.{◌≡◌, ⊎_elim, refl, sym, ap, ◌∙◌, ℕ, zero, suc, ◌+◌, ◌-◌, min, IsTrue, List, length}
+use Rattle.std.proofs.Common.{length-drop, take, drop, Some, None, Ok, Err, arith}
+use Rattle.std.proofs.lemmas.Bool.{cases_lt}
+use Rattle.std.proofs.lemmas.List.{length-map, take_all}
+use Rattle.pcm_base.specs.declared.answer.Reply.TheVariants as reply
+use Rattle.pcm_base.specs.declared.command.Call.{Call}
+use Rattle.pcm_base.specs.declared.command.Call.TheVariants.{Line, PinLen, ReadPin}
+use Rattle.pcm_base.specs.declared.command.Command.TheVariants as command
+use Rattle.pcm_base.specs.declared.refusal.Refusal.{Refusal}
+use Rattle.pcm_base.specs.declared.refusal.Refusal.TheVariants as refusal
+use Rattle.pcm_base.specs.declared.sound.Frame.{Frame}
+use Rattle.pcm_base.specs.Arithmetic.{counted_from}
+use Rattle.pcm_base.specs.Cells.{Project}
+use Rattle.pcm_base.specs.Edits.{part}
+use Rattle.pcm_base.specs.Mix.{mix_of, mix_length, frame_at}
+use Rattle.pcm_base.specs.Pieces.{Sources}
+use Rattle.pcm_base.specs.Refusals.{bad_view}
+use Rattle.pcm_base.specs.Run.{stop_of}
+use Rattle.pcm_base.specs.Studio as model
+use Rattle.disk_model.specs.Frames.{Kept}
+use Rattle.disk_model.specs.declared.store.Store.{Ghosts}
+use Rattle.disk_model.proofs.Frames.{Fewer}
+use Rattle.sample_block.specs.Sources.{sources_of}
+use Rattle.block_store.specs.declared.fault.BlockFault.{BlockFault}
+use Rattle.block_store.specs.Reads.{CountedBy, IsFaultIn}
+use Rattle.block_store.specs.Reasons.{reason_of}
+use Rattle.envelope_view.proofs.AnswerLaws.{reason_damaged}
+use Rattle.mix_view.specs.Tracks.{mix_length_of}
+use Rattle.project_state.specs.declared.track.Track.{Track}
+use Rattle.record_body.specs.Kept.{current_tracks}
+use Rattle.project_state.specs.Meaning.{meant, point_blocks}
+use Rattle.block_cache.specs.Caches.{Entries}
+use Rattle.editor_state.specs.Core.{Core}
+use Rattle.editor_views.specs.Pins.{LacksPin, MayFind}
+use Rattle.editor_state.specs.Studios.{IsHeld, IsStudio, named_blocks, studio_of}
+use Rattle.editor_state.specs.Took.{Took, quietly}
+use Rattle.editor_commits.proofs.CursorTracks.{current_named}
+use Rattle.editor_commits.proofs.CurrentProject.{current_meant}
+use Rattle.editor_state.proofs.Calls.LookCalls.{looked_ok, looked_failed}
+use Rattle.editor_state.proofs.Blocks.BlockDamage.{fault_among}
+use Rattle.editor_state.proofs.Calls.QuietCalls.{IsQuiet, quiet_passes, carried, room_of, refused_own, refused_stopped}
+use Rattle.editor_state.proofs.Calls.QuietCalls.{stays_answered}
+use Rattle.editor_state.proofs.Refusals.CommitTests.{fits}
+use Rattle.editor_views.proofs.UnpinSteps.{lacks_own, pin_meant, pin_named, has_own}
+use Rattle.editor_state.proofs.Blocks.CachePages.{ReadsNamed}
+
+counted_length : (from n : ℕ) → length (counted_from from n) ≡ n
+counted_length from zero = refl
+counted_length from (suc n) = omega (arith, counted_length (from + 1) n)
+
+frames_count : (p : Project) → length (mix_of p) ≡ mix_length p
+frames_count p = length-map (counted_from 0 (mix_length p)) (frame_at p) ∙ counted_length 0 (mix_length p)
+
+take_few : {A : Type 0} (n most : ℕ) (xs : List A) → n ≡ min most (length xs) → take n xs ≡ take most xs
+take_few n most xs few = ⊎_elim
+    (λ less. take_all n xs (omega (arith, few, less)) ∙ sym (take_all most xs (omega (arith, less))))
+    (λ more. ap (λ (k : ℕ). take k xs) (omega (arith, few, more)))
+    (cases_lt (length xs) most)
+
+-- this many frames, as many as there are
+pub as_many : (src : Sources) (ts : List Track) (from most n : ℕ) → n ≡ min most (mix_length_of ts - from)
+    → mix_length (meant src ts) ≡ mix_length_of ts
+    → take n (drop from (mix_of (meant src ts))) ≡ take most (drop from (mix_of (meant src ts)))
+as_many src ts from most n few len =
+    let frames = mix_of (meant src ts) in
+    take_few n most (drop from frames) (omega (arith, few, len, frames_count (meant src ts), length-drop from frames))
+
+module _ {D : Type 0} (disk : Ghosts D) (s : Core D) (is : IsStudio disk s) (fewer : Fewer disk s.store) where
+  abbrev src : Sources
+  src = sources_of (disk.reads s.store)
+
+  abbrev t : model.Studio
+  t = studio_of disk s
+
+  -- ---- the current project
+
+  module _ (from to : ℕ) where
+    abbrev mix : Call
+    mix = Line (command.Mix from to)
+
+    mix_quiet : IsQuiet mix
+    mix_quiet = record {
+      needs = λ t. (refl, refl);
+      no_commit = refl;
+      no_track = λ t. refl;
+      no_layout = λ t. refl;
+      quiet = λ t. refl;
+    }
+
+    pub mix_stopped : (faults : ℕ) → s.stopped ≡ Some faults → Took disk s (quietly mix (Err (refusal.Stopped faults)))
+        s
+    mix_stopped faults stopped = refused_stopped disk s mix mix_quiet tt is fewer faults refl stopped
+
+    pub mix_beyond : (why : Refusal) → s.stopped ≡ None → bad_view from to ≡ Some why
+        → Took disk s (quietly mix (Err why)) s
+    mix_beyond why going bad = refused_own disk s mix mix_quiet tt is fewer why (ap stop_of going) bad
+
+    module _ (going : s.stopped ≡ None) (store : D) (kept : Kept disk s.store store) (cache : Entries) (keeps :
+        ReadsNamed disk s cache) where
+      pub mix_done : (frames : List Frame) → bad_view from to ≡ None
+          → disk.read_fault_count store ≡ disk.read_fault_count s.store
+          → (IsHeld disk s → frames ≡ part from to (mix_of (meant src (current_tracks s.history))))
+          → Took disk s (quietly mix (Ok (reply.Frames frames))) (record s { store = store; cache = cache })
+      mix_done frames good faults heard =
+          let room = room_of disk s mix is in
+          let passed = quiet_passes t mix mix_quiet room refl (ap stop_of going) good
+          (fits s.next_pin 0 (omega (arith, is.counters.pin_most))) in
+          looked_ok disk s is store kept cache keeps mix mix_quiet tt going tt (reply.Frames frames) faults
+          (λ held. carried t mix mix_quiet room refl (reply.Frames frames) t passed
+          (ap reply.Frames (heard held ∙ ap (λ (p : Project). part from to (mix_of p)) (sym (current_meant disk s is))))
+          refl)
+
+      pub mix_failed : (why : BlockFault) → CountedBy why (disk.read_fault_count s.store) (disk.read_fault_count store)
+          → (IsTrue (disk.tells s.store) → IsFaultIn (disk.reads s.store) (point_blocks (current_tracks s.history)) why)
+          → Took disk s (quietly mix (Err (reason_of why))) (record s { store = store; cache = cache })
+      mix_failed why counted damaged =
+          looked_failed disk s is store kept cache keeps mix mix_quiet tt going refl why counted
+          (λ told. reason_damaged (disk.reads s.store) (named_blocks s) why (fault_among (disk.reads s.store)
+          (named_blocks s) (point_blocks (current_tracks s.history)) why (current_named disk s is) (damaged told)))
+
+  -- ---- a pin
+
+  module _ (pin : ℕ) where
+    len_quiet : IsQuiet (PinLen pin)
+    len_quiet = record {
+      needs = λ t. (refl, refl);
+      no_commit = refl;
+      no_track = λ t. refl;
+      no_layout = λ t. refl;
+      quiet = λ t. refl;
+    }
+
+    pub len_stopped : (faults : ℕ) → s.stopped ≡ Some faults
+        → Took disk s (quietly (PinLen pin) (Err (refusal.Stopped faults))) s
+    len_stopped faults stopped = refused_stopped disk s (PinLen pin) len_quiet tt is fewer faults refl stopped
+
+    pub len_lacks : s.stopped ≡ None → LacksPin pin s.pins
+        → Took disk s (quietly (PinLen pin) (Err (refusal.NoPin pin))) s
+    len_lacks going lacks = refused_own disk s (PinLen pin) len_quiet tt is fewer (refusal.NoPin pin) (ap stop_of going)
+        (lacks_own disk s is pin lacks)
+
+    pub measured : s.stopped ≡ None → (point : List Track) (n : ℕ) → MayFind s.pins pin (Some point)
+        → mix_length (meant src point) ≡ n
+        → Took disk s (quietly (PinLen pin) (Ok (reply.Length n))) s
+    measured going point n found len =
+        let room = room_of disk s (PinLen pin) is in
+        let passed = quiet_passes t (PinLen pin) len_quiet room refl (ap stop_of going)
+        (has_own disk s is pin point found)
+        (fits s.next_pin 0 (omega (arith, is.counters.pin_most))) in
+        stays_answered disk s (PinLen pin) len_quiet tt is fewer tt (reply.Length n)
+        (λ held. carried t (PinLen pin) len_quiet room refl (reply.Length n) t passed (
+          meant src point,
+          pin_meant disk s is pin point found,
+          ap reply.Length (sym len),
+        ) refl)
+
+    module _ (from count : ℕ) where
+      abbrev read : Call
+      read = ReadPin pin from count
+
+      read_quiet : IsQuiet read
+      read_quiet = record {
+        needs = λ t. (refl, refl);
+        no_commit = refl;
+        no_track = λ t. refl;
+        no_layout = λ t. refl;
+        quiet = λ t. refl;
+      }
+
+      pub read_stopped : (faults : ℕ) → s.stopped ≡ Some faults
+          → Took disk s (quietly read (Err (refusal.Stopped faults))) s
+      read_stopped faults stopped = refused_stopped disk s read read_quiet tt is fewer faults refl stopped
+
+      pub read_lacks : s.stopped ≡ None → LacksPin pin s.pins → Took disk s (quietly read (Err (refusal.NoPin pin))) s
+      read_lacks going lacks = refused_own disk s read read_quiet tt is fewer (refusal.NoPin pin) (ap stop_of going)
+          (lacks_own disk s is pin lacks)
+
+      module _ (going : s.stopped ≡ None) (point : List Track) (found : MayFind s.pins pin (Some point)) (store : D)
+          (kept : Kept disk s.store store) (cache : Entries) (keeps : ReadsNamed disk s cache) where
+        pub read_done : (frames : List Frame) → disk.read_fault_count store ≡ disk.read_fault_count s.store
+            → (IsHeld disk s → frames ≡ take count (drop from (mix_of (meant src point))))
+            → Took disk s (quietly read (Ok (reply.Frames frames))) (record s { store = store; cache = cache })
+        read_done frames faults heard =
+            let room = room_of disk s read is in
+            let passed = quiet_passes t read read_quiet room refl (ap stop_of going) (has_own disk s is pin point found)
+            (fits s.next_pin 0 (omega (arith, is.counters.pin_most))) in
+            looked_ok disk s is store kept cache keeps read read_quiet tt going tt (reply.Frames frames) faults
+            (λ held. carried t read read_quiet room refl (reply.Frames frames) t passed (
+              meant src point,
+              pin_meant disk s is pin point found,
+              ap reply.Frames (heard held),
+            ) refl)
+
+        pub read_failed : (why : BlockFault)
+            → CountedBy why (disk.read_fault_count s.store) (disk.read_fault_count store)
+            → (IsTrue (disk.tells s.store) → IsFaultIn (disk.reads s.store) (point_blocks point) why)
+            → Took disk s (quietly read (Err (reason_of why))) (record s { store = store; cache = cache })
+        read_failed why counted damaged =
+            looked_failed disk s is store kept cache keeps read read_quiet tt going refl why counted
+            (λ told. reason_damaged (disk.reads s.store) (named_blocks s) why (fault_among (disk.reads s.store)
+            (named_blocks s) (point_blocks point) why (pin_named disk s is pin point found) (damaged told)))

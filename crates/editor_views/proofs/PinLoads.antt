@@ -1,0 +1,139 @@
+-- Loading a pin is a step that changes nothing but the pages that are kept.
+use Rattle.std.proofs.Common.{◌≡◌, refl, sym, ap, subst, ◌∙◌, map, ℕ, ◌-◌, min, IsTrue, List, Some, None, Ok, Err, arith}
+use Rattle.std.specs.Prelude.{IfErr}
+use Rattle.pcm_base.specs.declared.answer.Reply.TheVariants as reply
+use Rattle.pcm_base.specs.declared.command.Call.{Call}
+use Rattle.pcm_base.specs.declared.command.Call.TheVariants.{LoadPin}
+use Rattle.pcm_base.specs.declared.lists.LoadedTrack.{LoadedTrack}
+use Rattle.pcm_base.specs.declared.refusal.Refusal.{Refusal}
+use Rattle.pcm_base.specs.declared.refusal.Refusal.TheVariants as refusal
+use Rattle.pcm_base.specs.Mix.{loaded_of, loaded_track, mix_length, unmuted}
+use Rattle.pcm_base.specs.Pieces.{Sources}
+use Rattle.pcm_base.specs.Run.{stop_of}
+use Rattle.pcm_base.specs.Studio as model
+use Rattle.disk_model.specs.Frames.{Kept}
+use Rattle.disk_model.specs.declared.store.Store.{Ghosts}
+use Rattle.disk_model.proofs.Frames.{Fewer}
+use Rattle.sample_block.specs.Sources.{sources_of}
+use Rattle.block_cache.specs.Caches.{Entries}
+use Rattle.block_store.specs.declared.fault.BlockFault.{BlockFault}
+use Rattle.block_store.specs.Reads.{Counted, CountedBy, IsFaultIn}
+use Rattle.block_store.specs.Reasons.{reason_of}
+use Rattle.envelope_view.proofs.AnswerLaws.{reason_damaged}
+use Rattle.mixdown.specs.declared.loaded.Loaded.{Loaded}
+use Rattle.mixdown.specs.Loads.{IsLoaded, Shows, tracks_in}
+use Rattle.mixdown.proofs.LoadLaws.{shown_tracks}
+use Rattle.mix_view.specs.declared.loads.LoadFault.{LoadFault}
+use Rattle.mix_view.specs.declared.loads.LoadFault.TheVariants.{Block, NoMemory}
+use Rattle.mix_view.specs.Heard.{IsNoDamage, disk_part, refusal_of}
+use Rattle.mix_view.specs.Tracks.{mix_length_of}
+use Rattle.project_state.specs.declared.track.Track.{Track}
+use Rattle.project_state.specs.Meaning.{meant, point_blocks}
+use Rattle.editor_state.specs.Core.{Core}
+use Rattle.editor_views.specs.Pins.{LacksPin, MayFind}
+use Rattle.editor_state.specs.Reads.{Looks}
+use Rattle.editor_state.specs.Studios.{IsHeld, IsStudio, named_blocks, studio_of}
+use Rattle.editor_state.specs.Took.{Took, quietly, silent}
+use Rattle.editor_state.proofs.Calls.LookCalls.{looked_ok, looked_failed, looked_wanting}
+use Rattle.editor_state.proofs.Blocks.BlockDamage.{fault_among}
+use Rattle.editor_state.proofs.Calls.QuietCalls.{IsQuiet, quiet_passes, carried, room_of, refused_own, refused_stopped}
+use Rattle.editor_state.proofs.Calls.LookAnswers.{undamaged, unread_looks}
+use Rattle.editor_state.proofs.Refusals.CommitTests.{fits}
+use Rattle.editor_state.proofs.Refusals.EarlyRefusals.{wants}
+use Rattle.editor_state.proofs.Blocks.CachePages.{ReadsNamed}
+use Rattle.editor_views.proofs.UnpinSteps.{lacks_own, pin_meant, pin_named, has_own}
+
+-- as many frames as there are
+pub loaded_many : (src : Sources) (ts : List Track) (from most : ℕ) (l : Loaded) → IsLoaded l
+    → l.len ≡ min most (mix_length_of ts - from) → mix_length (meant src ts) ≡ mix_length_of ts
+    → Shows from (meant src ts) l → tracks_in l ≡ loaded_of from most (meant src ts)
+loaded_many src ts from most l is count len shows =
+    let many : l.len ≡ min most (mix_length (meant src ts) - from) =
+    count ∙ ap (λ (n : ℕ). min most (n - from)) (sym len) in
+    shown_tracks from (meant src ts) l is shows
+    ∙ ap (λ (n : ℕ). loaded_tracks_by n) many
+  where
+    loaded_tracks_by : ℕ → List LoadedTrack
+    loaded_tracks_by n = map (loaded_track from n) (unmuted (meant src ts))
+
+module _ {D : Type 0} (disk : Ghosts D) (s : Core D) (is : IsStudio disk s) (fewer : Fewer disk s.store)
+    (pin from count : ℕ) where
+  abbrev src : Sources
+  src = sources_of (disk.reads s.store)
+
+  abbrev t : model.Studio
+  t = studio_of disk s
+
+  abbrev load : Call
+  load = LoadPin pin from count
+
+  load_quiet : IsQuiet load
+  load_quiet = record {
+    needs = λ t. (refl, refl);
+    no_commit = refl;
+    no_track = λ t. refl;
+    no_layout = λ t. refl;
+    quiet = λ t. refl;
+  }
+
+  pub load_stopped : (faults : ℕ) → s.stopped ≡ Some faults
+      → Took disk s (quietly load (Err (refusal.Stopped faults))) s
+  load_stopped faults stopped = refused_stopped disk s load load_quiet tt is fewer faults refl stopped
+
+  pub load_lacks : s.stopped ≡ None → LacksPin pin s.pins → Took disk s (quietly load (Err (refusal.NoPin pin))) s
+  load_lacks going lacks = refused_own disk s load load_quiet tt is fewer (refusal.NoPin pin) (ap stop_of going)
+      (lacks_own disk s is pin lacks)
+
+  pub load_wants : Took disk s (quietly load (Err refusal.NoMemory)) s
+  load_wants = wants disk s load silent is fewer tt refl 0 (λ held. (0, (refl, refl)))
+
+  module _ (going : s.stopped ≡ None) (point : List Track) (found : MayFind s.pins pin (Some point)) (store : D)
+      (kept : Kept disk s.store store) (cache : Entries) (keeps : ReadsNamed disk s cache) where
+    pub load_done : (tracks : List LoadedTrack) → disk.read_fault_count store ≡ disk.read_fault_count s.store
+        → (IsHeld disk s → tracks ≡ loaded_of from count (meant src point))
+        → Took disk s (quietly load (Ok (reply.Loaded tracks))) (record s { store = store; cache = cache })
+    load_done tracks faults loaded =
+        let room = room_of disk s load is in
+        let passed = quiet_passes t load load_quiet room refl (ap stop_of going) (has_own disk s is pin point found)
+        (fits s.next_pin 0 (omega (arith, is.counters.pin_most))) in
+        looked_ok disk s is store kept cache keeps load load_quiet tt going tt (reply.Loaded tracks) faults
+        (λ held. carried t load load_quiet room refl (reply.Loaded tracks) t passed (
+          meant src point,
+          pin_meant disk s is pin point found,
+          ap reply.Loaded (loaded held),
+        ) refl)
+
+    -- there is no memory for what was loaded
+    pub load_wanting : disk.read_fault_count store ≡ disk.read_fault_count s.store
+        → Took disk s (quietly load (Err refusal.NoMemory)) (record s { store = store; cache = cache })
+    load_wanting faults = looked_wanting disk s is store kept cache keeps load load_quiet tt going faults
+
+    pub load_failed : (why : BlockFault)
+        → CountedBy why (disk.read_fault_count s.store) (disk.read_fault_count store)
+        → (IsTrue (disk.tells s.store) → IsFaultIn (disk.reads s.store) (point_blocks point) why)
+        → Took disk s (quietly load (Err (reason_of why))) (record s { store = store; cache = cache })
+    load_failed why counted damaged =
+        looked_failed disk s is store kept cache keeps load load_quiet tt going refl why counted
+        (λ told. reason_damaged (disk.reads s.store) (named_blocks s) why (fault_among (disk.reads s.store)
+        (named_blocks s) (point_blocks point) why (pin_named disk s is pin point found) (damaged told)))
+
+    -- memory, the disk or a file failed; memory is asked for before the disk
+    pub load_looks : (why : LoadFault)
+        → Counted (disk_part {T = ℕ} (Err why)) (disk.read_fault_count s.store) (disk.read_fault_count store)
+        → (IsTrue (disk.tells s.store)
+        → IfErr (disk_part {T = ℕ} (Err why)) (λ e. IsFaultIn (disk.reads s.store) (point_blocks point) e))
+        → (IsHeld disk s → IsNoDamage why) → (why ≡ NoMemory → (store ≡ s.store) × (cache ≡ s.cache))
+        → Looks disk s load (Err (refusal_of why)) (record s { store = store; cache = cache })
+    load_looks (Block why) counted damaged sound memory =
+        unread_looks disk s load store kept cache (reason_of why) (λ held. undamaged why (sound held))
+        (load_failed why counted damaged)
+    load_looks NoMemory counted damaged sound memory =
+        let same = memory refl in
+        let wanted : Took disk s (quietly load (Err refusal.NoMemory)) (record s { store = s.store; cache = cache }) =
+        subst (λ (e : Entries). Took disk s (quietly load (Err refusal.NoMemory)) (record s {
+          store = s.store;
+          cache = e;
+        })) (sym same.1) load_wants in
+        unread_looks disk s load store kept cache refusal.NoMemory (λ held. tt)
+        (subst (λ (d : D). Took disk s (quietly load (Err refusal.NoMemory)) (record s { store = d; cache = cache }))
+        (sym same.0) wanted)

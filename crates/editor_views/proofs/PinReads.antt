@@ -1,0 +1,90 @@
+-- Reading as many frames of a pin as there are, up to a number, is reading that number.
+use Rattle.std.proofs.Common.{◌≡◌, ⊎_elim, inl, inr, sym, ap, ◌∙◌, ℕ, ◌-◌, min, List, length, length-drop}
+use Rattle.std.proofs.Common.{take, drop, Some, Ok, arith}
+use Rattle.std.proofs.lemmas.Bool.{cases_lt}
+use Rattle.std.proofs.lemmas.List.{take_all}
+use Rattle.std.proofs.lemmas.Option.{same_Some}
+use Rattle.pcm_base.specs.declared.answer.Reply.{Reply}
+use Rattle.pcm_base.specs.declared.answer.Reply.TheVariants as reply
+use Rattle.pcm_base.specs.declared.command.Call.TheVariants.{PinLen, ReadPin}
+use Rattle.pcm_base.specs.Cells.{Project}
+use Rattle.pcm_base.specs.Mix.{mix_of, mix_length}
+use Rattle.pcm_base.specs.Run.{CarriesOut}
+use Rattle.pcm_base.specs.Studio as model
+use Rattle.disk_model.specs.declared.store.Store.{Ghosts}
+use Rattle.sound_export.proofs.GrowLaws.{length_mix}
+use Rattle.editor_state.specs.Core.{Core}
+use Rattle.editor_state.specs.Studios.{IsHeld, studio_of}
+use Rattle.editor_state.specs.Took.{Took, quietly, silent}
+
+take_few : {A : Type 0} (n most : ℕ) (xs : List A) → n ≡ min most (length xs) → take n xs ≡ take most xs
+take_few n most xs few = ⊎_elim
+    (λ less. take_all n xs (omega (arith, few, less)) ∙ sym (take_all most xs (omega (arith, less))))
+    (λ some. let same : n ≡ most = omega (arith, few, some) in ap (λ (k : ℕ). take k xs) same)
+    (cases_lt (length xs) most)
+
+abbrev frames_in : Reply → ℕ
+frames_in (reply.Length n) = n
+frames_in r = 0
+
+module _ {D : Type 0} (disk : Ghosts D) (s : Core D) (pin from count len n : ℕ) (few : n ≡ min count (len - from))
+    (measured : Took disk s (quietly (PinLen pin) (Ok (reply.Length len))) s) where
+  abbrev t : model.Studio
+  t = studio_of disk s
+
+  long : IsHeld disk s → (p : Project) → t.state.pins pin ≡ Some p → len ≡ mix_length p
+  long held p found =
+      let answers = (measured.step held).answers in
+      ap frames_in answers.2 ∙ ap mix_length (same_Some answers.0 p (sym answers.1 ∙ found))
+
+  same : IsHeld disk s → (p : Project) → t.state.pins pin ≡ Some p
+      → take n (drop from (mix_of p)) ≡ take count (drop from (mix_of p))
+  same held p found = take_few n count (drop from (mix_of p))
+      (omega (arith, few, long held p found, length-drop from (mix_of p), length_mix p))
+
+  carries : IsHeld disk s → (r : Reply) (u : model.Studio) → CarriesOut t (ReadPin pin from n) silent r u
+      → CarriesOut t (ReadPin pin from count) silent r u
+  carries held r u c = record {
+    blocks = c.blocks;
+    len = c.len;
+    layout = c.layout;
+    needs = c.needs;
+    passed = c.passed;
+    draws = c.draws;
+    answers = (c.answers.0, c.answers.1, c.answers.2 ∙ ap reply.Frames (same held c.answers.0 c.answers.1));
+    is = c.is;
+    heard = c.heard;
+  }
+
+  pub read_as_many : (r : Reply) (new : Core D) → Took disk s (quietly (ReadPin pin from n) (Ok r)) new
+      → Took disk s (quietly (ReadPin pin from count) (Ok r)) new
+  read_as_many r new took = record {
+    studio = took.studio;
+    held = took.held;
+    step = λ held. carries held r (studio_of disk new) (took.step held);
+    any_moment = λ going held c since. ⊎_elim
+        (λ old. inl old)
+        (λ flight. inr (record {
+          reply = flight.reply;
+          after = flight.after;
+          carried = carries held flight.reply flight.after flight.carried;
+          keeps = flight.keeps;
+        }))
+        (took.any_moment going held c since);
+    refused = λ going held still. tt;
+    now = took.now;
+    number = took.number;
+    rests = took.rests;
+    len = took.len;
+    needs = took.needs;
+    records = took.records;
+    given = took.given;
+    needed = tt;
+    changed = took.changed;
+    frees = took.frees;
+    ids = took.ids;
+    purges = tt;
+    untouched = tt;
+    stops = took.stops;
+    left = tt;
+  }

@@ -1,0 +1,179 @@
+-- A pin is a step: the current project is named once more.
+use Rattle.std.proofs.Common.{◌≡◌, inl, inr, refl, sym, ap, ◌∙◌, subst, ℕ, ◌+◌, ◌^◌, ◌<◌, List, [], ◌∷◌, ◌++◌, Some, None}
+use Rattle.std.proofs.Common.{Ok, Err, arith, append_assoc, length, IsSome, ◌↔◌}
+use Rattle.std.specs.List.{AllByRecursion}
+use Rattle.std.proofs.lemmas.List.{append-nil}
+use Rattle.pcm_base.specs.declared.answer.Reply.TheVariants.{Pinned}
+use Rattle.pcm_base.specs.declared.block.BlockRef.{BlockRef}
+use Rattle.pcm_base.specs.declared.command.Call.TheVariants.{Pin as Keep}
+use Rattle.pcm_base.specs.declared.refusal.Refusal.TheVariants as refusal
+use Rattle.pcm_base.specs.Cells.{Project}
+use Rattle.pcm_base.specs.Pieces.{Sources}
+use Rattle.pcm_base.specs.Run.{outside, stop_of}
+use Rattle.pcm_base.specs.Step.{after, with_pin}
+use Rattle.pcm_base.specs.Studio as model
+use Rattle.disk_model.specs.declared.store.Store.{Ghosts}
+use Rattle.disk_model.proofs.Frames.{Fewer}
+use Rattle.sample_block.specs.Sources.{sources_of}
+use Rattle.block_ledger.specs.Counts.{Counts}
+use Rattle.block_ledger.specs.Entries.{count_of}
+use Rattle.project_state.specs.declared.track.Track.{Track}
+use Rattle.record_body.specs.Kept.{current_tracks}
+use Rattle.project_state.specs.Meaning.{point_blocks, history_blocks}
+use Rattle.record_body.specs.KeptSound.{IsSoundPoint}
+use Rattle.record_body.proofs.KeptBounds.{all_append}
+use Rattle.editor_state.specs.Core.{Core}
+use Rattle.editor_state.specs.declared.pin.Pin.{Pin}
+use Rattle.layout_uses.specs.declared.tally.Tally.{Tally}
+use Rattle.layout_uses.specs.Layouts.{AreDrawn, AreNumbered, history_tracks}
+use Rattle.layout_uses.specs.Tallies.{AreCounts, Comes, IsTally}
+use Rattle.layout_uses.proofs.Moves.{counts_swapped, drawn_swapped, numbered_swapped}
+use Rattle.layout_uses.proofs.Numbers.{shared_agree}
+use Rattle.layout_uses.proofs.Putting.{same_numbers}
+use Rattle.editor_state.specs.Studios.{IsStudio, pin_at, pin_blocks, pin_tracks, clip_blocks, named_blocks, studio_of}
+use Rattle.editor_state.specs.Studios.{studio_tracks}
+use Rattle.editor_state.specs.Took.{Took, quietly, silent}
+use Rattle.editor_commits.proofs.CurrentProject.{current_sound, current_meant, old_names}
+use Rattle.editor_state.proofs.Blocks.NamedBlocks.{current_among, tracks_few, tracks_more}
+use Rattle.editor_state.proofs.Lists.{all_left, all_right}
+use Rattle.editor_state.proofs.Calls.NameChanges.{renamed, Renames, renamed_took}
+use Rattle.editor_views.proofs.PinNumbers.{rise_more, with_one, blocks_more}
+use Rattle.editor_state.proofs.Calls.QuietCalls.{IsQuiet, quiet_passes, pins_spent, carried, room_of, refused_by}
+use Rattle.editor_state.proofs.Calls.QuietCalls.{refused_stopped, refused_wanting}
+use Rattle.editor_state.proofs.Refusals.CommitTests.{fits, spends}
+use Rattle.editor_state.proofs.Refusals.EarlyRefusals.{stopped_not}
+
+pub pin_quiet : IsQuiet Keep
+pin_quiet = record {
+  needs = λ t. (refl, refl);
+  no_commit = refl;
+  no_track = λ t. refl;
+  no_layout = λ t. refl;
+  quiet = λ t. refl;
+}
+
+module _ {D : Type 0} (disk : Ghosts D) (s : Core D) (is : IsStudio disk s) (fewer : Fewer disk s.store) where
+  abbrev src : Sources
+  src = sources_of (disk.reads s.store)
+
+  abbrev t : model.Studio
+  t = studio_of disk s
+
+  abbrev current : List Track
+  current = current_tracks s.history
+
+  abbrev one : Pin
+  one = record { number = s.next_pin; point = current }
+
+  abbrev pins : List Pin
+  pins = s.pins ++ one ∷ []
+
+  pins_all : (P : BlockRef → Type 0) → AllByRecursion P (named_blocks s) → AllByRecursion P (pin_blocks pins)
+  pins_all P all =
+      let rest = all_right P (history_blocks s.history) (pin_blocks s.pins ++ clip_blocks s.clipboard) all in
+      subst (AllByRecursion P) (sym (blocks_more s.pins one))
+      (all_append P (pin_blocks s.pins) (point_blocks current)
+      (all_left P (pin_blocks s.pins) (clip_blocks s.clipboard) rest) (old_names disk s is P all))
+
+  -- the tracks of the points, the pins and the new one
+  more_tracks : history_tracks s.history ++ pin_tracks pins ≡ studio_tracks s ++ current
+  more_tracks = ap (λ (ts : List Track). history_tracks s.history ++ ts) (tracks_more s.pins one)
+      ∙ sym (append_assoc (history_tracks s.history) (pin_tracks s.pins) current)
+
+  -- a stretch in front, and after
+  swapped : studio_tracks s ++ (current ++ []) ≡ studio_tracks s ++ current
+  swapped = ap (λ (ts : List Track). studio_tracks s ++ ts) (append-nil current)
+
+  front_numbered : AreNumbered (current ++ (studio_tracks s ++ []))
+  front_numbered = subst (λ (ts : List Track). AreNumbered (current ++ ts)) (sym (append-nil (studio_tracks s)))
+      (shared_agree current (studio_tracks s) is.numbered (current_among s))
+
+  front_drawn : AreDrawn s.next_layout (current ++ (studio_tracks s ++ []))
+  front_drawn = subst (λ (ts : List Track). AreDrawn s.next_layout (current ++ ts)) (sym (append-nil (studio_tracks s)))
+      ((same_numbers current s.next_layout).drawn (studio_tracks s) is.drawn (current_among s))
+
+  module _ (tally tally' : Tally) (uses_are : count_of tally.uses ≡ s.uses) (counts_are : count_of tally.ledger
+      ≡ s.counts)
+      (came : Comes current tally tally') (room : s.next_pin < 2 ^ 62)
+      (going : s.stopped ≡ None) where
+    abbrev uses : Counts
+    uses = count_of tally'.uses
+
+    abbrev counts : Counts
+    counts = count_of tally'.ledger
+
+    abbrev new : Core D
+    new = renamed s s.clipboard pins (s.next_pin + 1) uses counts
+
+    was : IsTally (studio_tracks s) (clip_blocks s.clipboard) tally
+    was = subst (λ (u : Counts). AreCounts (studio_tracks s) (clip_blocks s.clipboard) u (count_of tally.ledger))
+        (sym uses_are)
+        (subst (λ (c : Counts). AreCounts (studio_tracks s) (clip_blocks s.clipboard) s.uses c) (sym counts_are)
+        is.counted)
+
+    few : length current + length (studio_tracks s) < 2 ^ 128
+    few = omega (arith, tracks_few disk s is, (current_sound disk s is).few)
+
+    counted_front : IsTally (current ++ (studio_tracks s ++ [])) (clip_blocks s.clipboard) tally'
+    counted_front = subst (λ (ts : List Track). IsTally (current ++ ts) (clip_blocks s.clipboard) tally')
+        (sym (append-nil (studio_tracks s)))
+        (came.counted (studio_tracks s) (clip_blocks s.clipboard) few was)
+
+    pin_renames : Renames s s.clipboard pins (s.next_pin + 1) uses counts
+    pin_renames = record {
+      covers = λ P all.
+          let rest = all_right P (history_blocks s.history) (pin_blocks s.pins ++ clip_blocks s.clipboard) all in
+          all_append P (history_blocks s.history) (pin_blocks pins ++ clip_blocks s.clipboard)
+          (all_left P (history_blocks s.history) (pin_blocks s.pins ++ clip_blocks s.clipboard) all)
+          (all_append P (pin_blocks pins) (clip_blocks s.clipboard) (pins_all P all)
+          (all_right P (pin_blocks s.pins) (clip_blocks s.clipboard) rest));
+      numbers = rise_more 1 s.next_pin s.pins current is.numbers is.counters.pin_least;
+      pin_least = omega arith;
+      pin_most = omega (arith, room);
+      sound = all_append (λ (p : Pin). IsSoundPoint s.block_size s.next_block s.next_track p.point) s.pins
+          (one ∷ []) is.pins (current_sound disk s is, tt);
+      few_clips = is.few_clips;
+      clip_fits = is.clipboard;
+      numbered = subst AreNumbered (swapped ∙ sym more_tracks)
+          (numbered_swapped current (studio_tracks s) [] front_numbered);
+      drawn = subst (AreDrawn s.next_layout) (swapped ∙ sym more_tracks)
+          (drawn_swapped s.next_layout current (studio_tracks s) [] front_drawn);
+      counted = subst (λ (ts : List Track). AreCounts ts (clip_blocks s.clipboard) uses counts) (swapped
+          ∙ sym more_tracks)
+          (counts_swapped current (studio_tracks s) []
+          (clip_blocks s.clipboard) uses counts front_numbered counted_front);
+      ids = λ id. subst (λ (c : Counts). IsSome (counts id) ↔ IsSome (c id)) counts_are (came.ids id);
+    }
+
+    pin_state : studio_of disk new ≡ record t { state = after (outside t silent) t.state Keep }
+    pin_state =
+        let mean = λ (n : ℕ). with_one src 1 s.next_pin s.pins current n is.numbers
+        ∙ ap (λ (p : Project). with_pin s.next_pin p (pin_at src s.pins) n) (sym (current_meant disk s is)) in
+        λ i. record t { state = record t.state { pins = λ n. mean n i; next_pin = s.next_pin + 1 } }
+
+    pub pinned : Took disk s (quietly Keep (Ok (Pinned s.next_pin))) new
+    pinned =
+        let passed = quiet_passes t Keep pin_quiet (room_of disk s Keep is) refl (ap stop_of going) refl
+        (fits s.next_pin 1 (omega (arith, room))) in
+        renamed_took disk s is s.clipboard pins (s.next_pin + 1) uses counts pin_renames Keep pin_quiet tt tt
+        (Pinned s.next_pin) fewer (λ some. absurd (stopped_not s.stopped some going))
+        (λ _. carried t Keep pin_quiet (room_of disk s Keep is) refl (Pinned s.next_pin)
+        (studio_of disk new) passed refl pin_state)
+
+  -- all numbers are given
+  pub pin_spent : s.stopped ≡ None → s.next_pin ≡ 2 ^ 62
+      → Took disk s (quietly Keep (Err (refusal.SpaceSpent (2 ^ 62) 1))) s
+  pin_spent going most =
+      let pin = spends s.next_pin 1 (omega (arith, most)) ∙ (λ i. Some (refusal.SpaceSpent (most i) 1)) in
+      refused_by disk s Keep pin_quiet tt is fewer (refusal.SpaceSpent (2 ^ 62) 1)
+      (pins_spent t Keep pin_quiet (room_of disk s Keep is) refl (refusal.SpaceSpent (2 ^ 62) 1) (ap stop_of going) refl
+      pin)
+      (inl (inr (inr (inl pin))))
+
+  pub pin_stopped : (faults : ℕ) → s.stopped ≡ Some faults → Took disk s (quietly Keep (Err (refusal.Stopped faults))) s
+  pin_stopped faults stopped = refused_stopped disk s Keep pin_quiet tt is fewer faults refl stopped
+
+  -- there was no memory, and the studio is as it was
+  pub pin_wanting : (same : Core D) → same ≡ s → Took disk s (quietly Keep (Err refusal.NoMemory)) same
+  pin_wanting same e = subst (λ (z : Core D). Took disk s (quietly Keep (Err refusal.NoMemory)) z) (sym e)
+      (refused_wanting disk s Keep pin_quiet tt is fewer)

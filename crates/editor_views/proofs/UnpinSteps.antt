@@ -1,0 +1,220 @@
+-- Letting a pin go is a step; and what holds of a pin that is found.
+use Rattle.std.proofs.Common.{◌≡◌, refl, sym, ap, ◌∙◌, subst, ℕ, List, ◌∷◌, ◌++◌, Option, Some, None}
+use Rattle.std.proofs.Common.{Contains, Ok, Err, append_assoc, IsSome, ◌↔◌, arith}
+use Rattle.std.specs.Prelude.{is_none}
+use Rattle.std.specs.List.{AllByRecursion}
+use Rattle.pcm_base.specs.declared.answer.Reply.TheVariants.{Done}
+use Rattle.pcm_base.specs.declared.block.BlockRef.{BlockRef}
+use Rattle.pcm_base.specs.declared.command.Call.TheVariants.{Unpin}
+use Rattle.pcm_base.specs.declared.refusal.Refusal.TheVariants as refusal
+use Rattle.pcm_base.specs.Cells as cells
+use Rattle.pcm_base.specs.Pieces.{Sources}
+use Rattle.pcm_base.specs.Refusals.{refused_if}
+use Rattle.pcm_base.specs.Run.{outside}
+use Rattle.pcm_base.specs.Step.{after, without_pin}
+use Rattle.pcm_base.specs.Studio as model
+use Rattle.disk_model.specs.declared.store.Store.{Ghosts}
+use Rattle.disk_model.proofs.Frames.{Fewer}
+use Rattle.sample_block.specs.Sources.{sources_of, IsWhole, AllNamed, AllWhole}
+use Rattle.block_ledger.specs.Counts.{Counts}
+use Rattle.block_ledger.specs.Entries.{count_of}
+use Rattle.project_state.specs.declared.track.Track.{Track}
+use Rattle.project_state.specs.Meaning.{meant, point_blocks, history_blocks}
+use Rattle.record_body.specs.KeptSound.{IsSoundPoint}
+use Rattle.record_body.proofs.KeptBounds.{all_append}
+use Rattle.editor_state.specs.Core.{Core}
+use Rattle.editor_state.specs.declared.pin.Pin.{Pin}
+use Rattle.editor_state.specs.Edits.{AreAmong}
+use Rattle.layout_uses.specs.declared.tally.Tally.{Tally}
+use Rattle.layout_uses.specs.Layouts.{AreDrawn, AreNumbered, history_tracks}
+use Rattle.layout_uses.specs.Tallies.{AreCounts, Goes, Has, IsTally}
+use Rattle.layout_uses.proofs.Moves.{counts_swapped, drawn_without, numbered_without}
+use Rattle.editor_views.specs.Pins.{TakesPin, LacksPin, MayFind}
+use Rattle.editor_state.specs.Studios.{PinsRise, IsHeld, IsStudio, pin_at, pin_blocks, pin_tracks, clip_blocks}
+use Rattle.editor_state.specs.Studios.{named_blocks, studio_of, studio_tracks}
+use Rattle.editor_state.specs.Took.{Took, quietly, silent}
+use Rattle.editor_state.proofs.Blocks.BlockLists.{among_itself}
+use Rattle.editor_commits.proofs.CursorTracks.{may_read}
+use Rattle.editor_state.proofs.Blocks.NamedBlocks.{tracks_around}
+use Rattle.editor_state.proofs.Lists.{all_left, all_right}
+use Rattle.editor_state.proofs.Calls.NameChanges.{renamed, Renames, renamed_took}
+use Rattle.editor_views.proofs.PinNumbers.{rise_less, lacks_none, without_one, found_at, all_but, that_one, blocks_but}
+use Rattle.editor_views.proofs.PinNumbers.{blocks_of_one}
+use Rattle.editor_state.proofs.Calls.QuietCalls.{IsQuiet, quiet_passes, carried, room_of, refused_own}
+use Rattle.editor_state.proofs.Refusals.CommitTests.{fits}
+
+module _ {D : Type 0} (disk : Ghosts D) (s : Core D) (is : IsStudio disk s) (number : ℕ) where
+  abbrev src : Sources
+  src = sources_of (disk.reads s.store)
+
+  abbrev t : model.Studio
+  t = studio_of disk s
+
+  abbrev Sound : Pin → Type 0
+  Sound p = IsSoundPoint s.block_size s.next_block s.next_track p.point
+
+  pub unpin_quiet : IsQuiet (Unpin number)
+  unpin_quiet = record {
+    needs = λ t. (refl, refl);
+    no_commit = refl;
+    no_track = λ t. refl;
+    no_layout = λ t. refl;
+    quiet = λ t. refl;
+  }
+
+  -- ---- a pin that is found, or not
+
+  pub lacks_own : LacksPin number s.pins
+      → refused_if (is_none (t.state.pins number)) (refusal.NoPin number) ≡ Some (refusal.NoPin number)
+  lacks_own lacks = ap (λ (o : Option (List cells.Track)). refused_if (is_none o) (refusal.NoPin number))
+      (lacks_none src number s.pins lacks)
+
+  module _ (point : List Track) (found : MayFind s.pins number (Some point)) where
+    abbrev it : Pin
+    it = record { number = number; point = point }
+
+    pub pin_meant : t.state.pins number ≡ Some (meant src point)
+    pin_meant = ap (λ (z : List Pin). pin_at src z number) found.2
+        ∙ found_at src 1 s.next_pin found.0 found.1 it (subst (PinsRise 1 s.next_pin) found.2 is.numbers)
+
+    pub has_own : refused_if (is_none (t.state.pins number)) (refusal.NoPin number) ≡ None
+    has_own = ap (λ (o : Option (List cells.Track)). refused_if (is_none o) (refusal.NoPin number)) pin_meant
+
+    pub pin_may_read : AllNamed (point_blocks point)
+    pin_may_read =
+        may_read disk s is point (that_one Sound found.0 found.1 it (subst (AllByRecursion Sound) found.2 is.pins))
+
+    -- what holds of all that the studio names holds of what the pin names
+    of_pin : (P : BlockRef → Type 0) → AllByRecursion P (named_blocks s) → AllByRecursion P (point_blocks point)
+    of_pin P all =
+        let rest = all_right P (history_blocks s.history) (pin_blocks s.pins ++ clip_blocks s.clipboard) all in
+        let own = all_left P (pin_blocks s.pins) (clip_blocks s.clipboard) rest in
+        blocks_of_one P found.0 found.1 it (subst (λ (z : List Pin). AllByRecursion P (pin_blocks z)) found.2 own)
+
+    pub pin_whole : IsHeld disk s → AllWhole (disk.reads s.store) (point_blocks point)
+    pin_whole held = of_pin (IsWhole (disk.reads s.store)) held.whole
+
+    pub pin_named : AreAmong (named_blocks s) (point_blocks point)
+    pin_named = of_pin (Contains (named_blocks s)) (among_itself (named_blocks s))
+
+  -- ---- one less
+
+  module _ (pins : List Pin) (pin : Pin) (takes : TakesPin s.pins pins number pin) where
+    abbrev front : List Pin
+    front = takes.front
+
+    abbrev back : List Pin
+    back = takes.back
+
+    rise : PinsRise 1 s.next_pin (front ++ pin ∷ back)
+    rise = subst (PinsRise 1 s.next_pin) takes.before is.numbers
+
+    -- the tracks that stay: those in front of it, and those after
+    abbrev front_tracks : List Track
+    front_tracks = history_tracks s.history ++ pin_tracks front
+
+    abbrev stay : List Track
+    stay = front_tracks ++ pin_tracks back
+
+    tracks_before : studio_tracks s ≡ front_tracks ++ (pin.point ++ pin_tracks back)
+    tracks_before = ap (λ (z : List Pin). history_tracks s.history ++ pin_tracks z) takes.before
+        ∙ ap (λ (ts : List Track). history_tracks s.history ++ ts) (tracks_around front (pin ∷ back))
+        ∙ sym (append_assoc (history_tracks s.history) (pin_tracks front) (pin.point ++ pin_tracks back))
+
+    tracks_after : history_tracks s.history ++ pin_tracks pins ≡ stay
+    tracks_after = ap (λ (z : List Pin). history_tracks s.history ++ pin_tracks z) takes.after
+        ∙ ap (λ (ts : List Track). history_tracks s.history ++ ts) (tracks_around front back)
+        ∙ sym (append_assoc (history_tracks s.history) (pin_tracks front) (pin_tracks back))
+
+    numbered_before : AreNumbered (front_tracks ++ (pin.point ++ pin_tracks back))
+    numbered_before = subst AreNumbered tracks_before is.numbered
+
+    -- its tracks in front
+    counted_front : AreCounts (pin.point ++ stay) (clip_blocks s.clipboard) s.uses s.counts
+    counted_front = counts_swapped front_tracks pin.point (pin_tracks back) (clip_blocks s.clipboard) s.uses s.counts
+        numbered_before
+        (subst (λ (ts : List Track). AreCounts ts (clip_blocks s.clipboard) s.uses s.counts) tracks_before is.counted)
+
+    pin_counted : (tally : Tally) → count_of tally.uses ≡ s.uses → count_of tally.ledger ≡ s.counts
+        → IsTally (pin.point ++ stay) (clip_blocks s.clipboard) tally
+    pin_counted tally uses_are counts_are =
+        subst (λ (u : Counts). AreCounts (pin.point ++ stay) (clip_blocks s.clipboard) u (count_of tally.ledger))
+        (sym uses_are)
+        (subst (λ (c : Counts). AreCounts (pin.point ++ stay) (clip_blocks s.clipboard) s.uses c) (sym counts_are)
+        counted_front)
+
+    -- its layouts are used
+    pub pin_uses : (tally : Tally) → count_of tally.uses ≡ s.uses → count_of tally.ledger ≡ s.counts
+        → Has pin.point tally
+    pin_uses tally uses_are counts_are = record {
+      others = stay;
+      blocks = clip_blocks s.clipboard;
+      counted = pin_counted tally uses_are counts_are;
+    }
+
+    less_all : (P : BlockRef → Type 0) → AllByRecursion P (pin_blocks s.pins) → AllByRecursion P (pin_blocks pins)
+    less_all P all =
+        subst (λ (z : List Pin). AllByRecursion P (pin_blocks z)) (sym takes.after)
+        (blocks_but P front back pin (subst (λ (z : List Pin). AllByRecursion P (pin_blocks z)) takes.before all))
+
+    module _ (tally tally' : Tally) (uses_are : count_of tally.uses ≡ s.uses)
+        (counts_are : count_of tally.ledger ≡ s.counts) (goes : Goes pin.point tally tally') where
+      abbrev uses : Counts
+      uses = count_of tally'.uses
+
+      abbrev counts : Counts
+      counts = count_of tally'.ledger
+
+      abbrev new : Core D
+      new = renamed s s.clipboard pins s.next_pin uses counts
+
+      unpin_renames : Renames s s.clipboard pins s.next_pin uses counts
+      unpin_renames = record {
+        covers = λ P all.
+            let rest = all_right P (history_blocks s.history) (pin_blocks s.pins ++ clip_blocks s.clipboard) all in
+            all_append P (history_blocks s.history) (pin_blocks pins ++ clip_blocks s.clipboard)
+            (all_left P (history_blocks s.history) (pin_blocks s.pins ++ clip_blocks s.clipboard) all)
+            (all_append P (pin_blocks pins) (clip_blocks s.clipboard) (less_all P (all_left P (pin_blocks s.pins)
+            (clip_blocks s.clipboard) rest)) (all_right P (pin_blocks s.pins) (clip_blocks s.clipboard) rest));
+        numbers = subst (PinsRise 1 s.next_pin) (sym takes.after) (rise_less 1 s.next_pin front back pin rise);
+        pin_least = is.counters.pin_least;
+        pin_most = is.counters.pin_most;
+        sound = subst (AllByRecursion Sound) (sym takes.after)
+            (all_but Sound front back pin (subst (AllByRecursion Sound) takes.before is.pins));
+        few_clips = is.few_clips;
+        clip_fits = is.clipboard;
+        numbered = subst AreNumbered (sym tracks_after)
+            (numbered_without front_tracks pin.point (pin_tracks back) numbered_before);
+        drawn = subst (AreDrawn s.next_layout) (sym tracks_after)
+            (drawn_without s.next_layout front_tracks pin.point (pin_tracks back)
+            (subst (AreDrawn s.next_layout) tracks_before is.drawn));
+        counted = subst (λ (ts : List Track). AreCounts ts (clip_blocks s.clipboard) uses counts) (sym tracks_after)
+            (goes.counted stay (clip_blocks s.clipboard) (pin_counted tally uses_are counts_are));
+        ids = λ id. subst (λ (c : Counts). IsSome (counts id) ↔ IsSome (c id)) counts_are (goes.ids id);
+      }
+
+      held_there : MayFind s.pins number (Some pin.point)
+      held_there =
+          (front, back, takes.before ∙ (λ i. front ++ record { number = takes.is i; point = pin.point } ∷ back))
+
+      unpin_state : studio_of disk new ≡ record t { state = after (outside t silent) t.state (Unpin number) }
+      unpin_state =
+          let mean = λ (n : ℕ). ap (λ (z : List Pin). pin_at src z n) takes.after ∙ without_one src 1 s.next_pin front
+          back pin n rise ∙ (λ i. without_pin (takes.is i) (pin_at src (sym takes.before i)) n) in
+          λ i. record t { state = record t.state { pins = λ n. mean n i } }
+
+      pub unpinned : Fewer disk s.store → Took disk s (quietly (Unpin number) (Ok Done)) new
+      unpinned fewer =
+          let pin_room = fits s.next_pin 0 (omega (arith, is.counters.pin_most)) in
+          let passed = quiet_passes t (Unpin number) unpin_quiet (room_of disk s (Unpin number) is) refl refl
+          (has_own pin.point held_there) pin_room in
+          renamed_took disk s is s.clipboard pins s.next_pin uses counts unpin_renames
+          (Unpin number) unpin_quiet tt tt Done
+          fewer (λ some. refl)
+          (λ _. carried t (Unpin number) unpin_quiet (room_of disk s (Unpin number) is) refl Done
+          (studio_of disk new) passed refl unpin_state)
+
+  pub unpin_lacks : Fewer disk s.store → LacksPin number s.pins
+      → Took disk s (quietly (Unpin number) (Err (refusal.NoPin number))) s
+  unpin_lacks fewer lacks =
+      refused_own disk s (Unpin number) unpin_quiet tt is fewer (refusal.NoPin number) refl (lacks_own lacks)

@@ -1,0 +1,146 @@
+-- One track more that is told by the current point.
+use Rattle.std.proofs.Common.{◌≡◌, ℕ, ◌+◌, ◌-◌, ◌==◌, ◌<◌, ◌≤◌, false, inl, inr, List, [], ◌∷◌, ◌++◌, length, map}
+use Rattle.std.proofs.Common.{Option}
+use Rattle.std.proofs.Common.{Some, None, Result, Ok, Err, refl, sym, ◌∙◌, ap, subst, arith, slice_get, length-append}
+use Rattle.std.specs.Prelude.{⊤}
+use Rattle.std.proofs.lemmas.Bool.{ne_eqb}
+use Rattle.std.proofs.lemmas.List.{append-nil, map-append}
+use Rattle.project_journal.specs.Fields.{field}
+use Rattle.project_journal.specs.Header.{first_failed}
+use Rattle.project_journal.specs.declared.fault.Damaged.{Damaged}
+use Rattle.record_body.specs.declared.limits.BadBody.{BadBody}
+use Rattle.record_body.specs.declared.limits.BadBody.TheVariants as bad
+use Rattle.record_body.specs.declared.limits.Limits.{Limits}
+use Rattle.project_state.specs.declared.track.Track.{Track}
+use Rattle.record_body.specs.Changes.{last_blocks, last_start, tailed}
+use Rattle.record_body.specs.ChangePlaces.{all_told_at, fresh_at, gone_at, mark_at, whole_at}
+use Rattle.record_body.specs.ChangeTests.{all_told_tests, change_tests, mark_tests, mark_want, marked_tests, tail_tests}
+use Rattle.record_body.specs.ChangeTests.{whole_tests}
+use Rattle.record_body.specs.FirstFault.{Finds, place}
+use Rattle.record_body.specs.Places.{blocks_at, track_at}
+use Rattle.record_body.specs.Told.{AddsTold}
+use Rattle.project_state.specs.Numbers.{unnumbered}
+use Rattle.project_state.specs.Tracks.{track_of}
+use Rattle.record_body.proofs.Passing.{all_pass, failed, pass_parts}
+
+-- ---- the mark
+
+-- a mark that fails its tests
+pub mark_fails : (l : Limits) (at : ℕ) (bytes : List ℕ) (old : Track) (p want mark : ℕ) (d : Damaged)
+    → p ≡ place l.base (at + 8) → want ≡ mark_want (Some old) mark → mark ≡ mark_at at bytes
+    → first_failed (mark_tests p want mark) ≡ Some d → first_failed (change_tests l (Some old) at bytes) ≡ Some d
+mark_fails l at bytes old p want mark d is_place is_want is_mark e =
+    let m = mark_at at bytes in
+    let here : want ≡ mark_want (Some old) m = is_want ∙ ap (mark_want (Some old)) is_mark in
+    let same : mark_tests p want mark ≡ mark_tests (place l.base (at + 8)) (mark_want (Some old) m) m =
+    λ i. mark_tests (is_place i) (here i) (is_mark i) in
+    failed (mark_tests (place l.base (at + 8)) (mark_want (Some old) m) m) (marked_tests l (Some old) at bytes) d
+    (ap first_failed (sym same) ∙ e)
+
+-- and one that passes them
+pub marks_pass : (old : Track) (p want mark : ℕ) → first_failed (mark_tests p want mark) ≡ None
+    → want ≡ mark_want (Some old) mark → (mark ≤ 2) × (mark_want (Some old) mark ≡ mark)
+marks_pass old p want mark none is =
+    let pass = all_pass (mark_tests p want mark) none in
+    (omega (arith, pass.0), sym is ∙ pass.1.0)
+
+-- ---- the track, by its mark
+
+module _ (l : Limits) (current : List Track) (at : ℕ) (bytes : List ℕ) (before after : List Track) where
+  -- what adding it answers, by a track of the current point or by none
+  abbrev Adds : Option Track → Result ⊤ BadBody → Type 0
+  Adds old r = Finds (change_tests l old at bytes) (λ _. AddsTold current old at bytes before after) r
+
+  pub adds_same : (old : Track) → track_of (field at 8 bytes) current ≡ Some old → old.id ≡ field at 8 bytes
+      → mark_at at bytes ≡ 0 → after ≡ before ++ old ∷ [] → Adds (Some old) (Ok tt)
+  adds_same old found same none added = (
+    rw none refl,
+    record {
+      track = old;
+      added = added;
+      said = rw none refl;
+      number = inr (ap (λ (n : ℕ). track_of n current) same ∙ found);
+    },
+  )
+
+  pub adds_whole : (old : Track) (r : Result ⊤ BadBody) → old.id ≡ field at 8 bytes → mark_at at bytes ≡ 1
+      → Finds (whole_tests l (at + 1) bytes)
+      (λ _. after ≡ before ++ (record (track_at (at + 1) bytes) { id = old.id }) ∷ []) r → Adds (Some old) r
+  adds_whole old (Ok x) same one e = (
+    rw one e.0,
+    record {
+      track = record (track_at (at + 1) bytes) { id = old.id };
+      added = e.1;
+      said = rw one (ap (λ (n : ℕ). Some (record (track_at (at + 1) bytes) { id = n })) (sym same));
+      number = inl refl;
+    },
+  )
+  adds_whole old (Err bad.NoMemory) same one e = tt
+  adds_whole old (Err (bad.Damaged d)) same one e = rw one e
+
+  pub adds_tail : (old : Track) (r : Result ⊤ BadBody) → mark_at at bytes ≡ 2 → 0 < length old.layout
+      → Finds (tail_tests l (last_start old.layout) (last_blocks old.layout) at bytes)
+      (λ _. after ≡ before ++ tailed (gone_at at bytes) (blocks_at (fresh_at at bytes) (at + 17) bytes) old ∷ []) r
+      → Adds (Some old) r
+  adds_tail old (Ok x) two some e =
+      let none : (length old.layout == 0) ≡ false = ne_eqb (length old.layout) 0 (λ z. omega (arith, z, some)) in (
+        rw (two, none) e.0,
+        record {
+          track = tailed (gone_at at bytes) (blocks_at (fresh_at at bytes) (at + 17) bytes) old;
+          added = e.1;
+          said = rw two refl;
+          number = inl refl;
+        },
+      )
+  adds_tail old (Err bad.NoMemory) two some e = tt
+  adds_tail old (Err (bad.Damaged d)) two some e =
+      let none : (length old.layout == 0) ≡ false = ne_eqb (length old.layout) 0 (λ z. omega (arith, z, some)) in
+      rw (two, none) e
+
+  -- one that the current point lacks
+  pub adds_new : (r : Result ⊤ BadBody)
+      → Finds (change_tests l None at bytes) (λ _. after ≡ before ++ whole_at at bytes ∷ []) r → Adds None r
+  adds_new (Ok x) e =
+      let pass = pass_parts (mark_tests (place l.base (at + 8)) 1 (mark_at at bytes)) (whole_tests l (at + 1) bytes)
+      (all_pass (change_tests l None at bytes) e.0) in
+      let one : mark_at at bytes ≡ 1 = sym pass.0.1.0 in
+      (e.0, record { track = whole_at at bytes; added = e.1; said = rw one refl; number = inl refl })
+  adds_new (Err bad.NoMemory) e = tt
+  adds_new (Err (bad.Damaged d)) e = e
+
+  -- by the track that was found, or by none
+  pub adds_found : (old : Option Track) (r : Result ⊤ BadBody) → track_of (field at 8 bytes) current ≡ old → Adds old r
+      → Adds (track_of (field at 8 bytes) current) r
+  adds_found old r found adds = subst (λ (o : Option Track). Adds o r) (sym found) adds
+
+-- ---- all tracks
+
+last_there : (xs : List Track) (t x : Track) → slice_get (xs ++ t ∷ []) (length xs) ≡ Some x → x ≡ t
+last_there [] t x e = let same : t ≡ x = cc in sym same
+last_there (y ∷ xs) t x e = last_there xs t x e
+
+-- the track that was added last
+pub last_is : (xs ys : List Track) (t x : Track) (n : ℕ) → ys ≡ xs ++ t ∷ [] → n ≡ length ys
+    → slice_get ys (n - 1) ≡ Some x → x ≡ t
+last_is xs ys t x n is len here =
+    let place : n - 1 ≡ length xs = omega (arith, len, ap length is, length-append xs (t ∷ [])) in
+    last_there xs t x (subst (λ (k : ℕ). slice_get (xs ++ t ∷ []) k ≡ Some x) place
+    (subst (λ (zs : List Track). slice_get zs (n - 1) ≡ Some x) is here))
+
+-- what was said so far, and one track more
+pub said_more : (xs ys : List Track) (t : Track) → ys ≡ xs ++ t ∷ []
+    → map Some (map unnumbered ys) ≡ map Some (map unnumbered xs) ++ Some (unnumbered t) ∷ []
+said_more xs ys t is = ap (λ (zs : List Track). map Some (map unnumbered zs)) is
+    ∙ ap (λ (zs : List Track). map Some zs) (map-append unnumbered xs (t ∷ []))
+    ∙ map-append Some (map unnumbered xs) (unnumbered t ∷ [])
+
+-- where none is left
+pub said_all : (current : List Track) (n next : ℕ) (bytes : List ℕ) (xs ys : List (Option Track)) → n ≡ 0
+    → xs ++ all_told_at current n next bytes ≡ ys → xs ≡ ys
+said_all current n next bytes xs ys none e =
+    sym (append-nil xs) ∙ ap (λ (k : ℕ). xs ++ all_told_at current k next bytes) (sym none) ∙ e
+
+pub passed_all : (l : Limits) (current : List Track) (n from next : ℕ) (bytes : List ℕ) (o : Option Damaged) → n ≡ 0
+    → first_failed (all_told_tests l current n from next bytes) ≡ o → o ≡ None
+passed_all l current n from next bytes o none e =
+    sym e ∙ ap (λ (k : ℕ). first_failed (all_told_tests l current k from next bytes)) none
