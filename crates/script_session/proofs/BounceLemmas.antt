@@ -216,7 +216,9 @@ loads_spent used_up pin len ds had h =
     ⊎_elim
     (λ (x : IsRefusedBy used_up (LoadPin pin h.place batch) spent h.last).
     refused_spent used_up (LoadPin pin h.place batch) spent h.last refl last x)
-    (λ (x : (spent ≡ refusal.VaultFault) × (h.last ≡ [])). let no : ⊥ = cc x.0 in absurd no)
+    (λ (x : (spent ≡ refusal.VaultFault) × ((h.last ≡ [])
+    ⊎ ((other : Refusal) × IsRefusedBy used_up (LoadPin pin h.place batch) other h.last))).
+    let no : ⊥ = cc x.0 in absurd no)
     h.ends
 
 unasked_spent : (used_up : Bool) (pin : ℕ) (ds : List Deed) → Each HadTurn ds → Unasked used_up pin spent ds

@@ -47,8 +47,10 @@ end_pin used_up pin most len place (Ok bytes) ds h =
     subst (λ (l : List Deed). Each (OfPin pin) l) (sym h.0) tt
 end_pin used_up pin most len place (Err why) ds (inl h) =
     refused_pin used_up pin (LoadPin pin place most) why ds (inr (inl (place, most, refl))) h
-end_pin used_up pin most len place (Err why) ds (inr h) =
-    subst (λ (l : List Deed). Each (OfPin pin) l) (sym h.1) tt
+end_pin used_up pin most len place (Err why) ds (inr (is, inl none)) =
+    subst (λ (l : List Deed). Each (OfPin pin) l) (sym none) tt
+end_pin used_up pin most len place (Err why) ds (inr (is, inr (other, h))) =
+    refused_pin used_up pin (LoadPin pin place most) other ds (inr (inl (place, most, refl))) h
 
 all_pin : (used_up : Bool) (pin most len : ℕ) (what : Result ℕ Refusal) (ds : List Deed)
     → LoadsAll used_up pin most len what ds → Each (OfPin pin) ds

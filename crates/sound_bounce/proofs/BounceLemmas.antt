@@ -48,7 +48,9 @@ end_later : {A : Type 0} (a b : Bool) (pin batch len place : ℕ) (what : Result
 end_later a b pin batch len place (Ok x) ds later h = h
 end_later a b pin batch len place (Err why) ds later (inl h) =
     inl (refused_later a b (LoadPin pin place batch) why ds later h)
-end_later a b pin batch len place (Err why) ds later (inr h) = inr h
+end_later a b pin batch len place (Err why) ds later (inr (is, inl none)) = inr (is, inl none)
+end_later a b pin batch len place (Err why) ds later (inr (is, inr (other, h))) =
+    inr (is, inr (other, refused_later a b (LoadPin pin place batch) other ds later h))
 
 all_later : (a b : Bool) (pin batch len : ℕ) (what : Result ℕ Refusal) (ds : List Deed) → (a ≡ true → b ≡ true)
     → LoadsAll a pin batch len what ds → LoadsAll b pin batch len what ds

@@ -79,7 +79,7 @@ module _ {D V : Type 0} {disk : Ghosts D} (ghosts : vault.Ghosts V) (name : List
     loads = ⊎_elim
         (λ (x : (why ≡ refusal.VaultFault) × Rose (ghosts.fault_count a) (ghosts.fault_count b)
         × (ghosts.fault_count a ≤ ghosts.fault_count b)).
-        inl (record { place = 0; loads = []; last = []; are = refl; reads = refl; ends = inr (x.0, refl) }))
+        inl (record { place = 0; loads = []; last = []; are = refl; reads = refl; ends = inr (x.0, inl refl) }))
         (λ (x : (why ≡ refusal.TooLong len) × (4294967295 < 36 + 4 * len)
         × (ghosts.fault_count b ≡ ghosts.fault_count a)). inr (refl, x.1, ap Err x.0))
         not;

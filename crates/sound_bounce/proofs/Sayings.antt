@@ -1,6 +1,6 @@
 -- What deeds one after another say of a file.
 use Rattle.std.proofs.Common.{◌≡◌, ◌⊎◌, inl, inr, ⊎_elim, ℕ, ◌+◌, Bool, true, false, List, [], ◌∷◌, ◌++◌, length}
-use Rattle.std.proofs.Common.{refl, sym, ◌∙◌, ap, ap₂, subst, arith, flat_map, Result, Ok, Err}
+use Rattle.std.proofs.Common.{refl, sym, ◌∙◌, ap, ap₂, subst, arith, Result, Ok, Err}
 use Rattle.std.proofs.lemmas.List.{append-nil}
 use Rattle.std.proofs.lemmas.Grind.{flat_map-append}
 use Rattle.pcm_base.specs.declared.answer.Reply.{Reply}
@@ -147,7 +147,9 @@ mute_end : {A : Type 0} (used_up : Bool) (pin batch len place : ℕ) (what : Res
     → LoadsEnd used_up pin batch len place what ds → IsMute ds
 mute_end used_up pin batch len place (Ok x) ds h = subst IsMute (sym h.0) mute_none
 mute_end used_up pin batch len place (Err why) ds (inl h) = mute_refused used_up (LoadPin pin place batch) why ds h
-mute_end used_up pin batch len place (Err why) ds (inr h) = subst IsMute (sym h.1) mute_none
+mute_end used_up pin batch len place (Err why) ds (inr (is, inl none)) = subst IsMute (sym none) mute_none
+mute_end used_up pin batch len place (Err why) ds (inr (is, inr (other, h))) =
+    mute_refused used_up (LoadPin pin place batch) other ds h
 
 pub frames_all : {A : Type 0} (used_up : Bool) (pin batch len : ℕ) (what : Result A Refusal) (ds : List Deed)
     (h : LoadsAll used_up pin batch len what ds) → frames_in ds ≡ frames_in h.loads

@@ -1,6 +1,6 @@
 -- The loads of a pin, one after another, and what is written of each.
 use Rattle.std.proofs.Common.{◌≡◌, ◌⊎◌, inl, inr, ⊎_elim, ℕ, ◌+◌, ◌≤◌, List, [], ◌∷◌, ◌++◌, length, refl, sym, ◌∙◌}
-use Rattle.std.proofs.Common.{ap, subst, Result, Ok, Err, MatchResult}
+use Rattle.std.proofs.Common.{ap, append_assoc, arith, subst, Result, Ok, Err, MatchResult}
 use Rattle.std.specs.Prelude.{IsTrue}
 use Rattle.std.proofs.lemmas.List.{append-nil}
 use Rattle.std.proofs.lemmas.List.FromFn.{length-map-range_with_len}
@@ -35,10 +35,10 @@ use Rattle.studio_seats.specs.Stands.{origin}
 use Rattle.studio_seats.proofs.CallLemmas.{IsTaken, NoTurn, OneCall, one_call, own_on, reason_or}
 use Rattle.studio_seats.proofs.OnwardLemmas.{onward_on, onward_self}
 use Rattle.sound_bounce.specs.Bounces.{AreLoads, GrowFails, Grows, GrowsBy, IsLoadOf, IsRefusedBy}
-use Rattle.sound_bounce.specs.Bounces.{LoadFails, LoadsDone, LoadsOne, LoadsTo, Moved, frames_by, frames_in}
-use Rattle.sound_bounce.specs.Bounces.{loaded_frames, moved, own_in}
+use Rattle.sound_bounce.specs.Bounces.{LoadsAhead, LoadsDone, LoadsNext, LoadsTo, Moved, NextRefused, frames_by}
+use Rattle.sound_bounce.specs.Bounces.{frames_in, loaded_frames, moved, own_in}
 use Rattle.sound_bounce.proofs.Sayings.{bytes_on, bytes_one, mute_refused, told_refused, told_right}
-use Rattle.sound_bounce.proofs.VaultLemmas.{grown_on, grown_so, grows_on, grows_self, keeps_on}
+use Rattle.sound_bounce.proofs.VaultLemmas.{grown_less, grown_on, grown_so, grows_on, grows_self, keeps_on}
 
 -- ---- one load
 
@@ -74,63 +74,31 @@ module _ {D V : Type 0} (disk : Ghosts D) (vaults : vault.Ghosts V) (start : Cor
   long_frames count has =
       ap length (same_frames count has) ∙ length-map-range_with_len (frame_at (loaded_tracks l)) 0 l.len
 
-  -- they were written
-  load_done : (count to : ℕ) → said.what ≡ Ok count → HasLoaded batch count l → (m : Moved V) → to ≡ from + l.len
-      → Grows m (frame_bytes (loaded_frames l)) → LoadsOne pin batch from to (views v w) m
-  load_done count to is has m to_is grows =
+  -- a load that was answered
+  pub load_next : (count : ℕ) → said.what ≡ Ok count → HasLoaded batch count l
+      → LoadsNext pin batch from l (views v w)
+  load_next count is has =
       let one = done_as (Ok count) is in
       ⊎_elim
-      (λ (x : Taken (Ok count) one.onward.added). record {
+      (λ (x : Taken (Ok count) one.onward.added).
+      let next : LoadsNext pin batch from l (views v w) = record {
         onward = one.onward;
         done = deed_by (Ok count);
         own = x.own;
-        reads = (
-          tracks_in l,
-          refl,
-          refl,
-          to_is ∙ ap (λ (n : ℕ). from + n) (sym (long_frames count has)),
-        );
-        grows = subst (λ (fs : List Frame). Grows m (frame_bytes fs)) (sym (same_frames count has)) grows;
+        reads = (tracks_in l, refl, refl, ap (λ (n : ℕ). from + n) (sym (long_frames count has)));
+        frames = same_frames count has;
+        sound = has.sound;
+        fits = subst (λ (n : ℕ). n ≤ batch) (sym has.len) has.few;
         longer = x.longer;
         few = x.few;
-      })
+      } in
+      next)
       (λ (x : NoTurn w said.at (Ok count) one.onward.added). let no : ⊥ = cc x.2 in absurd no)
       one.how
-
-  -- or the vault failed
-  load_lost : (count : ℕ) (why : Refusal) → said.what ≡ Ok count → HasLoaded batch count l → (m : Moved V)
-      → why ≡ refusal.VaultFault → GrowFails m (frame_bytes (loaded_frames l))
-      → LoadFails pin batch from why (views v w) m
-  load_lost count why is has m why_is fails =
-      let one = done_as (Ok count) is in
-      ⊎_elim
-      (λ (x : Taken (Ok count) one.onward.added). record {
-        onward = one.onward;
-        how = inr (
-          why_is,
-          deed_by (Ok count),
-          from + length (frames_by (what_of (Ok count))),
-          x.own,
-          (tracks_in l, refl, refl, refl),
-          subst (λ (fs : List Frame). GrowFails m (frame_bytes fs)) (sym (same_frames count has)) fails,
-        );
-      })
-      (λ (x : NoTurn w said.at (Ok count) one.onward.added). let no : ⊥ = cc x.2 in absurd no)
-      one.how
-
-  pub load_written : (r : Result ℕ Refusal) (count : ℕ) → said.what ≡ Ok count → HasLoaded batch count l
-      → (m : Moved V)
-      → MatchResult r (λ to. (to ≡ from + l.len) × Grows m (frame_bytes (loaded_frames l)))
-      (λ why. (why ≡ refusal.VaultFault) × GrowFails m (frame_bytes (loaded_frames l)))
-      → MatchResult r (λ to. LoadsOne pin batch from to (views v w) m)
-      (λ why. LoadFails pin batch from why (views v w) m)
-  load_written (Ok to) count is has m h = load_done count to is has m h.0 h.1
-  load_written (Err why) count is has m h = load_lost count why is has m h.0 h.1
 
   -- a load that was refused
-  pub load_refused : (why : Refusal) → said.what ≡ Err why → (name : List ℕ) (a : V)
-      → LoadFails pin batch from why (views v w) (moved vaults name a a)
-  load_refused why is name a =
+  pub next_refused : (why : Refusal) → said.what ≡ Err why → NextRefused pin batch from why (views v w)
+  next_refused why is =
       let one = done_as (Err why) is in
       let refused : IsRefusedBy w.used_up (LoadPin pin from batch) why (own_in (views v w) one.onward) = ⊎_elim
       (λ (x : Taken (Err why) one.onward.added). inl (deed_by (Err why), x.own, refl, refl))
@@ -138,7 +106,7 @@ module _ {D V : Type 0} (disk : Ghosts D) (vaults : vault.Ghosts V) (start : Cor
       let none : why ≡ spent = ap (reason_or spent) x.2 in
       inr (ap (deeds_of (by_seat v.number)) x.0, none, x.3))
       one.how in
-      record { onward = one.onward; how = inl (refused, refl) }
+      record { onward = one.onward; refused = refused }
 
 -- ---- one after another
 
@@ -159,34 +127,51 @@ module _ {D V : Type 0} {disk : Ghosts D} (ghosts : vault.Ghosts V) (name : List
   }
 
   module _ (u v w : View (Held D V disk) Deed) (a b c : V) where
-    pub loads_on : (at to : ℕ) → LoadsTo pin batch at (views u v) (moved ghosts name a b)
-        → LoadsOne pin batch at to (views v w) (moved ghosts name b c)
-        → LoadsTo pin batch to (views u w) (moved ghosts name a c)
-    loads_on at to h k =
-        let xs : List Deed = own_in (views u v) h.onward in
+    -- the frames in memory were written
+    pub ahead_written : (to : ℕ) (l : Loaded) → LoadsAhead pin batch to l (views u v) (moved ghosts name a b)
+        → Grows (moved ghosts name b c) (frame_bytes (loaded_frames l))
+        → LoadsTo pin batch to (views u v) (moved ghosts name a c)
+    ahead_written to l h grows =
         let m : Moved V = moved ghosts name a c in
-        let own : deeds_of (by_seat u.number) (h.onward.added ++ k.onward.added) ≡ xs ++ k.done ∷ [] =
-        own_on (IsLoadOf pin) (IsLoadOf pin) u v w h.onward k.onward
-        ∙ ap (λ (ds : List Deed). xs ++ ds) k.own in
-        let bytes : frame_bytes (frames_in (xs ++ k.done ∷ []))
-        ≡ frame_bytes (frames_in xs) ++ frame_bytes (frames_by k.done.what) =
-        bytes_on xs (k.done ∷ []) ∙ ap (λ (l : List ℕ). frame_bytes (frames_in xs) ++ l) (bytes_one k.done) in
+        let xs : List Deed = h.written in
+        let bytes : frame_bytes (frames_in (xs ++ h.last ∷ []))
+        ≡ frame_bytes (frames_in xs) ++ frame_bytes (loaded_frames l) =
+        bytes_on xs (h.last ∷ [])
+        ∙ ap (λ (z : List ℕ). frame_bytes (frames_in xs) ++ z)
+        (bytes_one h.last ∙ ap (λ (fs : List Frame). frame_bytes fs) h.frames) in
         record {
+          onward = h.onward;
+          reads = subst (λ (ds : List Deed). AreLoads pin batch 0 to ds) (sym h.own) h.reads;
+          grows = subst (λ (ds : List Deed). Grows m (frame_bytes (frames_in ds))) (sym h.own)
+              (subst (λ (z : List ℕ). Grows m z) (sym bytes)
+              (grows_on ghosts name a b c (frame_bytes (frames_in xs)) (frame_bytes (loaded_frames l)) h.grows
+              grows));
+        }
+
+    -- the next are in memory
+    pub loads_ahead : (to : ℕ) (l : Loaded) → LoadsTo pin batch to (views u v) (moved ghosts name a b)
+        → LoadsNext pin batch to l (views v w)
+        → LoadsAhead pin batch (to + l.len) l (views u w) (moved ghosts name a b)
+    loads_ahead to l h k =
+        let xs : List Deed = own_in (views u v) h.onward in record {
           onward = onward_on (IsLoadOf pin) u v w h.onward k.onward;
-          reads = subst (λ (ds : List Deed). AreLoads pin batch 0 to ds) (sym own)
-              (reads_append pin batch 0 at to xs (k.done ∷ []) h.reads k.reads);
-          grows = subst (λ (ds : List Deed). Grows m (frame_bytes (frames_in ds))) (sym own)
-              (subst (λ (l : List ℕ). Grows m l) (sym bytes)
-              (grows_on ghosts name a b c (frame_bytes (frames_in xs)) (frame_bytes (frames_by k.done.what)) h.grows
-              k.grows));
+          written = xs;
+          last = k.done;
+          own = own_on (IsLoadOf pin) (IsLoadOf pin) u v w h.onward k.onward
+              ∙ ap (λ (ds : List Deed). xs ++ ds) k.own;
+          reads = reads_append pin batch 0 to (to + l.len) xs (k.done ∷ []) h.reads k.reads;
+          frames = k.frames;
+          sound = k.sound;
+          fits = k.fits;
+          grows = h.grows;
         }
 
     -- a turn of it was refused
     refused_end : (len at : ℕ) (why : Refusal) (h : LoadsTo pin batch at (views u v) (moved ghosts name a b))
         (k : Onward (IsLoadOf pin) v w)
-        → IsRefusedBy w.used_up (LoadPin pin at batch) why (own_in (views v w) k) → c ≡ b
-        → LoadsDone {A = Unit {0}} pin batch len (Err why) (views u w) (moved ghosts name a c)
-    refused_end len at why h k refused same =
+        → IsRefusedBy w.used_up (LoadPin pin at batch) why (own_in (views v w) k)
+        → LoadsDone {A = Unit {0}} pin batch len (Err why) (views u w) (moved ghosts name a b)
+    refused_end len at why h k refused =
         let xs : List Deed = own_in (views u v) h.onward in
         let ys : List Deed = own_in (views v w) k in
         let own : deeds_of (by_seat u.number) (h.onward.added ++ k.added) ≡ xs ++ ys =
@@ -209,31 +194,49 @@ module _ {D V : Type 0} {disk : Ghosts D} (ghosts : vault.Ghosts V) (name : List
         record {
           onward = onward_on (IsLoadOf pin) u v w h.onward k;
           loads = record { place = at; loads = xs; last = ys; are = own; reads = h.reads; ends = inl refused };
-          grows = subst (λ (ds : List Deed). GrowsBy {A = Unit {0}} (Err why) (moved ghosts name a c) ds) (sym own)
-              (subst (λ (z : V). GrowsBy {A = Unit {0}} (Err why) (moved ghosts name a z) (xs ++ ys)) (sym same)
-              still);
+          grows = subst (λ (ds : List Deed). GrowsBy {A = Unit {0}} (Err why) (moved ghosts name a b) ds) (sym own)
+              still;
         }
 
-    -- the vault did not take its frames
-    lost_end : (len at to : ℕ) (why : Refusal) (d : Deed) (h : LoadsTo pin batch at (views u v) (moved ghosts name a b))
-        (k : Onward (IsLoadOf pin) v w) → why ≡ refusal.VaultFault → own_in (views v w) k ≡ d ∷ []
-        → AreLoads pin batch at to (d ∷ []) → GrowFails (moved ghosts name b c) (frame_bytes (frames_by d.what))
-        → LoadsDone {A = Unit {0}} pin batch len (Err why) (views u w) (moved ghosts name a c)
-    lost_end len at to why d h k why_is k_own reads fails =
-        let xs : List Deed = own_in (views u v) h.onward in
-        let own : deeds_of (by_seat u.number) (h.onward.added ++ k.added) ≡ xs ++ d ∷ [] =
-        own_on (IsLoadOf pin) (IsLoadOf pin) u v w h.onward k ∙ ap (λ (ds : List Deed). xs ++ ds) k_own in
-        let bytes : frame_bytes (frames_in (xs ++ d ∷ []))
-        ≡ frame_bytes (frames_in xs) ++ frame_bytes (frames_by d.what) =
-        bytes_on xs (d ∷ []) ∙ ap (λ (l : List ℕ). frame_bytes (frames_in xs) ++ l) (bytes_one d) in
+    pub loads_refused : (len at : ℕ) (why : Refusal) → LoadsTo pin batch at (views u v) (moved ghosts name a b)
+        → NextRefused pin batch at why (views v w)
+        → LoadsDone {A = Unit {0}} pin batch len (Err why) (views u w) (moved ghosts name a b)
+    loads_refused len at why h k = refused_end len at why h k.onward k.refused
+
+    -- The vault did not take the frames in memory. What was loaded meanwhile was not written.
+    lost_end : (len at to : ℕ) (l : Loaded) (more last : List Deed)
+        (h : LoadsAhead pin batch at l (views u v) (moved ghosts name a b)) (k : Onward (IsLoadOf pin) v w)
+        → own_in (views v w) k ≡ more ++ last → AreLoads pin batch at to more
+        → (last ≡ []) ⊎ ((other : Refusal) × IsRefusedBy w.used_up (LoadPin pin to batch) other last)
+        → GrowFails (moved ghosts name b c) (frame_bytes (loaded_frames l))
+        → LoadsDone {A = Unit {0}} pin batch len (Err refusal.VaultFault) (views u w) (moved ghosts name a c)
+    lost_end len at to l more last h k k_own reads ends fails =
+        let xs : List Deed = h.written in
+        let ys : List Deed = xs ++ h.last ∷ [] in
+        let own : deeds_of (by_seat u.number) (h.onward.added ++ k.added) ≡ (ys ++ more) ++ last =
+        own_on (IsLoadOf pin) (IsLoadOf pin) u v w h.onward k
+        ∙ ap (λ (ds : List Deed). ds ++ own_in (views v w) k) h.own
+        ∙ ap (λ (ds : List Deed). ys ++ ds) k_own
+        ∙ sym (append_assoc ys more last) in
+        let rest : List ℕ = frame_bytes (frames_in (more ++ last)) in
+        let front : frame_bytes (frames_in ys) ≡ frame_bytes (frames_in xs) ++ frame_bytes (loaded_frames l) =
+        bytes_on xs (h.last ∷ [])
+        ∙ ap (λ (z : List ℕ). frame_bytes (frames_in xs) ++ z)
+        (bytes_one h.last ∙ ap (λ (fs : List Frame). frame_bytes fs) h.frames) in
+        let bytes : frame_bytes (frames_in ((ys ++ more) ++ last))
+        ≡ (frame_bytes (frames_in xs) ++ frame_bytes (loaded_frames l)) ++ rest =
+        ap (λ (ds : List Deed). frame_bytes (frames_in ds)) (append_assoc ys more last)
+        ∙ bytes_on ys (more ++ last) ∙ ap (λ (z : List ℕ). z ++ rest) front in
         let same : ghosts.fault_count b ≡ ghosts.fault_count a = h.grows.faults in
-        let lost : GrowsBy {A = Unit {0}} (Err why) (moved ghosts name a c) (xs ++ d ∷ []) = (
+        let lost : GrowsBy {A = Unit {0}} (Err refusal.VaultFault) (moved ghosts name a c) ((ys ++ more) ++ last) = (
           keeps_on ghosts name a b c h.grows.keeps fails.keeps,
-          λ told. subst (λ (l : List ℕ). MayHaveGrown l (ghosts.holds a name) (ghosts.holds c name)) (sym bytes)
-              (grown_on ghosts name a b c (frame_bytes (frames_in xs)) (frame_bytes (frames_by d.what)) h.grows fails
-              told),
+          λ told. subst (λ (z : List ℕ). MayHaveGrown z (ghosts.holds a name) (ghosts.holds c name)) (sym bytes)
+              (grown_less (ghosts.holds a name) (ghosts.holds c name)
+              (frame_bytes (frames_in xs) ++ frame_bytes (loaded_frames l)) rest
+              (grown_on ghosts name a b c (frame_bytes (frames_in xs)) (frame_bytes (loaded_frames l)) h.grows fails
+              told)),
           inl (
-            why_is,
+            refl,
             subst (λ (n : ℕ). Rose n (ghosts.fault_count c)) same fails.rose,
             subst (λ (n : ℕ). n ≤ ghosts.fault_count c) same fails.later,
           ),
@@ -242,26 +245,36 @@ module _ {D V : Type 0} {disk : Ghosts D} (ghosts : vault.Ghosts V) (name : List
           onward = onward_on (IsLoadOf pin) u v w h.onward k;
           loads = record {
             place = to;
-            loads = xs ++ d ∷ [];
-            last = [];
-            are = own ∙ sym (append-nil (xs ++ d ∷ []));
-            reads = reads_append pin batch 0 at to xs (d ∷ []) h.reads reads;
-            ends = inr (why_is, refl);
+            loads = ys ++ more;
+            last = last;
+            are = own;
+            reads = reads_append pin batch 0 at to ys more h.reads reads;
+            ends = inr (refl, ends);
           };
-          grows = subst (λ (ds : List Deed). GrowsBy {A = Unit {0}} (Err why) (moved ghosts name a c) ds) (sym own)
-              lost;
+          grows = subst
+              (λ (ds : List Deed). GrowsBy {A = Unit {0}} (Err refusal.VaultFault) (moved ghosts name a c) ds)
+              (sym own) lost;
         }
 
-    pub loads_failed : (len at : ℕ) (why : Refusal) → LoadsTo pin batch at (views u v) (moved ghosts name a b)
-        → LoadFails pin batch at why (views v w) (moved ghosts name b c)
-        → LoadsDone {A = Unit {0}} pin batch len (Err why) (views u w) (moved ghosts name a c)
-    loads_failed len at why h k = ⊎_elim
-        (λ (x : IsRefusedBy w.used_up (LoadPin pin at batch) why (own_in (views v w) k.onward) × (c ≡ b)).
-        refused_end len at why h k.onward x.0 x.1)
-        (λ (x : (why ≡ refusal.VaultFault) × (d : Deed) × (to : ℕ) × (own_in (views v w) k.onward ≡ d ∷ [])
-        × AreLoads pin batch at to (d ∷ []) × GrowFails (moved ghosts name b c) (frame_bytes (frames_by d.what))).
-        lost_end len at x.2 why x.1 h k.onward x.0 x.3 x.4 x.5)
-        k.how
+    -- the next were loaded, or their load was refused
+    pub ahead_lost : {A : Type 0} (len at : ℕ) (l next : Loaded) (what : Result A Refusal)
+        → LoadsAhead pin batch at l (views u v) (moved ghosts name a b)
+        → MatchResult what (λ _. LoadsNext pin batch at next (views v w))
+        (λ why. NextRefused pin batch at why (views v w))
+        → GrowFails (moved ghosts name b c) (frame_bytes (loaded_frames l))
+        → LoadsDone {A = Unit {0}} pin batch len (Err refusal.VaultFault) (views u w) (moved ghosts name a c)
+    ahead_lost len at l next (Ok x) h k fails =
+        lost_end len at (at + next.len) l (k.done ∷ []) [] h k.onward k.own k.reads (inl refl) fails
+    ahead_lost len at l next (Err why) h k fails =
+        lost_end len at at l [] (own_in (views v w) k.onward) h k.onward refl refl (inr (why, k.refused)) fails
+
+  -- no load was made meanwhile
+  pub last_lost : (u v : View (Held D V disk) Deed) (a b c : V) (len at : ℕ) (l : Loaded)
+      → LoadsAhead pin batch at l (views u v) (moved ghosts name a b)
+      → GrowFails (moved ghosts name b c) (frame_bytes (loaded_frames l))
+      → LoadsDone {A = Unit {0}} pin batch len (Err refusal.VaultFault) (views u v) (moved ghosts name a c)
+  last_lost u v a b c len at l h fails =
+      lost_end u v v a b c len at at l [] [] h (onward_self (IsLoadOf pin) v) refl refl (inl refl) fails
 
   -- all are done
   pub loads_done : (u v : View (Held D V disk) Deed) (a b : V) (len at : ℕ) → len ≤ at
@@ -279,3 +292,12 @@ module _ {D V : Type 0} {disk : Ghosts D} (ghosts : vault.Ghosts V) (name : List
     };
     grows = h.grows;
   }
+
+  -- the first are in memory
+  pub first_ahead : (v w : View (Held D V disk) Deed) (a : V) (l : Loaded)
+      → (IsTrue (ghosts.tells a) → IsThere (ghosts.holds a name)) → LoadsNext pin batch 0 l (views v w)
+      → LoadsAhead pin batch l.len l (views v w) (moved ghosts name a a)
+  first_ahead v w a l there k =
+      let h = loads_ahead v v w a a a 0 l (loads_self v a there) k in
+      subst (λ (n : ℕ). LoadsAhead pin batch n l (views v w) (moved ghosts name a a))
+      (let same : 0 + l.len ≡ l.len = omega arith in same) h

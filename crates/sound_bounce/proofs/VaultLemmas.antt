@@ -2,7 +2,7 @@
 use Rattle.std.proofs.Common.{◌≡◌, inl, inr, ℕ, ◌+◌, ◌≤◌, Bool, List, [], ◌++◌, length, take, Option, Some, refl, sym}
 use Rattle.std.proofs.Common.{◌∙◌, ap, subst, arith, append_assoc, length-append, Result, Ok, Err, MatchResult}
 use Rattle.std.specs.Prelude.{IsTrue, OnOk, OnErr}
-use Rattle.std.proofs.lemmas.List.{append-nil, take_all}
+use Rattle.std.proofs.lemmas.List.{append-nil, take-append-le, take_all}
 use Rattle.std.proofs.Math.Seq.{take-add, take-append_seam, drop-append_seam}
 use Rattle.pcm_base.specs.Causes.{HasCause}
 use Rattle.pcm_base.specs.Outside.{SameElsewhere}
@@ -30,6 +30,17 @@ grown_after old mid new done piece before (inr (n, le, is)) =
       is ∙ ap (λ o. Some (sound_bytes o ++ take n piece)) before
           ∙ ap Some (append_assoc (sound_bytes old) done (take n piece))
           ∙ ap (λ xs. Some (sound_bytes old ++ xs)) (sym (take_past done piece n)),
+    )
+
+-- of what would have been a longer part
+pub grown_less : (old new : Option (List ℕ)) (bytes more : List ℕ) → MayHaveGrown bytes old new
+    → MayHaveGrown (bytes ++ more) old new
+grown_less old new bytes more (inl same) = inl same
+grown_less old new bytes more (inr (n, le, is)) =
+    inr (
+      n,
+      omega (arith, le, length-append bytes more),
+      is ∙ ap (λ xs. Some (sound_bytes old ++ xs)) (sym (take-append-le n bytes more le)),
     )
 
 -- all of it came

@@ -22,7 +22,7 @@ use Rattle.disk_model.specs.declared.store.Store.{Ghosts}
 use Rattle.edit_ports.specs.declared.vault.Vault as vault
 use Rattle.edit_ports.specs.Sounds.{MayHaveGrown, sound_bytes}
 use Rattle.mixdown.specs.declared.loaded.Loaded.{Loaded}
-use Rattle.mixdown.specs.Loads.{heard_track, loaded_tracks}
+use Rattle.mixdown.specs.Loads.{IsLoaded, heard_track, loaded_tracks}
 use Rattle.editor_state.specs.Core.{Core}
 use Rattle.pin_turn.specs.Counts.{Each}
 use Rattle.wav_pcm.specs.Wavs.{wav_head}
@@ -101,8 +101,8 @@ abbrev pub IsOfBounce : Call → Type 0
 IsOfBounce c = (c ≡ Pin) ⊎ ((pin : ℕ) × IsAfterPin pin c)
 
 -- the own deeds of a seat that went on
-abbrev pub own_in : {D V : Type 0} {disk : Ghosts D} {fits : Call → Type 0} (seat : Views D V disk) → Onward fits seat.before seat.after
-    → List Deed
+abbrev pub own_in : {D V : Type 0} {disk : Ghosts D} {fits : Call → Type 0} (seat : Views D V disk)
+    → Onward fits seat.before seat.after → List Deed
 own_in seat h = deeds_of (by_seat seat.before.number) h.added
 
 -- These deeds load a pin from this place on, `batch` frames each at most, and came to the other place. Each begins where
@@ -141,10 +141,13 @@ IsRefusedBy used_up call why ds =
     ((d : Deed) × (ds ≡ d ∷ []) × (d.call ≡ call) × (d.what ≡ Err why))
     ⊎ ((ds ≡ []) × (why ≡ spent) × (used_up ≡ true))
 
--- a load at this place was refused; or the vault failed
+-- A load at this place was refused. Or the vault failed; then there is no deed more, or a load that was made before and
+-- refused for a reason of its own.
 abbrev pub LoadRefused : (used_up : Bool) (pin batch place : ℕ) → Refusal → List Deed → Type 0
 LoadRefused used_up pin batch place why ds =
-    IsRefusedBy used_up (LoadPin pin place batch) why ds ⊎ ((why ≡ refusal.VaultFault) × (ds ≡ []))
+    IsRefusedBy used_up (LoadPin pin place batch) why ds
+    ⊎ ((why ≡ refusal.VaultFault)
+    × ((ds ≡ []) ⊎ ((other : Refusal) × IsRefusedBy used_up (LoadPin pin place batch) other ds)))
 
 -- how the loads of a mix of this many frames ended: all were loaded, or one was refused
 abbrev pub LoadsEnd : {A : Type 0} (used_up : Bool) (pin batch len place : ℕ) → Result A Refusal → List Deed → Type 0
@@ -252,31 +255,42 @@ pub record Holds {V : Type 0} (m : Moved V) (text : List ℕ) (what : Result ℕ
 
 -- ---- the calls
 
--- one load, whose frames were written
-pub record LoadsOne {D V : Type 0} {disk : Ghosts D} (pin batch from to : ℕ) (seat : Views D V disk) (m : Moved V) : Type 0 where
+-- one load, and what it gave
+pub record LoadsNext {D V : Type 0} {disk : Ghosts D} (pin batch from : ℕ) (l : Loaded) (seat : Views D V disk)
+    : Type 0 where
   pub onward : Onward (IsLoadOf pin) seat.before seat.after
   pub done : Deed
   pub own : own_in seat onward ≡ done ∷ []
-  pub reads : AreLoads pin batch from to (done ∷ [])
-  pub grows : Grows m (frame_bytes (frames_by done.what))
+  pub reads : AreLoads pin batch from (from + l.len) (done ∷ [])
+  pub frames : frames_by done.what ≡ loaded_frames l
+  pub sound : IsLoaded l
+  pub fits : l.len ≤ batch
   -- one turn more was taken
   pub longer : length seat.before.seen < length seat.after.seen
   pub few : length seat.before.seen < COUNTER_LIMIT
 
--- a load that was refused, before anything of it was written; or one whose frames the vault did not take
-abbrev pub FailsBy : {D V : Type 0} {disk : Ghosts D} (pin batch from : ℕ) → Refusal → (seat : Views D V disk) → Moved V → List Deed → Type 0
-FailsBy pin batch from why seat m own =
-    (IsRefusedBy seat.after.used_up (LoadPin pin from batch) why own × (m.new ≡ m.old))
-    ⊎ ((why ≡ refusal.VaultFault) × (d : Deed) × (to : ℕ) × (own ≡ d ∷ []) × AreLoads pin batch from to (d ∷ [])
-    × GrowFails m (frame_bytes (frames_by d.what)))
+-- a load that was refused
+pub record NextRefused {D V : Type 0} {disk : Ghosts D} (pin batch from : ℕ) (why : Refusal) (seat : Views D V disk)
+    : Type 0 where
+  pub onward : Onward (IsLoadOf pin) seat.before seat.after
+  pub refused : IsRefusedBy seat.after.used_up (LoadPin pin from batch) why (own_in seat onward)
 
-pub record LoadFails {D V : Type 0} {disk : Ghosts D} (pin batch from : ℕ) (why : Refusal) (seat : Views D V disk) (m : Moved V) : Type 0
-  where
-    pub onward : Onward (IsLoadOf pin) seat.before seat.after
-    pub how : FailsBy pin batch from why seat m (own_in seat onward)
+-- The loads so far. The frames of the last are in memory, and those of the others were written.
+pub record LoadsAhead {D V : Type 0} {disk : Ghosts D} (pin batch to : ℕ) (l : Loaded) (seat : Views D V disk)
+    (m : Moved V) : Type 0 where
+  pub onward : Onward (IsLoadOf pin) seat.before seat.after
+  pub written : List Deed
+  pub last : Deed
+  pub own : own_in seat onward ≡ written ++ last ∷ []
+  pub reads : AreLoads pin batch 0 to (written ++ last ∷ [])
+  pub frames : frames_by last.what ≡ loaded_frames l
+  pub sound : IsLoaded l
+  pub fits : l.len ≤ batch
+  pub grows : Grows m (frame_bytes (frames_in written))
 
 -- the loads so far, whose frames were written
-pub record LoadsTo {D V : Type 0} {disk : Ghosts D} (pin batch to : ℕ) (seat : Views D V disk) (m : Moved V) : Type 0 where
+pub record LoadsTo {D V : Type 0} {disk : Ghosts D} (pin batch to : ℕ) (seat : Views D V disk)
+    (m : Moved V) : Type 0 where
   pub onward : Onward (IsLoadOf pin) seat.before seat.after
   pub reads : AreLoads pin batch 0 to (own_in seat onward)
   pub grows : Grows m (frame_bytes (frames_in (own_in seat onward)))
@@ -290,15 +304,15 @@ GrowsBy (Err why) m own = Keeps m
     × FaultsBy why own (m.ghosts.fault_count m.old) (m.ghosts.fault_count m.new)
 
 -- the loads of a mix of this many frames, to their end
-pub record LoadsDone {D V A : Type 0} {disk : Ghosts D} (pin batch len : ℕ) (what : Result A Refusal) (seat : Views D V disk) (m : Moved V)
-    : Type 0 where
+pub record LoadsDone {D V A : Type 0} {disk : Ghosts D} (pin batch len : ℕ) (what : Result A Refusal)
+    (seat : Views D V disk) (m : Moved V) : Type 0 where
   pub onward : Onward (IsLoadOf pin) seat.before seat.after
   pub loads : LoadsAll seat.after.used_up pin batch len what (own_in seat onward)
   pub grows : GrowsBy what m (own_in seat onward)
 
 -- The file of a pin that has this many frames. TooLong comes before anything is read or written.
-pub record Files {D V : Type 0} {disk : Ghosts D} (rate pin batch len : ℕ) (what : Result ℕ Refusal) (seat : Views D V disk) (m : Moved V)
-    : Type 0 where
+pub record Files {D V : Type 0} {disk : Ghosts D} (rate pin batch len : ℕ) (what : Result ℕ Refusal)
+    (seat : Views D V disk) (m : Moved V) : Type 0 where
   pub onward : Onward (IsLoadOf pin) seat.before seat.after
   pub loads : LoadsAll seat.after.used_up pin batch len what (own_in seat onward)
       ⊎ ((own_in seat onward ≡ []) × (4294967295 < 36 + 4 * len) × (what ≡ Err (refusal.TooLong len)))
@@ -320,15 +334,15 @@ pub record Spares {V : Type 0} (rate : ℕ) (what : Result ℕ Refusal) (own : L
   pub faults : FaultsOf what own (m.ghosts.fault_count m.old) (m.ghosts.fault_count m.new)
 
 -- a pin's mix was written
-pub record IsWritten {D V : Type 0} {disk : Ghosts D} (rate pin batch : ℕ) (what : Result ℕ Refusal) (seat : Views D V disk) (m : Moved V)
-    : Type 0 where
+pub record IsWritten {D V : Type 0} {disk : Ghosts D} (rate pin batch : ℕ) (what : Result ℕ Refusal)
+    (seat : Views D V disk) (m : Moved V) : Type 0 where
   pub onward : Onward (IsReadIn pin) seat.before seat.after
   pub reads : ReadsPin seat.after.used_up pin batch what (own_in seat onward)
   pub spares : Spares rate what (own_in seat onward) m
 
 -- and the pin let go
-pub record IsDone {D V : Type 0} {disk : Ghosts D} (rate pin batch : ℕ) (what : Result ℕ Refusal) (seat : Views D V disk) (m : Moved V)
-    : Type 0 where
+pub record IsDone {D V : Type 0} {disk : Ghosts D} (rate pin batch : ℕ) (what : Result ℕ Refusal)
+    (seat : Views D V disk) (m : Moved V) : Type 0 where
   pub onward : Onward (IsAfterPin pin) seat.before seat.after
   pub after : AfterPin seat.after.used_up pin batch what (own_in seat onward)
   pub spares : Spares rate what (own_in seat onward) m
@@ -340,13 +354,13 @@ pub record IsGone {D V : Type 0} {disk : Ghosts D} (pin : ℕ) (may : Bool) (sea
 
 -- A bounce: its turns, what it says, and what becomes of the sound. It says the commit number after the turn of its
 -- pin, which is the first of its own. A seat that found that no turn is left takes none.
-pub record Bounced {D V : Type 0} {disk : Ghosts D} (o : Origin D V) (batch : ℕ) (said : Said ℕ) (seat : Views D V disk) (m : Moved V) : Type 0
-  where
-    pub onward : Onward IsOfBounce seat.before seat.after
-    pub deeds : BounceDeeds seat.after.used_up batch said.what (own_in seat onward)
-    pub number : TellsPin o.start.commit_number seat.before.seen said.at onward.added (own_in seat onward)
-    pub idle : seat.before.used_up ≡ true → onward.added ≡ []
-    pub spares : Spares o.start.rate said.what (own_in seat onward) m
+pub record Bounced {D V : Type 0} {disk : Ghosts D} (o : Origin D V) (batch : ℕ) (said : Said ℕ)
+    (seat : Views D V disk) (m : Moved V) : Type 0 where
+  pub onward : Onward IsOfBounce seat.before seat.after
+  pub deeds : BounceDeeds seat.after.used_up batch said.what (own_in seat onward)
+  pub number : TellsPin o.start.commit_number seat.before.seen said.at onward.added (own_in seat onward)
+  pub idle : seat.before.used_up ≡ true → onward.added ≡ []
+  pub spares : Spares o.start.rate said.what (own_in seat onward) m
 
 -- ---- what it amounts to
 

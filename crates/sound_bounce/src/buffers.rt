@@ -2,20 +2,18 @@
 ghost use Rattle.std.specs.Prelude.{◌≡◌, ◌≤◌, ◌+◌, ◌*◌, length, IfOk};
 ghost use Rattle.pcm_base.specs.declared.limits.TheConstants.{MAX_LOADED};
 
-use mixdown::Loaded;
 use pcm_base::{Frame, NoMemory};
 use std::alloc::Global;
 
-/// A stretch of the tracks, its frames, and their bytes.
+/// The frames of a stretch, and their bytes.
 #[derive(Drop)]
 pub(crate) struct Buffers {
-    pub(crate) loaded: Loaded,
     pub(crate) frames: Vec<Frame>,
     pub(crate) bytes: Vec<u8>,
 }
 
 impl Buffers {
-    /// Room for this many frames. The cells of the tracks take theirs at the first load, when it is known how many
+    /// Room for this many frames. The cells of the tracks take theirs at the first two loads, when it is known how many
     /// tracks there are.
     pub(crate) fn new(alloc: Global, batch: usize) -> Result<Buffers, NoMemory>
         requires few { batch ≤ MAX_LOADED }
@@ -25,10 +23,6 @@ impl Buffers {
         let silence = Frame { left: 0, right: 0 };
         let frames = vec![in alloc; silence; batch]?;
         let bytes = vec![in alloc; 0u8; 64 + 4 * batch]?;
-        Ok(Buffers {
-            loaded: Loaded::new(alloc),
-            frames,
-            bytes,
-        })
+        Ok(Buffers { frames, bytes })
     }
 }

@@ -5,6 +5,7 @@
 //! turns. After an error the sound is as it was, or holds the first bytes of that file.
 #![tactic(auto)]
 
+mod beside;
 mod buffers;
 mod laws;
 mod snapshot;

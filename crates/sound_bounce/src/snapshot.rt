@@ -19,7 +19,6 @@ use super::buffers::Buffers;
 use super::stretches::write_stretches;
 use disk_model::Store;
 use edit_ports::Vault;
-use mixdown::Loaded;
 use pcm_base::{Frame, Refusal, Said};
 use std::alloc::Global;
 use std::sync::Wait;
@@ -42,6 +41,7 @@ fn sized(len: u64, what: Result<(), Refusal>) -> Result<u64, Refusal>
 /// is written.
 fn write_file<R: Threads + Wait + Sync, S: Store, V: Vault>(
     rt: &R,
+    alloc: Global,
     desk: &Desk<S, V>,
     seat: &mut DeskSeat<S, V>,
     vault: &mut V,
@@ -49,7 +49,6 @@ fn write_file<R: Threads + Wait + Sync, S: Store, V: Vault>(
     pin: u64,
     len: u64,
     batch: usize,
-    loaded: &mut Loaded,
     frames: &mut [Frame],
     bytes: &mut [u8],
 ) -> Result<u64, Refusal>
@@ -66,7 +65,7 @@ fn write_file<R: Threads + Wait + Sync, S: Store, V: Vault>(
         Ok(()) => sized(
             len,
             write_stretches(
-                rt, desk, seat, vault, name, pin, len, batch, loaded, frames, bytes,
+                rt, alloc, desk, seat, vault, name, pin, len, batch, frames, bytes,
             ),
         ),
         Err(reason) => Err(reason),
@@ -76,13 +75,13 @@ fn write_file<R: Threads + Wait + Sync, S: Store, V: Vault>(
 /// Writes the mix of a pin, and answers how many bytes the file has. The length is asked in one turn.
 fn write_pinned<R: Threads + Wait + Sync, S: Store, V: Vault>(
     rt: &R,
+    alloc: Global,
     desk: &Desk<S, V>,
     seat: &mut DeskSeat<S, V>,
     vault: &mut V,
     name: &str,
     pin: u64,
     batch: usize,
-    loaded: &mut Loaded,
     frames: &mut [Frame],
     bytes: &mut [u8],
 ) -> Result<u64, Refusal>
@@ -97,7 +96,7 @@ fn write_pinned<R: Threads + Wait + Sync, S: Store, V: Vault>(
     let Said { at: _, what } = desk.pin_len(rt, seat, pin);
     match what {
         Ok(len) => write_file(
-            rt, desk, seat, vault, name, pin, len, batch, loaded, frames, bytes,
+            rt, alloc, desk, seat, vault, name, pin, len, batch, frames, bytes,
         ),
         Err(reason) => Err(reason),
     }
@@ -147,13 +146,13 @@ fn let_go<R: Wait, S: Store, V: Vault>(
 /// Writes the mix of a pin, and lets the pin go.
 fn write_and_let_go<R: Threads + Wait + Sync, S: Store, V: Vault>(
     rt: &R,
+    alloc: Global,
     desk: &Desk<S, V>,
     seat: &mut DeskSeat<S, V>,
     vault: &mut V,
     name: &str,
     pin: u64,
     batch: usize,
-    loaded: &mut Loaded,
     frames: &mut [Frame],
     bytes: &mut [u8],
 ) -> Result<u64, Refusal>
@@ -166,7 +165,7 @@ fn write_and_let_go<R: Threads + Wait + Sync, S: Store, V: Vault>(
         (moved V.Vault name.now vault.old vault.new) }
 {
     let what = write_pinned(
-        rt, desk, seat, vault, name, pin, batch, loaded, frames, bytes,
+        rt, alloc, desk, seat, vault, name, pin, batch, frames, bytes,
     );
     let may = may_let_go(&what);
     let _gone = let_go(rt, desk, seat, pin, may);
@@ -176,12 +175,12 @@ fn write_and_let_go<R: Threads + Wait + Sync, S: Store, V: Vault>(
 /// As [`bounce`], with memory for it.
 fn write_current<R: Threads + Wait + Sync, S: Store, V: Vault>(
     rt: &R,
+    alloc: Global,
     desk: &Desk<S, V>,
     seat: &mut DeskSeat<S, V>,
     vault: &mut V,
     name: &str,
     batch: usize,
-    loaded: &mut Loaded,
     frames: &mut [Frame],
     bytes: &mut [u8],
 ) -> Said<u64>
@@ -198,7 +197,7 @@ fn write_current<R: Threads + Wait + Sync, S: Store, V: Vault>(
         Ok(pin) => Said {
             at,
             what: write_and_let_go(
-                rt, desk, seat, vault, name, pin, batch, loaded, frames, bytes,
+                rt, alloc, desk, seat, vault, name, pin, batch, frames, bytes,
             ),
         },
         Err(reason) => Said {
@@ -209,18 +208,18 @@ fn write_current<R: Threads + Wait + Sync, S: Store, V: Vault>(
 }
 
 /// Writes the mix of the current project as a WAV file, and lets others have turns meanwhile. One turn pins the
-/// project. One asks how long its mix is. For each `batch` frames one turn loads the tracks. They are mixed in threads,
-/// and written to the vault, while no turn is kept. A last turn lets the pin go. So the file is the mix of the project
-/// as it was at the commit number that is said, whatever others do before the file is whole.
+/// project. One asks how long its mix is. For each `batch` frames one turn loads the tracks. They are mixed in threads
+/// while the next are loaded, and then written to the vault. A last turn lets the pin go. So the file is the mix of the
+/// project as it was at the commit number that is said, whatever others do before the file is whole.
 ///
-/// Memory is taken for `batch` frames, their bytes, and the cells of the tracks. It does not grow with the length of
-/// the mix.
+/// Memory is taken for `batch` frames, their bytes, and the cells of the tracks, twice. It does not grow with the
+/// length of the mix.
 ///
 /// # Errors
 ///
 /// `NoMemory` where there is none, which is the first thing that is tested; those of [`Desk::pin`]; `TooLong` before
-/// anything is written; those of [`Desk::load_pin`]; `VaultFault`. After each but `NoPin` and `Spent` the pin is let
-/// go. The sound is as it was, or holds the first bytes of the file.
+/// anything is written; those of [`Desk::load_pin`]; `VaultFault`, also where the next load was refused. After each
+/// but `NoPin` and `Spent` the pin is let go. The sound is as it was, or holds the first bytes of the file.
 pub fn bounce<R: Threads + Wait + Sync, S: Store, V: Vault>(
     rt: &R,
     alloc: Global,
@@ -240,12 +239,12 @@ pub fn bounce<R: Threads + Wait + Sync, S: Store, V: Vault>(
     match Buffers::new(alloc, batch) {
         Ok(mut buffers) => write_current(
             rt,
+            alloc,
             desk,
             seat,
             vault,
             name,
             batch,
-            &mut buffers.loaded,
             buffers.frames.as_mut_slice(),
             buffers.bytes.as_mut_slice(),
         ),

@@ -1,42 +1,85 @@
--- One stretch more is written.
+-- One stretch more is written, and one more loaded.
 use Rattle.std.proofs.Common.{arith}
 use Rattle.pin_turn.specs.Calls.{known}
-use Rattle.sound_bounce.proofs.StretchLemmas.{loads_done, loads_failed, loads_on, loads_self}
+use Rattle.sound_bounce.proofs.StretchLemmas.{ahead_lost, ahead_written, first_ahead, last_lost, loads_ahead}
+use Rattle.sound_bounce.proofs.StretchLemmas.{loads_done, loads_refused, loads_self}
 use Rattle.sound_bounce.proofs.stretches.write_stretches.Goals as goal
 
-pub stretches-init : goal.stretches-init
-stretches-init g c = record {
-  same = c.requires.seat;
-  loads = loads_self g.V.Vault c.args.name.now c.args.pin c.args.batch (known c.args.seat.now) c.args.vault.now
-      c.requires.there;
-}
-
-pub write_stretch-requires-clause-few : goal.write_stretch-requires-clause-few
-write_stretch-requires-clause-few g c =
-    omega (arith, c.stretches-test.true, c.requires.few, c.requires.batch)
-
-pub stretches-preserved : goal.stretches-preserved
-stretches-preserved g c =
-    let one = c.in-Ok.ensures.stretch in record {
-      same = c.write_stretch.ensures.same;
-      loads = loads_on g.V.Vault c.args.name.now c.args.pin c.args.batch (known c.args.seat.now)
-          (known c.stretches.seat) (known c.write_stretch.new.seat) c.args.vault.now c.stretches.vault
-          c.write_stretch.new.vault c.stretches.at c.in-Ok.to c.stretches.invariant.loads one;
-    }
-
-pub stretches-smaller : goal.stretches-smaller
-stretches-smaller g c =
-    let one = c.in-Ok.ensures.stretch in
-    omega (arith, one.longer, one.few)
+pub returns-then-len-eq0-clause-loads : goal.returns-then-len-eq0-clause-loads
+returns-then-len-eq0-clause-loads g c =
+    let v = known c.args.seat.now in
+    let a = c.args.vault.now in
+    loads_done g.V.Vault c.args.name.now c.args.pin c.args.batch v v a a c.args.len 0 (omega (arith, c.if-len-eq0.true))
+    (loads_self g.V.Vault c.args.name.now c.args.pin c.args.batch v a c.requires.there)
 
 pub returns-in-Err-clause-loads : goal.returns-in-Err-clause-loads
 returns-in-Err-clause-loads g c =
-    loads_failed g.V.Vault c.args.name.now c.args.pin c.args.batch (known c.args.seat.now)
-    (known c.stretches.seat) (known c.write_stretch.new.seat) c.args.vault.now c.stretches.vault
-    c.write_stretch.new.vault c.args.len c.stretches.at c.in-Err.reason c.stretches.invariant.loads
-    c.in-Err.ensures.stretch
+    let v = known c.args.seat.now in
+    let a = c.args.vault.now in
+    loads_refused g.V.Vault c.args.name.now c.args.pin c.args.batch v v (known c.load_stretch.new.seat) a a a c.args.len
+    0 c.in-Err.reason (loads_self g.V.Vault c.args.name.now c.args.pin c.args.batch v a c.requires.there)
+    c.in-Err.ensures.load
+
+pub stretches-init : goal.stretches-init
+stretches-init g c = record {
+  same = c.load_stretch.ensures.same;
+  ahead = first_ahead g.V.Vault c.args.name.now c.args.pin c.args.batch (known c.args.seat.now)
+      (known c.load_stretch.new.seat) c.args.vault.now c.load_stretch.new.loaded c.requires.there
+      c.in-Ok.ensures.load;
+}
+
+pub stretches-preserved : goal.stretches-preserved
+stretches-preserved g c =
+    let u = known c.args.seat.now in
+    let v = known c.stretches.seat in
+    let w = known c.write_and_load-wrote.new.seat in
+    let a = c.args.vault.now in
+    let b = c.write_and_load-wrote.new.vault in
+    let grows = rw c.in-Ok-wrote.is at c.write_and_load-wrote.ensures.write in
+    let next = rw c.in-Ok-what.is at c.write_and_load-wrote.ensures.load in
+    let done = ahead_written g.V.Vault c.args.name.now c.args.pin c.args.batch u v v a c.stretches.vault b
+    c.stretches.to c.stretches.loaded c.stretches.invariant.ahead grows in
+    record {
+      same = c.write_and_load-wrote.ensures.same;
+      ahead = rw c.swap.ensures.x_after (loads_ahead g.V.Vault c.args.name.now c.args.pin c.args.batch u v w a b b
+          c.stretches.to c.write_and_load-wrote.new.next done next);
+    }
+
+pub returns-in-Err-what-clause-loads : goal.returns-in-Err-what-clause-loads
+returns-in-Err-what-clause-loads g c =
+    let u = known c.args.seat.now in
+    let v = known c.stretches.seat in
+    let w = known c.write_and_load-wrote.new.seat in
+    let a = c.args.vault.now in
+    let b = c.write_and_load-wrote.new.vault in
+    let grows = rw c.in-Ok-wrote.is at c.write_and_load-wrote.ensures.write in
+    let refused = rw c.in-Err-what.is at c.write_and_load-wrote.ensures.load in
+    let done = ahead_written g.V.Vault c.args.name.now c.args.pin c.args.batch u v v a c.stretches.vault b
+    c.stretches.to c.stretches.loaded c.stretches.invariant.ahead grows in
+    loads_refused g.V.Vault c.args.name.now c.args.pin c.args.batch u v w a b b c.args.len c.stretches.to
+    c.in-Err-what.reason done refused
+
+pub returns-in-Err-wrote-clause-loads : goal.returns-in-Err-wrote-clause-loads
+returns-in-Err-wrote-clause-loads g c =
+    let fails = rw c.in-Err-wrote.is at c.write_and_load-wrote.ensures.write in
+    ahead_lost g.V.Vault c.args.name.now c.args.pin c.args.batch (known c.args.seat.now) (known c.stretches.seat)
+    (known c.write_and_load-wrote.new.seat) c.args.vault.now c.stretches.vault c.write_and_load-wrote.new.vault
+    c.args.len c.stretches.to c.stretches.loaded c.write_and_load-wrote.new.next c.write_and_load-wrote.result.1
+    c.stretches.invariant.ahead c.write_and_load-wrote.ensures.load fails
+
+pub returns-in-Ok-write_loaded-clause-loads : goal.returns-in-Ok-write_loaded-clause-loads
+returns-in-Ok-write_loaded-clause-loads g c =
+    let u = known c.args.seat.now in
+    let v = known c.stretches.seat in
+    let a = c.args.vault.now in
+    let b = c.write_loaded.new.vault in
+    loads_done g.V.Vault c.args.name.now c.args.pin c.args.batch u v a b c.args.len c.stretches.to
+    c.stretches-test.false
+    (ahead_written g.V.Vault c.args.name.now c.args.pin c.args.batch u v v a c.stretches.vault b c.stretches.to
+    c.stretches.loaded c.stretches.invariant.ahead c.in-Ok-write_loaded.ensures)
 
 pub returns-clause-loads : goal.returns-clause-loads
 returns-clause-loads g c =
-    loads_done g.V.Vault c.args.name.now c.args.pin c.args.batch (known c.args.seat.now) (known c.stretches.seat)
-    c.args.vault.now c.stretches.vault c.args.len c.stretches.at c.stretches-test.false c.stretches.invariant.loads
+    last_lost g.V.Vault c.args.name.now c.args.pin c.args.batch (known c.args.seat.now) (known c.stretches.seat)
+    c.args.vault.now c.stretches.vault c.write_loaded.new.vault c.args.len c.stretches.to c.stretches.loaded
+    c.stretches.invariant.ahead c.in-Err-write_loaded.ensures

@@ -1,15 +1,15 @@
--- The loads so far, whose frames were written.
+-- The loads so far, of which the last is in memory.
 use Rattle.std.proofs.Common.{◌-◌, length}
 use Rattle.pcm_base.specs.declared.limits.TheConstants.{COUNTER_LIMIT}
 use Rattle.pin_turn.specs.Calls.{known}
 use Rattle.studio_seats.specs.Desks.{IsAt, views}
-use Rattle.sound_bounce.specs.Bounces.{LoadsTo, moved}
+use Rattle.sound_bounce.specs.Bounces.{LoadsAhead, moved}
 use Rattle.sound_bounce.proofs.stretches.write_stretches.Given as goal
 
 abbrev pub invariant-stretches : goal.invariant-stretches
 invariant-stretches g l = record {
   same : IsAt l.desk l.seat;
-  loads : LoadsTo l.pin l.batch l.at (views (known l.fn.seat) (known l.seat))
+  ahead : LoadsAhead l.pin l.batch l.to l.loaded (views (known l.fn.seat) (known l.seat))
       (moved g.V.Vault l.name l.fn.vault l.vault);
 }
 

@@ -1,5 +1,5 @@
 -- What was mixed is appended.
-use Rattle.std.proofs.Common.{◌≡◌, ◌++◌, List, length, Some, subst, arith}
+use Rattle.std.proofs.Common.{◌≡◌, ◌++◌, List, Some, subst, arith}
 use Rattle.std.specs.Prelude.{OnErr, OnOk}
 use Rattle.std.proofs.lemmas.List.{length-take}
 use Rattle.pcm_base.specs.declared.sound.Frame.{Frame}
@@ -7,14 +7,13 @@ use Rattle.pcm_base.specs.Recordings.{frame_bytes}
 use Rattle.edit_ports.specs.Sounds.{MayHaveGrown, sound_bytes}
 use Rattle.sound_bounce.specs.Bounces.{loaded_frames}
 use Rattle.sound_bounce.proofs.VaultLemmas.{grown_by}
-use Rattle.sound_bounce.proofs.stretches.write_loaded.Goals as goal
+use Rattle.sound_bounce.proofs.stretches.append_mixed.Goals as goal
 
 pub append_piece-requires : goal.append_piece-requires
 append_piece-requires g c =
     omega (
       arith,
-      length-take c.args.loaded.now.len c.mix_front.new.frames,
-      c.mix_front.auto.frames,
+      length-take c.args.loaded.now.len c.args.frames.now,
       c.requires.room,
       c.requires.bytes,
     )
@@ -28,6 +27,6 @@ returns g c =
     let F : List Frame → Type 0 = λ fs. OnErr c.append_piece.result (MayHaveGrown (frame_bytes fs) old new) in
     grown_by g.V.Vault name c.args.vault.now c.append_piece.new.vault (frame_bytes (loaded_frames c.args.loaded.now))
     c.append_piece.result
-    (λ told. subst W c.mix_front.ensures (c.append_piece.ensures.appended told))
-    (λ told. subst F c.mix_front.ensures (c.append_piece.ensures.failed told))
+    (λ told. subst W c.requires.mixed (c.append_piece.ensures.appended told))
+    (λ told. subst F c.requires.mixed (c.append_piece.ensures.failed told))
     c.append_piece.ensures.others c.append_piece.ensures.tells c.append_piece.ensures.cause
