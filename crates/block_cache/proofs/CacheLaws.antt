@@ -3,18 +3,17 @@ use Rattle.std.proofs.Common.{◌≡◌, ℕ, ◌+◌, ◌*◌, ◌≤◌, refl,
 use Rattle.std.proofs.Common.{Bool, ℤ, length, Option}
 use Rattle.std.specs.Prelude.{IsTrue}
 use Rattle.lru.proofs.Splits.{Contains-head, Contains-nil}
-use Rattle.disk_model.specs.Disk.{Files, bytes_of, SameElsewhere}
-use Rattle.disk_model.specs.Frames.{Kept}
-use Rattle.disk_model.specs.declared.store.Store.{Ghosts}
+use Rattle.disk_model.specs.{Disk.Files, Disk.bytes_of, Disk.SameElsewhere, Frames.Kept, declared.store.Store.Ghosts}
 use Rattle.pcm_base.specs.declared.block.BlockRef.{BlockRef}
 use Rattle.peak_summary.specs.declared.stretch.Summary.{Summary}
 use Rattle.block_store.specs.declared.frames.Level.{Level}
 use Rattle.block_store.specs.declared.frames.Level.TheVariants.{Short, Long}
-use Rattle.sample_block.specs.Faults.{samples_in}
 use Rattle.block_store.specs.Reads.{HasHeader, level_place, stored_frames}
+use Rattle.sample_block.specs.Faults.{samples_in}
 use Rattle.block_cache.specs.declared.keys.PageKey.{PageKey}
 use Rattle.block_cache.specs.Pages.{IsSamplePage, IsFramePage, header_key, sample_key, frame_key, kind_of}
 use Rattle.block_cache.specs.Caches.{AllPass, Entries, IsCacheOf, IsCacheWithout, KeepsCache, SameCache, no_entries}
+use Rattle.disk_model.proofs.Frames.{tells_back}
 
 -- ---- no entries
 
@@ -64,9 +63,9 @@ pass_same test old new same pass = record {
   frames = λ e has. pass.frames e ((same.frames e).0 has);
 }
 
-pub keeps_same : (tells : Bool) (files : Files) (bs : List BlockRef) (old new : Entries) → SameCache old new
+pub keeps_same : {tells : Bool} {files : Files} {bs : List BlockRef} {old new : Entries} → SameCache old new
     → KeepsCache tells files bs old new
-keeps_same tells files bs old new same = record {
+keeps_same {files = files} {old = old} {new = new} same = record {
   right = λ told. right_same files old new same;
   ids = λ test among. pass_same test old new same;
   pages = same.pages;
@@ -116,7 +115,7 @@ pub cached_on : {D : Type 0} {disk : Ghosts D} (was now : D) (bs : List BlockRef
     → KeepsCache (disk.tells was) (disk.reads was) bs a b → (IsTrue (disk.tells was) → IsCacheOf (disk.reads was) a)
     → IsTrue (disk.tells now) → IsCacheOf (disk.reads now) b
 cached_on {disk = disk} was now bs a b kept f cached still =
-    let told : IsTrue (disk.tells was) = subst (λ (t : Bool). IsTrue t) kept.same_tells still in
+    let told = tells_back kept still in
     right_before was now b kept (f.right told (cached told))
 
 -- ---- one entry more
@@ -262,10 +261,3 @@ right_without old new id a b without same right = record {
             (sym file);
       };
 }
-
--- the file that changes is of no entry
-pub right_change : (old new : Files) (file : ℕ) (test : ℕ → Bool) (c : Entries) → AllPass test c
-    → (IsTrue (test file) → ⊥) → SameElsewhere file old new → IsCacheOf old c → IsCacheOf new c
-right_change old new file test c pass other same right =
-    right_elsewhere old new test c pass
-    (λ id is. same id (λ (e : id ≡ file). other (subst (λ (n : ℕ). IsTrue (test n)) e is))) right

@@ -2,14 +2,12 @@
 use Rattle.std.proofs.Common.{◌≡◌, Bool, true, false, refl, rules, arith, sym, List, [], ◌∷◌, Contains, length, ◌<◌}
 use Rattle.std.proofs.Common.{◌⊎◌, inl, inr, subst, ap, ◌∙◌, ◌++◌, append-nil, ⊎_elim, Option, Some, None}
 use Rattle.std.specs.Prelude.{◌≢◌, is_some, Result, Ok, Err, OnOk, OnErr}
-use Rattle.std.specs.Map.{lookup, lookup_entry, remove_entry, keys_of}
-use Rattle.std.specs.Option.{option_map_or}
+use Rattle.std.specs.{Map.lookup, Map.lookup_entry, Map.remove_entry, Map.keys_of, Option.option_map_or}
 use Rattle.lru.specs.LruCache.{LruCache, demoted, promoted, put_entries}
 use Rattle.lru.proofs.Splits.{Contains-head, Contains-tail, Contains-cons, Contains-middle, Contains-nil, Contains-with}
 use Rattle.lru.proofs.CallerLemmas.{Contains-demoted, Contains-lookup, Contains-promoted, Contains-put_entries}
-use Rattle.block_cache.specs.declared.keys.PageKey.{PageKey}
-use Rattle.block_cache.specs.contracts.keys.PageKeyPartialEq.TheImpl.{eq-value}
 use Rattle.block_cache.specs.Entries.{HasKey, SameEntries}
+use Rattle.block_cache.specs.{declared.keys.PageKey.PageKey, contracts.keys.PageKeyPartialEq.TheImpl.eq-value}
 
 abbrev pub same_key : PageKey → PageKey → Bool
 same_key = eq-value.it

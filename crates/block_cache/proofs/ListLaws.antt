@@ -1,14 +1,11 @@
 -- Pages as the lists of their items.
 use Rattle.std.proofs.Common.{◌≡◌, sym, ap, ◌∙◌, subst, List, [], ◌∷◌, Contains, ◌⊎◌, inl, inr, ⊎_elim, ℕ, ℤ, length}
 use Rattle.std.proofs.Common.{◌≤◌}
-use Rattle.std.specs.Prelude.{◌≢◌, ◌↔◌}
-use Rattle.std.specs.Global.{Vec}
+use Rattle.std.specs.{Prelude.◌≢◌, Prelude.◌↔◌, Global.Vec}
 use Rattle.lru.proofs.Splits.{Contains-head, Contains-tail, Contains-cons, Contains-nil}
-use Rattle.block_cache.specs.declared.keys.PageKey.{PageKey}
-use Rattle.block_cache.specs.Entries.{HasKey, SameEntries, IsWithout}
+use Rattle.block_cache.specs.{declared.keys.PageKey.PageKey, Entries.HasKey, Entries.SameEntries, Entries.IsWithout}
+use Rattle.block_cache.specs.{Pages.IsPage, Caches.ArePages, Caches.Entries, Caches.lists_of}
 use Rattle.peak_summary.specs.declared.stretch.Summary.{Summary}
-use Rattle.block_cache.specs.Pages.{IsPage}
-use Rattle.block_cache.specs.Caches.{ArePages, Entries, lists_of}
 use Rattle.block_cache.proofs.KeyLaws.{has_key, key_has}
 
 module _ {V : Type 0} where

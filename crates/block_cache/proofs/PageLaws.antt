@@ -1,17 +1,16 @@
 -- What stands on a page, and a part of it.
 use Rattle.std.proofs.Common.{◌≡◌, ℕ, ◌+◌, ◌*◌, ◌-◌, ◌/◌, ◌%◌, ◌≤◌, ℤ, List, length, length-drop, take, drop, refl, sym}
 use Rattle.std.proofs.Common.{ap, ◌∙◌, subst, arith, min}
-use Rattle.std.specs.Int.{w16, cast_signed}
 use Rattle.std.proofs.lemmas.List.{get_or-drop, get_or-take, length-take, same_lists}
 use Rattle.std.proofs.lemmas.List.FromFn.{get_or-map-range_with_len}
+use Rattle.std.specs.Int.{w16, cast_signed}
 use Rattle.disk_model.specs.Disk.{Files, bytes_of}
 use Rattle.pcm_base.specs.declared.block.BlockRef.{BlockRef}
-use Rattle.peak_summary.specs.declared.stretch.Summary.{Summary}
+use Rattle.peak_summary.specs.{declared.stretch.Summary.Summary, Peaks.frame_count}
 use Rattle.sample_block.specs.Faults.{number_at, samples_in}
 use Rattle.sample_block.proofs.Laws.{get_samples, length_samples}
 use Rattle.block_store.specs.declared.frames.Level.{Level}
 use Rattle.block_store.specs.declared.frames.Level.TheVariants.{Short, Long}
-use Rattle.peak_summary.specs.Peaks.{frame_count}
 use Rattle.block_store.specs.Reads.{HasHeader, frame_len, level_place, stored_frame, stored_frames}
 use Rattle.block_store.proofs.FrameLaws.{length_stored}
 use Rattle.block_cache.specs.declared.keys.PageKey.{PageKey}

@@ -1,18 +1,15 @@
 -- Reads in turn, by what each leaves of a reader.
-use Rattle.std.proofs.Common.{◌≤◌, ℕ, Bool, List, [], ◌∷◌, Contains, Result, Ok, Err, refl, sym, subst}
-use Rattle.std.specs.Prelude.{IsTrue, IfErr}
+use Rattle.std.proofs.Common.{◌≡◌, ◌∙◌, ◌≤◌, ℕ, ℤ, List, [], ◌∷◌, Contains, Option, Result, Ok, Err, refl, ap, subst}
 use Rattle.std.proofs.lemmas.Result.{IfErr-weaker}
+use Rattle.std.specs.Prelude.{IsTrue, IfErr}
 use Rattle.lru.proofs.Splits.{Contains-head}
-use Rattle.disk_model.specs.Disk.{Files, bytes_of}
-use Rattle.disk_model.specs.declared.store.Store.{Ghosts}
-use Rattle.disk_model.proofs.Frames.{Fewer, kept_none, kept_turn}
+use Rattle.disk_model.specs.{Disk.Files, Disk.bytes_of, declared.store.Store.Ghosts}
+use Rattle.disk_model.proofs.Frames.{tells_on, Fewer, kept_none, kept_turn}
 use Rattle.pcm_base.specs.declared.block.BlockRef.{BlockRef}
-use Rattle.block_store.specs.declared.fault.BlockFault.{BlockFault}
-use Rattle.block_store.specs.Reads.{Counted, IsFaultIn, IsReadFault}
+use Rattle.block_store.specs.{declared.fault.BlockFault.BlockFault, Reads.Counted, Reads.IsFaultIn, Reads.IsReadFault}
 use Rattle.block_store.proofs.FaultLaws.{fault_on}
-use Rattle.sample_block.specs.Spelling.{size_of}
-use Rattle.block_cache.specs.declared.reader.BlockReader.{BlockReader}
-use Rattle.block_cache.specs.Readers.{Reads}
+use Rattle.sample_block.specs.{Blocks.blocks, Spelling.size_of}
+use Rattle.block_cache.specs.{declared.reader.BlockReader.BlockReader, Readers.Reads}
 use Rattle.block_cache.proofs.CacheLaws.{keeps_more, keeps_same, keeps_then, same_none}
 
 -- a fault of a read of a block, among those of this block alone
@@ -24,31 +21,31 @@ fault_in files b end r le is =
 
 module _ {D : Type 0} {disk : Ghosts D} where
   -- no read at all
-  pub reads_none : {T : Type 0} (bs : List BlockRef) (a : BlockReader D disk) (x : T) → Fewer disk a.store
+  pub reads_none : {T : Type 0} {bs : List BlockRef} {a : BlockReader D disk} (x : T) → Fewer disk a.store
       → Reads bs a a (Ok x)
-  reads_none bs a x fewer = record {
+  reads_none {a = a} x fewer = record {
     kept = kept_none a.store fewer;
     faults = refl;
-    cache = keeps_same _ _ _ _ _ (same_none _);
+    cache = keeps_same (same_none _);
     damaged = λ told. tt;
   }
 
   -- reads, and then others with this answer
-  pub reads_then : {T U : Type 0} (bs : List BlockRef) (a b c : BlockReader D disk) (x : T) (r : Result U BlockFault)
+  pub reads_then : {T U : Type 0} {bs : List BlockRef} {a b c : BlockReader D disk} {x : T} {r : Result U BlockFault}
       → Reads bs a b (Ok x) → Reads bs b c r → Reads bs a c r
-  reads_then bs a b c x r f g = record {
+  reads_then {bs = bs} {a = a} {b = b} {c = c} {r = r} f g = record {
     kept = kept_turn f.kept g.kept;
     faults = subst (λ (n : ℕ). Counted r n (disk.read_fault_count c.store)) f.faults g.faults;
     cache = keeps_then a.store b.store bs a.cache b.cache c.cache f.kept f.cache g.cache;
     damaged = λ told.
-        let still : IsTrue (disk.tells b.store) = subst (λ (t : Bool). IsTrue t) (sym f.kept.same_tells) told in
+        let still = tells_on f.kept told in
         subst (λ (files : Files). IfErr r (λ e. IsFaultIn files bs e)) f.kept.same_reads (g.damaged still);
   }
 
   -- reads of fewer blocks
-  pub reads_more : {T : Type 0} (bs more : List BlockRef) (a b : BlockReader D disk) (r : Result T BlockFault)
+  pub reads_more : {T : Type 0} (bs more : List BlockRef) {a b : BlockReader D disk} {r : Result T BlockFault}
       → ((d : BlockRef) → Contains bs d → Contains more d) → Reads bs a b r → Reads more a b r
-  reads_more bs more a b r among f = record {
+  reads_more bs more {a = a} {r = r} among f = record {
     kept = f.kept;
     faults = f.faults;
     cache = keeps_more _ _ bs more _ _ among f.cache;
@@ -59,9 +56,9 @@ module _ {D : Type 0} {disk : Ghosts D} where
   }
 
   -- the same with another value
-  pub reads_ok : {T U : Type 0} (bs : List BlockRef) (a b : BlockReader D disk) (x : T) (y : U) → Reads bs a b (Ok x)
+  pub reads_ok : {T U : Type 0} {bs : List BlockRef} {a b : BlockReader D disk} {x : T} {y : U} → Reads bs a b (Ok x)
       → Reads bs a b (Ok y)
-  reads_ok bs a b x y f = record {
+  reads_ok f = record {
     kept = f.kept;
     faults = f.faults;
     cache = f.cache;
@@ -69,9 +66,9 @@ module _ {D : Type 0} {disk : Ghosts D} where
   }
 
   -- and with the same error, in place of another value
-  pub reads_err : {T U : Type 0} (bs : List BlockRef) (a b : BlockReader D disk) (why : BlockFault)
+  pub reads_err : {T U : Type 0} {bs : List BlockRef} {a b : BlockReader D disk} {why : BlockFault}
       → Reads {T = T} bs a b (Err why) → Reads {T = U} bs a b (Err why)
-  reads_err bs a b why f = record {
+  reads_err f = record {
     kept = f.kept;
     faults = f.faults;
     cache = f.cache;
@@ -79,6 +76,12 @@ module _ {D : Type 0} {disk : Ghosts D} where
   }
 
   -- where the disk reported its bytes it does so still, and they are the same
-  pub told_on : {T : Type 0} (bs : List BlockRef) (a b : BlockReader D disk) (r : Result T BlockFault) → Reads bs a b r
+  pub told_on : {T : Type 0} {bs : List BlockRef} {a b : BlockReader D disk} {r : Result T BlockFault} → Reads bs a b r
       → IsTrue (disk.tells a.store) → IsTrue (disk.tells b.store)
-  told_on bs a b r f told = subst (λ (t : Bool). IsTrue t) (sym f.kept.same_tells) told
+  told_on f told = tells_on f.kept told
+
+  -- and a block that stood there does so too
+  pub there_on : {T : Type 0} {bs : List BlockRef} {a b : BlockReader D disk} {r : Result T BlockFault}
+      {found : Option (List ℤ)} (id : ℕ) → Reads bs a b r → blocks (disk.reads a.store) id ≡ found
+      → blocks (disk.reads b.store) id ≡ found
+  there_on id f is = ap (λ (files : Files). blocks files id) f.kept.same_reads ∙ is

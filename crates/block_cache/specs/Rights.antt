@@ -5,11 +5,9 @@ use Rattle.std.specs.Coded.{×_prop}
 use Rattle.disk_model.specs.Disk.{Files, bytes_of}
 use Rattle.peak_summary.specs.declared.stretch.Summary.{Summary}
 use Rattle.sample_block.specs.declared.damage.Damaged.{Damaged}
-use Rattle.block_store.specs.declared.frames.Level.{Level}
-use Rattle.block_store.specs.Reads.{HasHeader}
-use Rattle.block_cache.specs.declared.keys.PageKey.{PageKey}
-use Rattle.block_cache.specs.Pages.{IsFramePage, IsSamplePage}
-use Rattle.block_cache.specs.Caches.{Entries, IsCacheOf}
+use Rattle.block_store.specs.{declared.frames.Level.Level, Reads.HasHeader}
+use Rattle.block_cache.specs.{declared.keys.PageKey.PageKey, Pages.IsFramePage, Pages.IsSamplePage, Caches.Entries}
+use Rattle.block_cache.specs.{Caches.IsCacheOf}
 
 -- a field that differs, and a summary, as the tuples of their fields
 damaged_coded : Coded Damaged

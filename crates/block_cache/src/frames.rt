@@ -182,7 +182,7 @@ pub fn read_frames_cached<S: Store>(
     ensures read { (xs : List ℤ) → IsTrue (S.tells store.old) → blocks (S.reads store.old) block.id ≡ Some xs
         → length xs ≡ block.len
         → OnOk result (out.new ≡ take (length out.old) (drop from (frames_of (frame_len level) xs))) }
-    ensures sound { (xs : List ℤ) → IsTrue (S.tells store.old) → blocks (S.reads store.old) block.id ≡ Some xs
+    ensures valid { (xs : List ℤ) → IsTrue (S.tells store.old) → blocks (S.reads store.old) block.id ≡ Some xs
         → length xs ≡ block.len
         → IsOkUnless result fault.DiskFault }
     // Of any file they are what stands there.

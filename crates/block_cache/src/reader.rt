@@ -65,7 +65,7 @@ impl<S: Store> BlockReader<S> {
         ensures read { (xs : List ℤ) → IsTrue (S.tells self.old.store)
             → blocks (S.reads self.old.store) block.id ≡ Some xs → length xs ≡ block.len
             → OnOk result (out.new ≡ take (length out.old) (drop from xs)) }
-        ensures sound { (xs : List ℤ) → IsTrue (S.tells self.old.store)
+        ensures valid { (xs : List ℤ) → IsTrue (S.tells self.old.store)
             → blocks (S.reads self.old.store) block.id ≡ Some xs → length xs ≡ block.len
             → IsOkUnless result fault.DiskFault }
         // Of any file they are what stands there.
@@ -86,8 +86,8 @@ impl<S: Store> BlockReader<S> {
     }
 
     /// Reads them for a reader that asks for no others of their pages next. They are copied from the pages that the
-    /// cache has. Of any other page these samples are read alone, and it is not kept. So a file that ends after them is
-    /// no fault here.
+    /// cache has. From the first page on that it does not have, they are read alone, and no page is kept. So a file that
+    /// ends after them is no fault here.
     pub fn samples_once(
         &mut self,
         block: BlockRef,
@@ -104,7 +104,7 @@ impl<S: Store> BlockReader<S> {
         ensures read { (xs : List ℤ) → IsTrue (S.tells self.old.store)
             → blocks (S.reads self.old.store) block.id ≡ Some xs → length xs ≡ block.len
             → OnOk result (out.new ≡ take (length out.old) (drop from xs)) }
-        ensures sound { (xs : List ℤ) → IsTrue (S.tells self.old.store)
+        ensures valid { (xs : List ℤ) → IsTrue (S.tells self.old.store)
             → blocks (S.reads self.old.store) block.id ≡ Some xs → length xs ≡ block.len
             → IsOkUnless result fault.DiskFault }
         // Of any file they are what stands there.
@@ -141,7 +141,7 @@ impl<S: Store> BlockReader<S> {
         ensures read { (xs : List ℤ) → IsTrue (S.tells self.old.store)
             → blocks (S.reads self.old.store) block.id ≡ Some xs → length xs ≡ block.len
             → OnOk result (out.new ≡ take (length out.old) (drop from (frames_of (frame_len level) xs))) }
-        ensures sound { (xs : List ℤ) → IsTrue (S.tells self.old.store)
+        ensures valid { (xs : List ℤ) → IsTrue (S.tells self.old.store)
             → blocks (S.reads self.old.store) block.id ≡ Some xs → length xs ≡ block.len
             → IsOkUnless result fault.DiskFault }
         // Of any file they are what stands there.
@@ -181,7 +181,7 @@ impl<S: Store> BlockReader<S> {
         ensures read { (xs : List ℤ) → IsTrue (S.tells self.old.store)
             → blocks (S.reads self.old.store) block.id ≡ Some xs → length xs ≡ block.len
             → OnOk result (out.new ≡ take (length out.old) (drop from (frames_of (frame_len level) xs))) }
-        ensures sound { (xs : List ℤ) → IsTrue (S.tells self.old.store)
+        ensures valid { (xs : List ℤ) → IsTrue (S.tells self.old.store)
             → blocks (S.reads self.old.store) block.id ≡ Some xs → length xs ≡ block.len
             → IsOkUnless result fault.DiskFault }
         // Of any file they are what stands there.

@@ -1,9 +1,8 @@
 -- What a stretch of nodes says of the leaves from one on.
 use Rattle.std.proofs.Common.{◌≡◌, ◌≢◌, ◌⊎◌, inl, inr, ⊎_elim, ℕ, ◌+◌, ◌-◌, ◌*◌, ◌/◌, ◌≤◌, ◌<◌, min, Option, Some, None}
 use Rattle.std.proofs.Common.{List, length, drop, sym, ◌∙◌, ap, subst, arith, length-drop}
+use Rattle.std.proofs.{lemmas.Bool.cases_eq, lemmas.Bool.cases_lt, lemmas.List.get_or-drop, lemmas.List.get_or_default}
 use Rattle.std.specs.Prelude.{IfSome, IsSomeAnd, Contains, slice_index_or}
-use Rattle.std.proofs.lemmas.Bool.{cases_eq, cases_lt}
-use Rattle.std.proofs.lemmas.List.{get_or-drop, get_or_default}
 use Rattle.block_ledger.specs.Tree.{lesser, node, IsTree}
 use Rattle.block_ledger.proofs.Trees.{halves, one_of_two}
 

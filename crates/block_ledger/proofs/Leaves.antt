@@ -1,15 +1,11 @@
 -- The leaves of a tree and the entries that they are for.
 use Rattle.std.proofs.Common.{◌≡◌, ⊎_elim, ℕ, zero, suc, ◌≤◌, ◌<◌, Option, Some, None, List, [], ◌∷◌, length, map, set}
 use Rattle.std.proofs.Common.{get_or, refl, sym, ◌∙◌, ap, arith}
-use Rattle.std.specs.Prelude.{Contains, IsSomeAnd, IfSome, IfNone}
-use Rattle.std.specs.List.{insert}
-use Rattle.std.proofs.lemmas.Bool.{cases_eq}
-use Rattle.std.proofs.lemmas.List.{get_or-set_same, get_or-set_other, get_or_default, get_or_past, map-set, length-map}
-use Rattle.std.proofs.lemmas.List.{get_or-map}
-use Rattle.std.proofs.lemmas.List.Edits.{length-insert, get_or-insert_below}
-use Rattle.block_ledger.specs.declared.entry.Entry.{Entry}
-use Rattle.block_ledger.specs.Counts.{free_id, IsFirstFree}
+use Rattle.std.proofs.lemmas.List.{get_or-set_same, get_or-set_other, get_or_default, map-set, length-map, get_or-map}
+use Rattle.std.proofs.{lemmas.Bool.cases_eq, lemmas.List.Edits.length-insert, lemmas.List.Edits.get_or-insert_below}
+use Rattle.std.specs.{Prelude.Contains, Prelude.IsSomeAnd, Prelude.IfSome, Prelude.IfNone, List.insert}
 use Rattle.block_ledger.specs.Entries.{count_in, free_of, IsRising, IsLeaves}
+use Rattle.block_ledger.specs.{declared.entry.Entry.Entry, Counts.free_id, Counts.IsFirstFree}
 use Rattle.block_ledger.proofs.Lookups.{absent_above, first_not, first_is}
 
 -- an entry and its leaf are written
@@ -87,8 +83,3 @@ leaves_before es leaves i new le match k lt =
     match k ∙ get_or-map free_of es k new None within
     ∙ ap free_of (sym (get_or-insert_below es i new new k lt le))
     ∙ sym (get_or-map free_of (insert es i new) k new None (omega (arith, within, length-insert es i new le)))
-
-pub leaves_behind : (es : List Entry) (leaves : List (Option ℕ)) (n : ℕ) → length es ≤ n → IsLeaves es leaves → (k : ℕ)
-    → n ≤ k → get_or leaves k None ≡ None
-leaves_behind es leaves n le match k past =
-    match k ∙ get_or_past (map free_of es) k None (omega (arith, le, past, length-map es free_of))

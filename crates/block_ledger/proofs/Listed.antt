@@ -1,18 +1,14 @@
 -- The ids of a ledger whose counts pass a test, listed once each and rising.
 use Rattle.std.proofs.Common.{◌≡◌, ◌≢◌, ◌⊎◌, inl, inr, ⊎_elim, ℕ, zero, suc, ◌+◌, ◌≤◌, Bool, true, false, Option, Some}
 use Rattle.std.proofs.Common.{None, is_some, List, [], ◌∷◌, length, map, take, refl, sym, ◌∙◌, ap, arith}
-use mathlib.Core.Bool.{false≢true}
-use Rattle.std.specs.Prelude.{Contains, ◌↔◌}
-use Rattle.std.specs.List.{filter}
-use Rattle.std.specs.List.Sorted.{IsStrictlyIncreasing}
-use Rattle.std.proofs.lemmas.Bool.{cases_eq}
-use Rattle.std.proofs.lemmas.List.{length-map, length-take}
-use Rattle.std.proofs.lemmas.List.Sums.{length-filter, count_by-le-length}
-use Rattle.block_ledger.specs.declared.entry.Entry.{Entry}
-use Rattle.block_ledger.specs.Counts.{IsNamed, AreNamed, AreThere}
+use Rattle.std.proofs.{lemmas.Bool.cases_eq, lemmas.List.length-map, lemmas.List.length-take}
+use Rattle.std.proofs.{lemmas.List.Sums.length-filter, lemmas.List.Sums.count_by-le-length}
+use Rattle.std.specs.{Prelude.Contains, Prelude.◌↔◌, List.filter, List.Sorted.IsStrictlyIncreasing}
 use Rattle.block_ledger.specs.Entries.{count_in, id_of, IsRising, occurs, is_kept, is_named}
+use Rattle.block_ledger.specs.{declared.entry.Entry.Entry, Counts.IsNamed, Counts.AreNamed, Counts.AreThere}
 use Rattle.block_ledger.proofs.Rising.{rising_at, rising_filter}
 use Rattle.block_ledger.proofs.Lookups.{absent_above, first_is, first_not}
+use mathlib.Core.Bool.{false≢true}
 
 pub contains_cases : (x y : ℕ) (xs : List ℕ) → Contains (x ∷ xs) y → (x ≡ y) ⊎ Contains xs y
 contains_cases x y xs (zero, lt, is) = inl is

@@ -1,19 +1,12 @@
 -- What is found by an id among entries whose ids rise, and what an edit of them changes.
-use Rattle.std.proofs.Common.{◌≡◌, ◌≢◌, ⊎_elim, ℕ, zero, suc, ◌≤◌, ◌<◌, Bool, true, false, cond, eqb, Option, Some}
-use Rattle.std.proofs.Common.{None, List, [], ◌∷◌, length, set, get_or, refl, sym, ◌∙◌, ap, subst, arith}
+use Rattle.std.proofs.Common.{◌≡◌, ◌≢◌, ⊎_elim, ℕ, zero, suc, ◌≤◌, ◌<◌, Bool, cond, eqb, Option, Some, None, List, []}
+use Rattle.std.proofs.Common.{◌∷◌, length, set, get_or, refl, sym, ◌∙◌, ap, subst, arith}
+use Rattle.std.proofs.lemmas.Bool.{cases_eq, cases_lt, eq-eqb}
 use Rattle.std.specs.List.{insert, filter}
-use Rattle.std.proofs.lemmas.Bool.{cases_eq, cases_lt, eq-eqb, eqb-true}
-use Rattle.block_ledger.specs.declared.entry.Entry.{Entry}
-use Rattle.block_ledger.specs.Counts.{SetsCount, one_more}
 use Rattle.block_ledger.specs.Entries.{count_in, id_at, IsRising, IsAt, IsGap, is_kept, with_count}
+use Rattle.block_ledger.specs.{declared.entry.Entry.Entry, Counts.SetsCount, Counts.one_more}
 use Rattle.block_ledger.proofs.Rising.{Above, rising_at, gap_tail}
-
-pub differ : (a b : ℕ) → a ≢ b → eqb a b ≡ false
-differ a b ne = by_case (eqb a b) (eqb-true a b)
-  where
-    by_case : (t : Bool) → (t ≡ true → a ≡ b) → t ≡ false
-    by_case true same = absurd (ne (same refl))
-    by_case false same = refl
+use Rattle.pcm_base.proofs.ListFacts.{differ}
 
 -- the first entry has the id, or another one
 pub first_is : (e : Entry) (es : List Entry) (id : ℕ) → e.id ≡ id → count_in (e ∷ es) id ≡ e.count

@@ -1,14 +1,11 @@
 -- The least id of count 0 from one on, by the leaves of a tree.
-use Rattle.std.proofs.Common.{◌≡◌, ⊎_elim, ℕ, zero, suc, ◌+◌, ◌-◌, ◌≤◌, ◌<◌, Option, Some, None, List, [], ◌∷◌}
-use Rattle.std.proofs.Common.{length, drop, map, get_or, sym, ◌∙◌, ap, arith, length-drop}
+use Rattle.std.proofs.Common.{◌≡◌, ⊎_elim, ℕ, zero, suc, ◌+◌, ◌-◌, ◌≤◌, ◌<◌, Option, Some, None, List, [], ◌∷◌, length}
+use Rattle.std.proofs.Common.{drop, map, get_or, sym, ◌∙◌, ap, arith, length-drop}
+use Rattle.std.proofs.{lemmas.Bool.cases_eq, lemmas.Bool.cases_lt, lemmas.List.get_or-drop, lemmas.List.get_or_default}
 use Rattle.std.specs.Prelude.{Contains, IsSomeAnd, IfSome, IfNone}
-use Rattle.std.proofs.lemmas.Bool.{cases_eq, cases_lt}
-use Rattle.std.proofs.lemmas.List.{get_or-drop, get_or_default}
-use Rattle.block_ledger.specs.declared.entry.Entry.{Entry}
-use Rattle.block_ledger.specs.Counts.{IsNextFree}
-use Rattle.block_ledger.specs.Entries.{count_in, free_of, id_at, IsRising, IsLeaves, IsAt, IsFrom, IsGap}
-use Rattle.block_ledger.proofs.Leaves.{free_found, free_is, leaf_of}
-use Rattle.block_ledger.proofs.Rising.{rising_at}
+use Rattle.block_ledger.specs.Entries.{count_in, free_of, id_at, IsRising, IsLeaves, IsAt, IsFrom}
+use Rattle.block_ledger.specs.{declared.entry.Entry.Entry, Counts.IsNextFree}
+use Rattle.block_ledger.proofs.{Leaves.free_found, Leaves.free_is, Leaves.leaf_of, Rising.rising_at}
 
 pub from_at : (es : List Entry) (from place : ℕ) → IsRising es → IsAt es from place → IsFrom es from place
 from_at es from place rising at = record {
@@ -18,13 +15,6 @@ from_at es from place rising at = record {
       (λ same. omega (arith, ap (id_at es) same, at.same))
       (λ ne. omega (arith, rising_at es rising place j (omega (arith, le, ne)) lt, at.same))
       (cases_eq j place);
-}
-
-pub from_gap : (es : List Entry) (from place : ℕ) → IsGap es from place → IsFrom es from place
-from_gap es from place gap = record {
-  within = gap.within;
-  below = gap.below;
-  past = λ j le lt. omega (arith, gap.above j le lt);
 }
 
 -- a leaf with an id is that of its entry

@@ -1,7 +1,6 @@
 -- Of the ids that are such there is one rising list.
 use Rattle.std.proofs.Common.{◌≡◌, ⊎_elim, ℕ, suc, ◌+◌, ◌<◌, List, [], ◌∷◌, length, refl, sym, ap, ap₂, arith}
-use Rattle.std.specs.Prelude.{Contains, ◌↔◌, slice_index}
-use Rattle.std.specs.List.Sorted.{IsStrictlyIncreasing}
+use Rattle.std.specs.{Prelude.Contains, Prelude.◌↔◌, Prelude.slice_index, List.Sorted.IsStrictlyIncreasing}
 use Rattle.block_ledger.specs.Counts.{AreAll}
 use Rattle.block_ledger.proofs.Listed.{contains_cases, contains_more}
 

@@ -1,8 +1,7 @@
 -- Entries whose ids rise, after an edit.
 use Rattle.std.proofs.Common.{◌≡◌, ℕ, zero, suc, ◌<◌, Bool, true, false, cond, List, [], ◌∷◌, length, set, arith}
 use Rattle.std.specs.List.{AllByRecursion, insert, filter}
-use Rattle.block_ledger.specs.declared.entry.Entry.{Entry}
-use Rattle.block_ledger.specs.Entries.{id_at, IsRising, IsGap}
+use Rattle.block_ledger.specs.{declared.entry.Entry.Entry, Entries.id_at, Entries.IsRising, Entries.IsGap}
 
 -- the ids are above a number
 abbrev pub Above : ℕ → List Entry → Type 0

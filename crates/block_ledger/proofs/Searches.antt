@@ -1,14 +1,11 @@
 -- Where a binary search ends.
 use Rattle.std.proofs.Common.{◌≡◌, ⊎_elim, ℕ, zero, suc, ◌≤◌, ◌<◌, None, Result, Ok, Err, IfOk, IfErr, List, [], ◌∷◌}
 use Rattle.std.proofs.Common.{length, get_or, refl, sym, ◌∙◌, ap, arith}
+use Rattle.std.proofs.{lemmas.Cmp.ranked, lemmas.Bool.cases_eq, lemmas.Bool.Decides.nat_tests}
+use Rattle.std.proofs.{lemmas.List.Sorted.IsNonDecreasingBy-from_default}
 use Rattle.std.specs.List.Sorted.{IsSearchInRange, IsBinarySearchResult, IsNonDecreasingBy}
 use Rattle.std.specs.Ordering.{nat_cmp, ordering_index}
-use Rattle.std.proofs.lemmas.Cmp.{ranked}
-use Rattle.std.proofs.lemmas.Bool.{cases_eq}
-use Rattle.std.proofs.lemmas.Bool.Decides.{nat_tests}
-use Rattle.std.proofs.lemmas.List.Sorted.{IsNonDecreasingBy-from_default}
-use Rattle.block_ledger.specs.declared.entry.Entry.{Entry}
-use Rattle.block_ledger.specs.Entries.{id_at, IsRising, IsAt, IsGap}
+use Rattle.block_ledger.specs.{declared.entry.Entry.Entry, Entries.id_at, Entries.IsRising, Entries.IsAt, Entries.IsGap}
 use Rattle.block_ledger.proofs.Rising.{rising_at}
 
 -- the entry beyond the last

@@ -3,7 +3,7 @@ use Rattle.std.proofs.Common.{◌≡◌, ◌≢◌, ⊎_elim, refl, ℕ, ◌+◌
 use Rattle.std.proofs.Common.{◌++◌, length, sym, ◌∙◌, ap, arith}
 use Rattle.std.proofs.lemmas.Bool.{cases_eq, eq-eqb}
 use Rattle.block_ledger.specs.Counts.{Counts, SetsCount, one_more, one_less, occurrences, times, IsFreshCount}
-use Rattle.block_ledger.proofs.Lookups.{differ}
+use Rattle.pcm_base.proofs.ListFacts.{differ}
 
 pub times_append : (id : ℕ) (xs ys : List ℕ) → times id (xs ++ ys) ≡ times id xs + times id ys
 times_append id [] ys = omega arith
@@ -21,11 +21,6 @@ times_most id (x ∷ xs) = ⊎_elim
     (λ same. omega (arith, times_here id x xs same, times_most id xs))
     (λ ne. omega (arith, times_other id x xs ne, times_most id xs))
     (cases_eq x id)
-
--- a fresh count asks for no order
-pub fresh_same : (xs ys : List ℕ) (counts : Counts) → ((id : ℕ) → times id xs ≡ times id ys) → IsFreshCount xs counts
-    → IsFreshCount ys counts
-fresh_same xs ys counts same fresh = λ id. fresh id ∙ same id
 
 more_of : (o : Option ℕ) → occurrences o + 1 < 2 ^ 128 → occurrences (Some (one_more o)) ≡ occurrences o + 1
 more_of None few = omega arith

@@ -2,9 +2,9 @@
 use Rattle.std.proofs.Common.{◌≡◌, ◌≢◌, ◌⊎◌, inl, inr, ⊎_elim, ℕ, zero, suc, ◌+◌, ◌-◌, ◌*◌, ◌/◌, ◌%◌, ◌≤◌, ◌<◌, min}
 use Rattle.std.proofs.Common.{Option, Some, None, List, length, drop, replicate, set, sym, ◌∙◌, ap, subst, arith}
 use Rattle.std.proofs.Common.{length-drop}
-use Rattle.std.specs.Prelude.{IfSome, IsSomeAnd, Contains}
 use Rattle.std.proofs.lemmas.Bool.{cases_eq, cases_lt}
 use Rattle.std.proofs.lemmas.List.{get_or-set_same, get_or-set_other, get_or-drop, get_or_default}
+use Rattle.std.specs.Prelude.{IfSome, IsSomeAnd, Contains}
 use Rattle.block_ledger.specs.Tree.{lesser, node, IsParent, IsTree}
 
 -- every node but one is a parent
@@ -19,13 +19,6 @@ parent_same nodes i k v here left right is =
       get_or-set_other nodes i (2 * k) v None left,
       get_or-set_other nodes i (2 * k + 1) v None right,
     ) is
-
--- after a write to a leaf only the node above it may be none
-pub leaf_written : (leaves i : ℕ) (nodes : List (Option ℕ)) (v : Option ℕ) → leaves ≤ i → IsTree leaves nodes
-    → AllBut leaves (i / 2) (set nodes i v)
-leaf_written leaves i nodes v le tree = λ k least most other.
-    parent_same nodes i k v (λ same. omega (arith, same)) (λ same. other (omega (arith, same)))
-    (λ same. other (omega (arith, same))) (tree.parents k least most)
 
 -- a node that was made a parent leaves the one above it
 pub node_written : (leaves i : ℕ) (nodes : List (Option ℕ)) (v : Option ℕ)
@@ -43,11 +36,6 @@ node_written leaves i nodes v least within all is = λ k from most other. ⊎_el
       get_or-set_other nodes i (2 * i) v None (λ same. omega (arith, same, least)),
       get_or-set_other nodes i (2 * i + 1) v None (λ same. omega (arith, same)),
     ) is
-
-pub whole_tree : (leaves : ℕ) (nodes : List (Option ℕ)) → length nodes ≡ 2 * leaves → AllBut leaves 0 nodes
-    → IsTree leaves nodes
-whole_tree leaves nodes size all =
-    record { size = size; parents = λ k least most. all k least most (λ same. omega (arith, same, least)) }
 
 -- the lesser of two is one of them, and no greater than either
 pub one_of_two : (a b : Option ℕ) (x : ℕ) → lesser a b ≡ Some x → (a ≡ Some x) ⊎ (b ≡ Some x)

@@ -2,8 +2,7 @@
 use Rattle.std.specs.Prelude.{◌≡◌, ℕ, zero, suc, ◌+◌, ◌<◌, ◌≤◌, max, Bool, true, false, ◌==◌, if◌then◌else◌, Option}
 use Rattle.std.specs.Prelude.{Some, None, is_some, List, [], ◌∷◌, length, map, slice_index, slice_index_or}
 use Rattle.std.specs.List.{AllByRecursion}
-use Rattle.block_ledger.specs.declared.entry.Entry.{Entry}
-use Rattle.block_ledger.specs.Counts.{Counts, free_id, AreThere}
+use Rattle.block_ledger.specs.{declared.entry.Entry.Entry, Counts.Counts, Counts.free_id, Counts.AreThere}
 
 -- the count of the first entry of this id
 abbrev pub count_in : List Entry → ℕ → Option ℕ
@@ -11,20 +10,20 @@ count_in [] id = None
 count_in (e ∷ es) id = if e.id == id then e.count else count_in es id
 
 -- what contracts see of a ledger: its entries, by `count_of` alone, and for how many more ids there is room
-pub record Kept : Type 0 where
+pub record LedgerState : Type 0 where
   pub entries : List Entry
   pub spare : ℕ
 
 -- the count of each id, none where the ledger does not have it
-abbrev pub count_of : Kept → Counts
+abbrev pub count_of : LedgerState → Counts
 count_of kept = count_in kept.entries
 
 -- for how many ids there is a place: those taken up, by ids that were taken out too, and those that are spare
-abbrev pub places : Kept → ℕ
+abbrev pub places : LedgerState → ℕ
 places kept = length kept.entries + kept.spare
 
 -- there are places for the ids that are there, and for this many more or as many again
-pub record FollowsIds (count : ℕ) (kept : Kept) : Type 0 where
+pub record FollowsIds (count : ℕ) (kept : LedgerState) : Type 0 where
   pub ids : List ℕ
   pub there : AreThere (count_of kept) ids
   pub size : places kept ≡ length ids + max count (length ids)

@@ -1,13 +1,13 @@
 // Counts by id.
-ghost use Rattle.std.specs.Prelude.{◌≡◌, ◌⊎◌, ◌↔◌, ◌+◌, ◌-◌, ◌^◌, ◌<◌, ◌≤◌, max, ℕ, None, Some, IsSome, IfSome, IfNone};
-ghost use Rattle.std.specs.Prelude.{IfOk, IfErr, OnOk, OnErr, List, [], ◌∷◌, Contains, length, map, slice_set};
+ghost use Rattle.std.specs.Prelude.{◌≡◌, ◌⊎◌, ◌+◌, ◌-◌, ◌^◌, ◌<◌, ◌≤◌, max, ℕ, None, Some, IsSome, IfSome, IfNone};
+ghost use Rattle.std.specs.Prelude.{IfOk, IfErr, OnOk, OnErr, List, [], ◌∷◌, length, map, slice_set};
 ghost use Rattle.std.specs.Prelude.{slice_index_or, vec_capacity};
 ghost use Rattle.std.specs.List.{insert, filter};
-ghost use Rattle.std.specs.List.Sorted.{IsStrictlyIncreasing};
 ghost use Rattle.block_ledger.specs.declared.entry.Entry.{Entry};
 ghost use Rattle.block_ledger.specs.Counts.{AreNamed, IsFirstFree, IsFreshCount, IsNamed, IsNextFree, SetsCount};
 ghost use Rattle.block_ledger.specs.Counts.{one_less, one_more};
-ghost use Rattle.block_ledger.specs.Entries.{FollowsIds, IsAt, IsFrom, IsGap, IsLeaves, IsRising, count_of, free_of, id_at};
+ghost use Rattle.block_ledger.specs.Entries.{FollowsIds, IsAt, IsFrom, IsGap, IsLeaves, IsRising, count_of, free_of};
+ghost use Rattle.block_ledger.specs.Entries.{id_at};
 ghost use Rattle.block_ledger.specs.Entries.{is_kept, places, with_count};
 
 use super::entry::{Entry, lowered, raised};
@@ -29,9 +29,9 @@ pub struct Ledger {
 
 impl Model for Ledger {
     ghost use Rattle.std.specs.Prelude.{◌-◌, length, vec_capacity};
-    ghost use Rattle.block_ledger.specs.Entries.{Kept, IsLedger};
+    ghost use Rattle.block_ledger.specs.Entries.{LedgerState, IsLedger};
 
-    ghost Value = { Kept };
+    ghost Value = { LedgerState };
 
     ghost view = { λ l. record { entries = l.entries.items; spare = length l.free - length l.entries.items } };
 
@@ -151,20 +151,6 @@ impl Ledger {
         ensures none { IfNone result ((id : ℕ) → from ≤ id → count_of self.now id ≡ Some 0 → ⊥) }
     {
         self.free.least_from(self.place_from(from))
-    }
-
-    /// The ids that occur, rising.
-    pub fn all_named(&self) -> Result<Numbers, NoMemory>
-        ensures rising { IfOk result IsStrictlyIncreasing }
-        ensures named { IfOk result (λ ids. (id : ℕ) → Contains ids id ↔ IsNamed (count_of self.now id)) }
-    {
-        let mut ids = Vec::new(*self.entries.allocator());
-        for entry in &self.entries {
-            if entry.is_named() {
-                ids.push(entry.id)?;
-            }
-        }
-        Ok(Numbers::new(ids))
     }
 
     /// How many ids occur. It takes no memory.

@@ -2,37 +2,30 @@
 use Rattle.std.proofs.Common.{◌≡◌, ℕ, zero, suc, ◌+◌, ◌-◌, ◌≤◌, inl, inr, Bool, true, false, not, ◌&&◌, if◌then◌else◌}
 use Rattle.std.proofs.Common.{List, [], ◌∷◌, ◌++◌, take, drop, refl, subst, sym, ap, ◌∙◌, ℤ, append_assoc, arith}
 use Rattle.std.proofs.lemmas.Bool.{cases_Bool, and_parts, true≢false, false≢true}
-use Rattle.std.proofs.lemmas.List.{drop-drop, take-append-drop}
-use Rattle.std.proofs.Math.Nat.{sub-zero}
-use Rattle.pcm_base.specs.declared.piece.Piece.{Piece}
-use Rattle.pcm_base.specs.declared.block.BlockRef.{BlockRef}
+use Rattle.std.proofs.{lemmas.List.drop-drop, lemmas.List.take-append-drop, Math.Nat.sub-zero}
 use Rattle.pcm_base.specs.Pieces.{Sources, stretch, whole, piece_len, total, all_samples, IsValid, AllValid, Fits}
 use Rattle.pcm_base.specs.Pieces.{AllFit}
+use Rattle.pcm_base.specs.{declared.piece.Piece.Piece, declared.block.BlockRef.BlockRef}
 use Rattle.pcm_base.proofs.Pieces.{all_samples-append, total-append}
-use Rattle.block_sequence.specs.declared.types.Laid.{Laid}
-use Rattle.block_sequence.specs.declared.types.Laid.TheVariants.{Keep}
-use Rattle.block_sequence.specs.Fuse.{Part, Kept, is_whole, is_sound, is_short, front}
-use Rattle.block_sequence.specs.Laying.{kept_of, run_parts, laid, laid_first, laid_clip}
+use Rattle.block_sequence.specs.Fuse.{Part, Kept, is_whole, is_full, is_short, front}
+use Rattle.block_sequence.specs.Laying.{kept_of, run_parts, laid, laid_first}
 use Rattle.block_sequence.specs.Laid.{parts, all_laid_samples, IsMade}
-use Rattle.block_sequence.proofs.HalfFull.{is_sound-true}
-use Rattle.block_sequence.proofs.Out.{parts_push, samples_push_laid}
+use Rattle.block_sequence.specs.{declared.types.Laid.Laid, declared.types.Laid.TheVariants.Keep}
+use Rattle.block_sequence.proofs.{HalfFull.is_full-true, Out.parts_push, Out.samples_push_laid}
 
--- before or after the first sound piece of a clip that begins with a short run
+-- before or after the first full piece of a clip that begins with a short run
 abbrev pub laid_from : Bool → ℕ → ℕ → List Piece → List Part
 laid_from first m t ps = if first then laid_first m t ps else laid m t ps
-
-pub begins : (m : ℕ) (ps : List Piece) → laid_from (is_short m (front m ps)) m 0 ps ≡ laid_clip m ps
-begins m ps = refl
 
 pub ends : (first : Bool) (m t : ℕ) → laid_from first m t [] ≡ run_parts m t
 ends true m t = refl
 ends false m t = refl
 
 pub goes_on : (first : Bool) (m t : ℕ) (p : Piece) (ps : List Piece)
-    → (is_sound m p && not first && not (is_short m (front m ps))) ≡ false
-    → laid_from first m t (p ∷ ps) ≡ laid_from (first && not (is_sound m p)) m (t + piece_len p) ps
-goes_on true m t p ps h = elim (cases_Bool (is_sound m p)) [ inl s ↦ rw s refl | inr s ↦ rw s refl ]
-goes_on false m t p ps h = elim (cases_Bool (is_sound m p)) [
+    → (is_full m p && not first && not (is_short m (front m ps))) ≡ false
+    → laid_from first m t (p ∷ ps) ≡ laid_from (first && not (is_full m p)) m (t + piece_len p) ps
+goes_on true m t p ps h = elim (cases_Bool (is_full m p)) [ inl s ↦ rw s refl | inr s ↦ rw s refl ]
+goes_on false m t p ps h = elim (cases_Bool (is_full m p)) [
   | inl s ↦ elim (cases_Bool (is_short m (front m ps))) [
     | inl k ↦ rw (s, k) refl
     | inr k ↦ absurd (true≢false (rw (s, k) at h))
@@ -41,11 +34,11 @@ goes_on false m t p ps h = elim (cases_Bool (is_sound m p)) [
 ]
 
 pub stops : (first : Bool) (m t : ℕ) (p : Piece) (ps : List Piece)
-    → (is_sound m p && not first && not (is_short m (front m ps))) ≡ true
+    → (is_full m p && not first && not (is_short m (front m ps))) ≡ true
     → laid_from first m t (p ∷ ps) ≡ run_parts m t ++ kept_of p ++ laid_from first m 0 ps
-stops true m t p ps h = elim (cases_Bool (is_sound m p))
+stops true m t p ps h = elim (cases_Bool (is_full m p))
     [ inl s ↦ absurd (false≢true (rw s at h)) | inr s ↦ absurd (false≢true (rw s at h)) ]
-stops false m t p ps h = elim (cases_Bool (is_sound m p)) [
+stops false m t p ps h = elim (cases_Bool (is_full m p)) [
   | inl s ↦ elim (cases_Bool (is_short m (front m ps))) [
     | inl k ↦ absurd (false≢true (rw (s, k) at h))
     | inr k ↦ rw (s, k) refl
@@ -98,8 +91,8 @@ samples_between src ps a b old xs h e =
     ∙ ap (λ ys. old ++ ys)
     (sym (all_samples-append src (take (b - a) (drop a ps)) (drop b ps)) ∙ ap (all_samples src) (between ps a b h))
 
-pub sound_is_whole : (m : ℕ) (p : Piece) (b c : Bool) → (is_sound m p && b && c) ≡ true → is_whole p ≡ true
-sound_is_whole m p b c h = (is_sound-true m p (and_parts _ _ (and_parts _ _ h).0).0).0
+pub full_is_whole : (m : ℕ) (p : Piece) (b c : Bool) → (is_full m p && b && c) ≡ true → is_whole p ≡ true
+full_is_whole m p b c h = (is_full-true m p (and_parts _ _ (and_parts _ _ h).0).0).0
 
 -- a run and a kept block, and the rest
 pub kept_parts : (old : List Part) (ls : List Laid) (b : BlockRef) (run rest all : List Part)

@@ -1,18 +1,15 @@
--- How many new blocks there are: at most two for each piece that is not sound.
+-- How many new blocks there are: at most two for each piece that is not full.
 use Rattle.std.proofs.Common.{◌≡◌, ℕ, zero, suc, ◌+◌, ◌*◌, ◌<◌, ◌≤◌, inl, inr, List, [], ◌∷◌, ◌++◌, length, map, filter}
 use Rattle.std.proofs.Common.{refl, sym, ap, subst, arith, add-zero, zero-add, if◌then◌else◌}
-use Rattle.std.specs.Int.{div_ceil}
-use Rattle.std.proofs.lemmas.Bool.{cases_Bool, cases_lt, lt-ltb}
-use Rattle.std.proofs.lemmas.Grind.{div_ceil_times}
 use Rattle.std.proofs.Math.Nat.{mul-le-mul_right, mul-le-mul_left, suc-mul, mul-suc, mul_comm, mul-zero}
-use Rattle.pcm_base.specs.declared.piece.Piece.{Piece}
+use Rattle.std.proofs.{lemmas.Bool.cases_Bool, lemmas.Bool.cases_lt, lemmas.Bool.lt-ltb, lemmas.Grind.div_ceil_times}
+use Rattle.std.specs.Int.{div_ceil}
 use Rattle.pcm_base.specs.declared.piece.Piece.TheVariants.{Old, Scaled, Zero, Given}
-use Rattle.pcm_base.specs.Pieces.{piece_len}
-use Rattle.block_sequence.specs.Fuse.{Part, Kept, Made, is_whole, is_sound, is_short, is_not_empty, block_sizes, front}
-use Rattle.block_sequence.specs.Fuse.{made_count, unsound, rough, AllShort}
+use Rattle.pcm_base.specs.{declared.piece.Piece.Piece, Pieces.piece_len}
+use Rattle.block_sequence.specs.Fuse.{Part, Kept, Made, is_whole, is_full, is_short, is_not_empty, block_sizes, front}
+use Rattle.block_sequence.specs.Fuse.{made_count, unfull, rough, AllShort}
 use Rattle.block_sequence.specs.Laying.{kept_of, run_parts, laid, laid_first, laid_clip, laid_apart, fused}
-use Rattle.block_sequence.proofs.HalfFull.{is_sound-true, is_short-true, not_sound}
-use Rattle.block_sequence.proofs.Sizes.{count_sizes}
+use Rattle.block_sequence.proofs.{HalfFull.is_full-true, HalfFull.is_short-true, HalfFull.not_full, Sizes.count_sizes}
 
 pub made_count-append : (ps qs : List Part) → made_count (ps ++ qs) ≡ made_count ps + made_count qs
 made_count-append [] qs = omega arith
@@ -47,7 +44,7 @@ count_run m t u a h =
       few_blocks (div_ceil t m) m t u (div_ceil_times t m a).1 h,
     )
 
--- this many samples may stand in a run with u pieces that are not sound
+-- this many samples may stand in a run with u pieces that are not full
 unfoldable credit : ℕ → ℕ → ℕ
 credit m u = m * (2 * u)
 
@@ -64,14 +61,14 @@ count_credit : (m t u : ℕ) → 0 < m → t ≤ credit m u → made_count (run_
 unfolding credit
 count_credit m t u a h = count_run m t (2 * u) a h
 
--- the pieces before the first sound one
+-- the pieces before the first full one
 abbrev fronts : ℕ → List Piece → ℕ
 fronts m [] = 0
-fronts m (p ∷ ps) = if is_sound m p then 0 else 1 + fronts m ps
+fronts m (p ∷ ps) = if is_full m p then 0 else 1 + fronts m ps
 
 front_credit : (m : ℕ) (ps : List Piece) → AllShort m ps → front m ps ≤ credit m (fronts m ps)
 front_credit m [] h = omega arith
-front_credit m (p ∷ ps) h = elim (cases_Bool (is_sound m p)) [
+front_credit m (p ∷ ps) h = elim (cases_Bool (is_full m p)) [
   | inl s ↦ rw s (omega arith)
   | inr s ↦ rw s
       (omega (arith, credit-add m 1 (fronts m ps), credit-some m 1 (omega arith), front_credit m ps h.1, h.0.1))
@@ -79,7 +76,7 @@ front_credit m (p ∷ ps) h = elim (cases_Bool (is_sound m p)) [
 
 front_some : (m : ℕ) (ps : List Piece) → 0 < front m ps → 0 < fronts m ps
 front_some m [] h = absurd (omega arith)
-front_some m (p ∷ ps) h = elim (cases_Bool (is_sound m p)) [
+front_some m (p ∷ ps) h = elim (cases_Bool (is_full m p)) [
   | inl s ↦ absurd (false_front (front m ps) (rw s at h))
   | inr s ↦ rw s (omega arith)
 ]
@@ -88,13 +85,13 @@ front_some m (p ∷ ps) h = elim (cases_Bool (is_sound m p)) [
     false_front n h = omega arith
 
 count_laid : (m t u : ℕ) (ps : List Piece) → 0 < m → AllShort m ps → t + front m ps ≤ credit m (u + fronts m ps)
-    → made_count (laid m t ps) ≤ 2 * (u + unsound m ps)
+    → made_count (laid m t ps) ≤ 2 * (u + unfull m ps)
 count_laid m t u [] a s h = omega (arith, count_credit m t u a (rw (add-zero, add-zero) at h))
-count_laid m t u (p ∷ ps) a s h = elim (cases_Bool (is_sound m p)) [
+count_laid m t u (p ∷ ps) a s h = elim (cases_Bool (is_full m p)) [
   | inl e ↦ elim (cases_Bool (is_short m (front m ps))) [
     | inl k ↦
         let g = is_short-true m (front m ps) k in
-        let b = is_sound-true m p e in
+        let b = is_full-true m p e in
         let h' = rw (e, add-zero, add-zero) at h in
         let step : t + piece_len p + front m ps ≤ credit m (u + fronts m ps) =
         omega (arith, credit-add m u (fronts m ps), credit-some m (fronts m ps) (front_some m ps g.0), h', g.1, b.2) in
@@ -124,13 +121,13 @@ some_pieces m zero t a b = omega (arith, mul-zero m)
 some_pieces m (suc u) t a b = omega arith
 
 count_first : (m t u : ℕ) (ps : List Piece) → 0 < m → AllShort m ps → t ≤ m * u → 0 < t + front m ps
-    → 2 * (t + front m ps) < m → made_count (laid_first m t ps) ≤ 2 * (u + unsound m ps)
+    → 2 * (t + front m ps) < m → made_count (laid_first m t ps) ≤ 2 * (u + unfull m ps)
 count_first m t u [] a s h f g = omega (arith, count_run m t u a h)
-count_first m t u (p ∷ ps) a s h f g = elim (cases_Bool (is_sound m p)) [
+count_first m t u (p ∷ ps) a s h f g = elim (cases_Bool (is_full m p)) [
   | inl e ↦
       let f' = rw (e, add-zero) at f in
       let g' = rw (e, add-zero) at g in
-      let b = is_sound-true m p e in
+      let b = is_full-true m p e in
       let step : t + piece_len p + front m ps ≤ credit m (u + fronts m ps) =
       omega (
         arith,
@@ -149,7 +146,7 @@ count_first m t u (p ∷ ps) a s h f g = elim (cases_Bool (is_sound m p)) [
       (omega (arith, count_first m (t + piece_len p) (suc u) ps a s.1 step (omega (arith, f')) (omega (arith, g'))))
 ]
 
-count_clip : (m : ℕ) (ps : List Piece) → 0 < m → AllShort m ps → made_count (laid_clip m ps) ≤ 2 * unsound m ps
+count_clip : (m : ℕ) (ps : List Piece) → 0 < m → AllShort m ps → made_count (laid_clip m ps) ≤ 2 * unfull m ps
 count_clip m ps a s = elim (cases_Bool (is_short m (front m ps))) [
   | inl k ↦
       let g = is_short-true m (front m ps) k in
@@ -164,7 +161,7 @@ count_apart m [] a s = count_clip m [] a s
 count_apart m (p ∷ []) a s = elim (cases_Bool (is_whole p)) [
   | inl w ↦ rw w (omega (arith, made_count-kept p))
   | inr w ↦
-      let one : unsound m (p ∷ []) ≡ 1 = rw (not_sound m p w) refl in
+      let one : unfull m (p ∷ []) ≡ 1 = rw (not_full m p w) refl in
       let c : made_count (laid_clip m (p ∷ [])) ≤ 2 * 1 = omega (arith, count_clip m (p ∷ []) a s, one) in
       rw w c
 ]

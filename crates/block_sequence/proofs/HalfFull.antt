@@ -2,19 +2,17 @@
 use Rattle.std.proofs.Common.{◌≡◌, ℕ, zero, suc, ◌+◌, ◌-◌, ◌*◌, ◌/◌, ◌%◌, ◌<◌, ◌≤◌, inl, inr, true, false, List, []}
 use Rattle.std.proofs.Common.{◌∷◌, ◌++◌, map, replicate, refl, sym, ap, ◌∙◌, arith, add-zero, zero-add, add_assoc, ltb}
 use Rattle.std.proofs.Common.{filter}
-use Rattle.std.specs.Int.{div_ceil}
 use Rattle.std.proofs.lemmas.Bool.{cases_lt, cases_Bool, and_parts, false≢true, leb-true, ltb-true, ltb-false}
 use Rattle.std.proofs.lemmas.Bool.{and_cases, eqb-true}
 use Rattle.std.proofs.Math.Nat.{mul-le-mul_left, mul-suc, div-add-mod, mod-lt, sub-zero, zero-mul, zero-div, zero-mod}
 use Rattle.std.proofs.Math.Nat.{div-one, mod-one}
-use Rattle.std.proofs.lemmas.Grind.{div_ceil_times}
-use Rattle.std.proofs.lemmas.List.{map-append, nil_from_length}
-use Rattle.pcm_base.specs.declared.piece.Piece.{Piece}
+use Rattle.std.proofs.{lemmas.Grind.div_ceil_times, lemmas.List.map-append, lemmas.List.nil_from_length}
+use Rattle.std.specs.Int.{div_ceil}
 use Rattle.pcm_base.specs.declared.piece.Piece.TheVariants.{Old, Scaled, Zero, Given}
 use Rattle.pcm_base.specs.Pieces.{Sources, piece_len, total, samples_of, all_samples, Fits, AllFit, AllValid}
+use Rattle.pcm_base.specs.{declared.piece.Piece.Piece, Blocks.AllFull, Blocks.IsHalfFull}
 use Rattle.pcm_base.proofs.Pieces.{length-samples}
-use Rattle.pcm_base.specs.Blocks.{AllFull, IsHalfFull}
-use Rattle.block_sequence.specs.Fuse.{Part, Made, part_len, is_whole, is_sound, block_sizes, front, is_short}
+use Rattle.block_sequence.specs.Fuse.{Part, Made, part_len, is_whole, is_full, block_sizes, front, is_short}
 use Rattle.block_sequence.specs.Fuse.{is_not_empty}
 use Rattle.block_sequence.specs.Laying.{kept_of, run_parts, laid, laid_first, laid_clip, laid_apart, fused}
 
@@ -103,17 +101,17 @@ AllFull-run m t a (None e) = rw (run_sizes, e, no_sizes) tt
 AllFull-run m zero a (Long h) = rw (run_sizes, no_sizes) tt
 AllFull-run m (suc t) a (Long h) = rw run_sizes (AllFull-sizes m (suc t) a (omega arith) h)
 
-pub is_sound-true : (m : ℕ) (p : Piece) → is_sound m p ≡ true
+pub is_full-true : (m : ℕ) (p : Piece) → is_full m p ≡ true
     → (is_whole p ≡ true) × (m ≤ 2 * piece_len p) × (piece_len p ≤ m)
-unfolding is_sound
-is_sound-true m p h =
+unfolding is_full
+is_full-true m p h =
     let a = and_parts _ _ h in
     let b = and_parts _ _ a.0 in
     (b.0, leb-true _ _ b.1, leb-true _ _ a.1)
 
-pub not_sound : (m : ℕ) (p : Piece) → is_whole p ≡ false → is_sound m p ≡ false
-not_sound m p h =
-    elim (cases_Bool (is_sound m p)) [ inl e ↦ absurd (false≢true (sym h ∙ (is_sound-true m p e).0)) | inr e ↦ e ]
+pub not_full : (m : ℕ) (p : Piece) → is_whole p ≡ false → is_full m p ≡ false
+not_full m p h =
+    elim (cases_Bool (is_full m p)) [ inl e ↦ absurd (false≢true (sym h ∙ (is_full-true m p e).0)) | inr e ↦ e ]
 
 pub is_short-false : (m t : ℕ) → is_short m t ≡ false → IsLong m t
 unfolding is_short
@@ -126,7 +124,7 @@ pub is_short-true : (m t : ℕ) → is_short m t ≡ true → (0 < t) × (2 * t 
 unfolding is_short
 is_short-true m t h = let a = and_parts _ _ h in (ltb-true _ _ a.0, ltb-true _ _ a.1)
 
--- a sound piece is a whole block, with as many samples
+-- a full piece is a whole block, with as many samples
 pub kept_sizes : (p : Piece) → is_whole p ≡ true → map part_len (kept_of p) ≡ piece_len p ∷ []
 kept_sizes (Old b from to) h =
     let a = and_parts _ _ h in
@@ -137,21 +135,20 @@ kept_sizes (Scaled b from to gain) h = absurd (false≢true h)
 kept_sizes (Zero len) h = absurd (false≢true h)
 kept_sizes (Given from to) h = absurd (false≢true h)
 
-pub AllFull-kept : (m : ℕ) (p : Piece) → is_sound m p ≡ true → AllFull m (map part_len (kept_of p))
-AllFull-kept m p h = let a = is_sound-true m p h in rw (kept_sizes p a.0) ((a.1, a.2), tt)
+pub AllFull-kept : (m : ℕ) (p : Piece) → is_full m p ≡ true → AllFull m (map part_len (kept_of p))
+AllFull-kept m p h = let a = is_full-true m p h in rw (kept_sizes p a.0) ((a.1, a.2), tt)
 
 pub AllFull-laid : (m t : ℕ) (ps : List Piece) → 0 < m → IsLong m (t + front m ps)
     → AllFull m (map part_len (laid m t ps))
 AllFull-laid m t [] a h = AllFull-run m t a (rw add-zero at h)
-AllFull-laid m t (p ∷ ps) a h = elim (cases_Bool (is_sound m p)) [
+AllFull-laid m t (p ∷ ps) a h = elim (cases_Bool (is_full m p)) [
   | inl s ↦ elim (cases_Bool (is_short m (front m ps))) [
     | inl k ↦
-        let b = is_sound-true m p s in
+        let b = is_full-true m p s in
         rw (s, k) (AllFull-laid m (t + piece_len p) ps a (Long (omega arith)))
     | inr k ↦
         rw (s, k) (rw (map-append, map-append) (
-        AllFull-append m _ _
-        (AllFull-append m _ _ (AllFull-run m t a (rw (s, add-zero) at h)) (AllFull-kept m p s))
+        AllFull-append m _ _ (AllFull-append m _ _ (AllFull-run m t a (rw (s, add-zero) at h)) (AllFull-kept m p s))
         (AllFull-laid m 0 ps a (rw zero-add (is_short-false m _ k)))))
   ]
   | inr s ↦ rw s (AllFull-laid m (t + piece_len p) ps a (rw (s, ← add_assoc) at h))
@@ -167,9 +164,9 @@ IsLaid-first m t [] a = elim (cases_lt (2 * t) m) [
   | inl b ↦ One (rw add-zero refl) (rw add-zero b)
   | inr b ↦ Full (AllFull-run m t a (Long b))
 ]
-IsLaid-first m t (p ∷ ps) a = elim (cases_Bool (is_sound m p)) [
+IsLaid-first m t (p ∷ ps) a = elim (cases_Bool (is_full m p)) [
   | inl s ↦
-      let b = is_sound-true m p s in
+      let b = is_full-true m p s in
       Full (rw s (AllFull-laid m (t + piece_len p) ps a (Long (omega arith))))
   | inr s ↦ rw (s, ← add_assoc) (IsLaid-first m (t + piece_len p) ps a)
 ]

@@ -1,15 +1,13 @@
 -- Lemmas on where pieces come from.
 use Rattle.std.proofs.Common.{◌≡◌, ℕ, zero, suc, ◌+◌, ◌<◌, ◌≤◌, inl, inr, List, [], ◌∷◌, ◌++◌, length, get_or, take}
 use Rattle.std.proofs.Common.{drop, filter, subst, arith}
-use Rattle.std.specs.Prelude.{Contains}
 use Rattle.std.proofs.lemmas.Bool.{cases_Bool}
-use Rattle.pcm_base.specs.declared.block.BlockRef.{BlockRef}
-use Rattle.pcm_base.specs.declared.piece.Piece.{Piece}
+use Rattle.std.specs.Prelude.{Contains}
 use Rattle.pcm_base.specs.declared.piece.Piece.TheVariants.{Old, Scaled, Zero, Given}
 use Rattle.pcm_base.specs.Pieces.{piece_len, part_of, IsValid, whole}
-use Rattle.block_sequence.specs.Fuse.{is_not_empty}
+use Rattle.pcm_base.specs.{declared.block.BlockRef.BlockRef, declared.piece.Piece.Piece}
 use Rattle.block_sequence.specs.Origins.{IsFrom, AllFrom, IsLaidFrom, AllLaidFrom}
-use Rattle.block_sequence.specs.declared.types.Laid.{Laid}
+use Rattle.block_sequence.specs.{Fuse.is_not_empty, declared.types.Laid.Laid}
 
 pub IsFrom-part : (blocks : List BlockRef) (count skip n : ℕ) (p : Piece) → skip + n ≤ piece_len p → IsValid p
     → IsFrom blocks count p → IsFrom blocks count (part_of skip n p)

@@ -2,10 +2,8 @@
 use Rattle.std.proofs.Common.{◌≡◌, ℕ, List, [], ◌∷◌, ◌++◌, refl, sym, ap, ◌∙◌, ℤ, append_assoc}
 use Rattle.std.proofs.lemmas.List.{map_push, append-nil}
 use Rattle.pcm_base.specs.Pieces.{Sources}
-use Rattle.block_sequence.specs.declared.types.Laid.{Laid}
-use Rattle.block_sequence.specs.Fuse.{Part, block_sizes}
-use Rattle.block_sequence.specs.Laying.{run_parts}
 use Rattle.block_sequence.specs.Laid.{part_of_laid, parts, laid_samples, all_laid_samples, IsMade, AllMade}
+use Rattle.block_sequence.specs.{declared.types.Laid.Laid, Fuse.Part, Fuse.block_sizes, Laying.run_parts}
 use Rattle.block_sequence.proofs.Sizes.{made}
 
 pub made_is_run : (m t : ℕ) → made (block_sizes m t) ≡ run_parts m t

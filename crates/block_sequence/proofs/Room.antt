@@ -1,18 +1,15 @@
 -- The new blocks of a clip have no more room than its pieces give them.
 use Rattle.std.proofs.Common.{◌≡◌, ℕ, ◌+◌, ◌*◌, ◌<◌, ◌≤◌, inl, inr, List, [], ◌∷◌, ◌++◌, map, filter, arith}
+use Rattle.std.proofs.{lemmas.Bool.cases_Bool, lemmas.Bool.ltb-false, lemmas.Grind.div_ceil_times, Math.Nat.mul_comm}
+use Rattle.std.proofs.{Math.Nat.mul-zero}
 use Rattle.std.specs.Int.{div_ceil}
-use Rattle.std.proofs.lemmas.Bool.{cases_Bool, ltb-false}
-use Rattle.std.proofs.lemmas.Grind.{div_ceil_times}
-use Rattle.std.proofs.Math.Nat.{mul_comm, mul-zero}
-use Rattle.pcm_base.specs.declared.piece.Piece.{Piece}
-use Rattle.pcm_base.specs.Pieces.{piece_len}
-use Rattle.block_sequence.specs.Fuse.{Part, Made, is_whole, is_sound, is_short, is_not_empty, block_sizes, front}
+use Rattle.pcm_base.specs.{declared.piece.Piece.Piece, Pieces.piece_len}
+use Rattle.block_sequence.specs.Fuse.{Part, Made, is_whole, is_full, is_short, is_not_empty, block_sizes, front}
 use Rattle.block_sequence.specs.Fuse.{made_count}
 use Rattle.block_sequence.specs.Laying.{kept_of, run_parts, laid, laid_first, laid_clip, laid_apart, fused}
 use Rattle.block_sequence.specs.Room.{Stand, First, Behind, Within, spare, taken, room, clip_room}
-use Rattle.block_sequence.proofs.HalfFull.{is_sound-true, is_short-true, no_sizes}
-use Rattle.block_sequence.proofs.Sizes.{count_sizes}
-use Rattle.block_sequence.proofs.Count.{made_count-append, made_count-made, made_count-kept}
+use Rattle.block_sequence.proofs.{HalfFull.is_full-true, HalfFull.is_short-true, HalfFull.no_sizes, Sizes.count_sizes}
+use Rattle.block_sequence.proofs.{Count.made_count-append, Count.made_count-made, Count.made_count-kept}
 
 -- a run has room for at most m samples more than it has, and for none where it has none
 run_room : (m t : ℕ) → 0 < m → m * made_count (run_parts m t) ≤ t + m
@@ -27,14 +24,14 @@ no_run : (m : ℕ) → m * made_count (run_parts m 0) ≡ 0
 unfolding run_parts
 no_run m = rw no_sizes (mul-zero m)
 
--- a clip that goes on after a sound piece has at least the room of one that begins there
+-- a clip that goes on after a full piece has at least the room of one that begins there
 first_behind : (m : ℕ) (ps : List Piece) → room m First ps ≤ room m Behind ps
 first_behind m [] = omega arith
-first_behind m (p ∷ ps) = elim (cases_Bool (is_sound m p)) [ inl e ↦ rw e (omega arith) | inr e ↦ rw e (omega arith) ]
+first_behind m (p ∷ ps) = elim (cases_Bool (is_full m p)) [ inl e ↦ rw e (omega arith) | inr e ↦ rw e (omega arith) ]
 
 within_behind : (m : ℕ) (ps : List Piece) → 0 < front m ps → room m Within ps + 2 * m ≤ room m Behind ps
 within_behind m [] h = absurd (omega arith)
-within_behind m (p ∷ ps) h = elim (cases_Bool (is_sound m p)) [
+within_behind m (p ∷ ps) h = elim (cases_Bool (is_full m p)) [
   | inl e ↦ absurd (nothing (rw e at h))
   | inr e ↦ rw e (omega arith)
 ]
@@ -58,9 +55,9 @@ roomy_laid : (m : ℕ) (ps : List Piece) → 0 < m → IsRoomy m ps
 roomy_laid m [] a = (λ t s. omega (arith, run_room m t a), omega (arith, no_run m))
 roomy_laid m (p ∷ ps) a =
     let r = roomy_laid m ps a in
-    elim (cases_Bool (is_sound m p)) [
+    elim (cases_Bool (is_full m p)) [
       | inl e ↦
-          let b = is_sound-true m p e in
+          let b = is_full-true m p e in
           elim (cases_Bool (is_short m (front m ps))) [
             | inl k ↦
                 let g = within_behind m ps (is_short-true m (front m ps) k).0 in
@@ -97,15 +94,15 @@ roomy_laid m (p ∷ ps) a =
 
 roomy_first : (m t : ℕ) (ps : List Piece) → 0 < m → m * made_count (laid_first m t ps) ≤ t + m + room m Within ps
 roomy_first m t [] a = omega (arith, run_room m t a)
-roomy_first m t (p ∷ ps) a = elim (cases_Bool (is_sound m p)) [
-  | inl e ↦ rw e (omega (arith, (roomy_laid m ps a).0 (t + piece_len p) Behind, is_sound-true m p e))
+roomy_first m t (p ∷ ps) a = elim (cases_Bool (is_full m p)) [
+  | inl e ↦ rw e (omega (arith, (roomy_laid m ps a).0 (t + piece_len p) Behind, is_full-true m p e))
   | inr e ↦ rw e (omega (arith, roomy_first m (t + piece_len p) ps a))
 ]
 
 -- the same where the run begins the clip
 first_within : (m : ℕ) (ps : List Piece) → 0 < front m ps → room m Within ps + m ≤ room m First ps
 first_within m [] h = absurd (omega arith)
-first_within m (p ∷ ps) h = elim (cases_Bool (is_sound m p)) [
+first_within m (p ∷ ps) h = elim (cases_Bool (is_full m p)) [
   | inl e ↦ absurd (nothing (rw e at h))
   | inr e ↦ rw e (omega arith)
 ]
@@ -130,7 +127,7 @@ roomy_apart m (p ∷ q ∷ ps) a = roomy_clip m (p ∷ q ∷ ps) a
 -- empty pieces need no room
 within_spare : (m : ℕ) (s : Stand) (ps : List Piece) → room m s ps ≤ spare m s + room m Within ps
 within_spare m s [] = omega arith
-within_spare m s (p ∷ ps) = elim (cases_Bool (is_sound m p)) [
+within_spare m s (p ∷ ps) = elim (cases_Bool (is_full m p)) [
   | inl e ↦ rw e (omega (arith, at_most m s))
   | inr e ↦ rw e (omega arith)
 ]
@@ -142,10 +139,10 @@ within_spare m s (p ∷ ps) = elim (cases_Bool (is_sound m p)) [
 
 room-filter : (m : ℕ) (s : Stand) (ps : List Piece) → 0 < m → room m s (filter is_not_empty ps) ≤ room m s ps
 room-filter m s [] a = omega arith
-room-filter m s (p ∷ ps) a = elim (cases_Bool (is_sound m p)) [
+room-filter m s (p ∷ ps) a = elim (cases_Bool (is_full m p)) [
   | inl e ↦ elim (cases_Bool (is_not_empty p)) [
     | inl n ↦ rw (n, e) (omega (arith, room-filter m Behind ps a))
-    | inr n ↦ absurd (omega (arith, ltb-false 0 (piece_len p) n, is_sound-true m p e))
+    | inr n ↦ absurd (omega (arith, ltb-false 0 (piece_len p) n, is_full-true m p e))
   ]
   | inr e ↦ elim (cases_Bool (is_not_empty p)) [
     | inl n ↦ rw (n, e) (omega (arith, room-filter m Within ps a))

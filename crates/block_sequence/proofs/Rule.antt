@@ -3,16 +3,14 @@ use Rattle.std.proofs.Common.{◌≡◌, ℕ, ◌+◌, ◌-◌, ◌<◌, inl, in
 use Rattle.std.proofs.Common.{refl, sym, ap, ap₂, subst, ◌∙◌, append_assoc, arith}
 use Rattle.std.proofs.lemmas.Bool.{cases_Bool, and_parts, false≢true, eqb-true}
 use Rattle.std.proofs.lemmas.List.{append-nil}
-use Rattle.pcm_base.specs.declared.piece.Piece.{Piece}
 use Rattle.pcm_base.specs.declared.piece.Piece.TheVariants.{Old, Scaled, Zero, Given}
-use Rattle.pcm_base.specs.Pieces.{piece_len, total}
+use Rattle.pcm_base.specs.{declared.piece.Piece.Piece, Pieces.piece_len, Pieces.total}
 use Rattle.pcm_base.proofs.Pieces.{total-append}
-use Rattle.block_sequence.specs.Fuse.{Part, Made, is_whole, is_sound, is_short, none_sound, front, taken_by_first}
+use Rattle.block_sequence.specs.Fuse.{Part, Made, is_whole, is_full, is_short, none_full, front, taken_by_first}
 use Rattle.block_sequence.specs.Fuse.{is_kept, kept_from, kept_parts, block_sizes, added, AreRuns, IsLaidOut}
 use Rattle.block_sequence.specs.Laying.{kept_of, run_parts, laid_clip, laid_apart}
-use Rattle.block_sequence.proofs.HalfFull.{is_sound-true, laid_none, no_sizes, not_sound}
-use Rattle.block_sequence.proofs.Sizes.{added_sizes}
-use Rattle.block_sequence.proofs.Clip.{laid_from, ends, goes_on, stops}
+use Rattle.block_sequence.proofs.{HalfFull.is_full-true, HalfFull.laid_none, HalfFull.no_sizes, HalfFull.not_full}
+use Rattle.block_sequence.proofs.{Sizes.added_sizes, Clip.laid_from, Clip.ends, Clip.goes_on, Clip.stops}
 
 -- where the kept blocks begin after some new ones
 kept_made : (at : ℕ) (ns : List ℕ) (rest : List Part)
@@ -36,36 +34,36 @@ kept_block (Scaled b from to gain) at rest h = absurd (false≢true h)
 kept_block (Zero len) at rest h = absurd (false≢true h)
 kept_block (Given from to) at rest h = absurd (false≢true h)
 
--- the run that begins a clip, where a sound piece ends it
-first_front : (m : ℕ) (before : List Piece) (p : Piece) (ps : List Piece) → none_sound m before ≡ true
-    → is_sound m p ≡ true → front m (before ++ p ∷ ps) ≡ total before
+-- the run that begins a clip, where a full piece ends it
+first_front : (m : ℕ) (before : List Piece) (p : Piece) (ps : List Piece) → none_full m before ≡ true
+    → is_full m p ≡ true → front m (before ++ p ∷ ps) ≡ total before
 first_front m [] p ps h s = rw s refl
-first_front m (b ∷ bs) p ps h s = elim (cases_Bool (is_sound m b)) [
+first_front m (b ∷ bs) p ps h s = elim (cases_Bool (is_full m b)) [
   | inl e ↦ absurd (false≢true (rw e at h))
   | inr e ↦ rw e (ap (λ n. piece_len b + n) (first_front m bs p ps (rw e at h) s))
 ]
 
-none_sound-push : (m : ℕ) (before : List Piece) (p : Piece)
-    → none_sound m (before ++ p ∷ []) ≡ (none_sound m before && not (is_sound m p))
-none_sound-push m [] p = elim (cases_Bool (is_sound m p)) [ inl e ↦ rw e refl | inr e ↦ rw e refl ]
-none_sound-push m (b ∷ bs) p =
-    elim (cases_Bool (is_sound m b)) [ inl e ↦ rw e refl | inr e ↦ rw e (none_sound-push m bs p) ]
+none_full-push : (m : ℕ) (before : List Piece) (p : Piece)
+    → none_full m (before ++ p ∷ []) ≡ (none_full m before && not (is_full m p))
+none_full-push m [] p = elim (cases_Bool (is_full m p)) [ inl e ↦ rw e refl | inr e ↦ rw e refl ]
+none_full-push m (b ∷ bs) p =
+    elim (cases_Bool (is_full m b)) [ inl e ↦ rw e refl | inr e ↦ rw e (none_full-push m bs p) ]
 
 -- whether a run that begins the clip, and takes in the piece after it, stands open
 abbrev is_first : ℕ → List Piece → List Piece → Bool
-is_first m before ps = none_sound m before && is_short m (front m (before ++ ps))
+is_first m before ps = none_full m before && is_short m (front m (before ++ ps))
 
-taken : (m : ℕ) (before : List Piece) (p : Piece) (ps : List Piece) → is_sound m p ≡ true
+taken : (m : ℕ) (before : List Piece) (p : Piece) (ps : List Piece) → is_full m p ≡ true
     → taken_by_first m before ≡ is_first m before (p ∷ ps)
-taken m before p ps s = elim (cases_Bool (none_sound m before)) [
+taken m before p ps s = elim (cases_Bool (none_full m before)) [
   | inl e ↦ rw e (ap (is_short m) (sym (first_front m before p ps e s)))
   | inr e ↦ rw e refl
 ]
 
 same_test : (m : ℕ) (first : Bool) (before : List Piece) (p : Piece) (ps : List Piece)
     → first ≡ is_first m before (p ∷ ps)
-    → is_kept m before p ps ≡ (is_sound m p && not first && not (is_short m (front m ps)))
-same_test m first before p ps f = elim (cases_Bool (is_sound m p)) [
+    → is_kept m before p ps ≡ (is_full m p && not first && not (is_short m (front m ps)))
+same_test m first before p ps f = elim (cases_Bool (is_full m p)) [
   | inl s ↦ rw s (ap (λ b. not b && not (is_short m (front m ps))) (taken m before p ps s ∙ sym f))
   | inr s ↦ rw s refl
 ]
@@ -79,11 +77,11 @@ swapped false x s = refl
 
 first_on : (m : ℕ) (first : Bool) (before : List Piece) (p : Piece) (ps : List Piece)
     → first ≡ is_first m before (p ∷ ps)
-    → (first && not (is_sound m p)) ≡ is_first m (before ++ p ∷ []) ps
+    → (first && not (is_full m p)) ≡ is_first m (before ++ p ∷ []) ps
 first_on m first before p ps f =
-    ap (λ b. b && not (is_sound m p)) f
-    ∙ swapped (none_sound m before) (is_short m (front m (before ++ p ∷ ps))) (not (is_sound m p))
-    ∙ ap₂ ◌&&◌ (sym (none_sound-push m before p))
+    ap (λ b. b && not (is_full m p)) f
+    ∙ swapped (none_full m before) (is_short m (front m (before ++ p ∷ ps))) (not (is_full m p))
+    ∙ ap₂ ◌&&◌ (sym (none_full-push m before p))
     (ap (λ qs. is_short m (front m qs)) (sym (append_assoc before (p ∷ []) ps)))
 
 stop_parts : (s first k : Bool) → (s && not first && k) ≡ true → (s ≡ true) × (first ≡ false)
@@ -91,10 +89,10 @@ stop_parts true false k h = (refl, refl)
 stop_parts true true k h = absurd (false≢true h)
 stop_parts false first k h = absurd (false≢true h)
 
-first_stays : (m : ℕ) (first : Bool) (before : List Piece) (p : Piece) (ps : List Piece) → is_sound m p ≡ true
+first_stays : (m : ℕ) (first : Bool) (before : List Piece) (p : Piece) (ps : List Piece) → is_full m p ≡ true
     → first ≡ false → first ≡ is_first m (before ++ p ∷ []) ps
-first_stays m first before p ps s f = f ∙ sym (rw (none_sound-push m before p, s)
-    (ap (λ b. b && is_short m (front m ((before ++ p ∷ []) ++ ps))) (none (none_sound m before))))
+first_stays m first before p ps s f = f ∙ sym (rw (none_full-push m before p, s)
+    (ap (λ b. b && is_short m (front m ((before ++ p ∷ []) ++ ps))) (none (none_full m before))))
   where
     none : (b : Bool) → (b && false) ≡ false
     none true = refl
@@ -106,24 +104,24 @@ pub kept_laid : (m at t : ℕ) (first : Bool) (before ps : List Piece) → 0 < m
 kept_laid m at t first before [] a f e =
     ap (kept_parts at) (ends first m t ∙ sym (append-nil (run_parts m t))) ∙ kept_run m t at [] a
 kept_laid m at t first before (p ∷ ps) a f e =
-    let stop : Bool = is_sound m p && not first && not (is_short m (front m ps)) in
+    let stop : Bool = is_full m p && not first && not (is_short m (front m ps)) in
     let same = same_test m first before p ps f in
     let more : total (before ++ p ∷ []) ≡ total before + piece_len p = omega (arith, total-append before (p ∷ [])) in
     elim (cases_Bool stop) [
       | inl h ↦
-          let k = stop_parts (is_sound m p) first _ h in
+          let k = stop_parts (is_full m p) first _ h in
           rw (same ∙ h) (
           ap (kept_parts at)
           (stops first m t p ps h ∙ append_assoc (run_parts m t) (kept_of p) (laid_from first m 0 ps))
           ∙ kept_run m t at (kept_of p ++ laid_from first m 0 ps) a
-          ∙ kept_block p (at + t) (laid_from first m 0 ps) (is_sound-true m p k.0).0
+          ∙ kept_block p (at + t) (laid_from first m 0 ps) (is_full-true m p k.0).0
           ∙ ap₂ (λ (n : ℕ) (rest : List (ℕ × Piece)). (n, p) ∷ rest) e
           (kept_laid m (at + t + piece_len p) 0 first (before ++ p ∷ []) ps a (first_stays m first before p ps k.0 k.1)
           (omega arith)))
       | inr h ↦
           rw (same ∙ h) (
           ap (kept_parts at) (goes_on first m t p ps h)
-          ∙ kept_laid m at (t + piece_len p) (first && not (is_sound m p)) (before ++ p ∷ []) ps a
+          ∙ kept_laid m at (t + piece_len p) (first && not (is_full m p)) (before ++ p ∷ []) ps a
           (first_on m first before p ps f) (omega arith))
     ]
 
@@ -155,16 +153,16 @@ runs_laid m t first [] a =
     subst P (append-nil (run_parts m t) ∙ sym (ends first m t)) (runs_run m t [] (own_sizes m t a))
 runs_laid m t first (p ∷ ps) a =
     let P : List Part → Type 0 = AreRuns m [] in
-    let stop : Bool = is_sound m p && not first && not (is_short m (front m ps)) in
+    let stop : Bool = is_full m p && not first && not (is_short m (front m ps)) in
     elim (cases_Bool stop) [
       | inl h ↦
-          let k = stop_parts (is_sound m p) first _ h in
+          let k = stop_parts (is_full m p) first _ h in
           let rest = laid_from first m 0 ps in
           subst P (sym (stops first m t p ps h ∙ append_assoc (run_parts m t) (kept_of p) rest))
-          (runs_run m t (kept_of p ++ rest) (runs_kept m (block_sizes m t) p rest (is_sound-true m p k.0).0
+          (runs_run m t (kept_of p ++ rest) (runs_kept m (block_sizes m t) p rest (is_full-true m p k.0).0
           (own_sizes m t a) (runs_laid m 0 first ps a)))
       | inr h ↦ subst P (sym (goes_on first m t p ps h))
-          (runs_laid m (t + piece_len p) (first && not (is_sound m p)) ps a)
+          (runs_laid m (t + piece_len p) (first && not (is_full m p)) ps a)
     ]
 
 no_new : (m : ℕ) → [] ≡ block_sizes m (added [])
@@ -184,7 +182,7 @@ laid_out m (p ∷ []) a = elim (cases_Bool (is_whole p)) [
       } in
       rw w (subst P (append-nil (kept_of p)) both)
   | inr w ↦
-      let s = not_sound m p w in
+      let s = not_full m p w in
       let none : kept_from m [] (p ∷ []) ≡ [] = rw s refl in
       let not_alone : laid_apart m (p ∷ []) ≡ laid_clip m (p ∷ []) = rw w refl in
       let P : List Part → Type 0 = IsLaidOut m (p ∷ []) in

@@ -1,11 +1,11 @@
 -- The sizes of a run's blocks.
 use Rattle.std.proofs.Common.{◌≡◌, ℕ, zero, suc, ◌+◌, ◌-◌, ◌*◌, ◌/◌, ◌%◌, ◌<◌, ◌≤◌, List, [], ◌∷◌, ◌++◌, length, get_or}
 use Rattle.std.proofs.Common.{drop, replicate, map, sym, ap, ap₂, ◌∙◌, arith, length-append}
-use Rattle.std.specs.Int.{div_ceil}
 use Rattle.std.proofs.lemmas.List.{get_or_append_left, get_or-append_right, get_or-replicate, length-replicate}
 use Rattle.std.proofs.lemmas.List.{drop_more, drop_all}
 use Rattle.std.proofs.lemmas.Grind.{div_ceil_times}
 use Rattle.std.proofs.Math.Nat.{div-add-mod, mod-lt, zero-mul, mod-zero}
+use Rattle.std.specs.Int.{div_ceil}
 use Rattle.block_sequence.specs.Fuse.{block_sizes, Part, Made, added}
 use Rattle.block_sequence.proofs.HalfFull.{no_sizes, pos_times}
 

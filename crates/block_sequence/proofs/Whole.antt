@@ -1,12 +1,10 @@
 -- Blocks as whole pieces.
 use Rattle.std.proofs.Common.{◌≡◌, ℕ, ◌+◌, ◌<◌, List, [], ◌∷◌, ◌++◌, length, get_or, drop, map, refl, ap, ap₂, ◌∙◌}
 use Rattle.std.proofs.Common.{arith, length-append}
-use Rattle.std.proofs.lemmas.List.{drop_more}
-use Rattle.std.proofs.Math.Nat.{sub-zero}
-use Rattle.pcm_base.specs.declared.block.BlockRef.{BlockRef}
+use Rattle.std.proofs.{lemmas.List.drop_more, Math.Nat.sub-zero}
 use Rattle.pcm_base.specs.Pieces.{Sources, stretch, total, all_samples, whole, AllValid}
+use Rattle.pcm_base.specs.{declared.block.BlockRef.BlockRef, Blocks.NoneEmpty, Blocks.block_samples, Blocks.blocks_len}
 use Rattle.pcm_base.proofs.Pieces.{length-stretch}
-use Rattle.pcm_base.specs.Blocks.{NoneEmpty, block_samples, blocks_len}
 
 pub blocks_next : (bs : List BlockRef) (i : ℕ) (d : BlockRef) → i < length bs
     → blocks_len (drop i bs) ≡ (get_or bs i d).len + blocks_len (drop (i + 1) bs)

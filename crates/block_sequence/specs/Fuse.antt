@@ -1,15 +1,14 @@
 -- The rule by which the pieces of a clip are laid out in blocks of at most m samples, as a property of the result.
 --
--- A piece is sound where it is a whole block of m / 2 to m samples. The pieces between the sound ones are runs. A run
--- of fewer than m / 2 samples takes in the sound piece directly before it; where it begins the clip, the one directly
--- after it. A sound piece that no run takes in keeps its block. What lies between the kept blocks is cut anew.
+-- A piece is full where it is a whole block of m / 2 to m samples. The pieces between the full ones are runs. A run
+-- of fewer than m / 2 samples takes in the full piece directly before it; where it begins the clip, the one directly
+-- after it. A full piece that no run takes in keeps its block. What lies between the kept blocks is cut anew.
 use Rattle.std.specs.Prelude.{◌≡◌, ℕ, ◌+◌, ◌-◌, ◌*◌, ◌/◌, ◌%◌, ◌<◌, ◌≤◌, nat_lt, nat_le, ◌==◌, ◌&&◌, not, Bool, true}
 use Rattle.std.specs.Prelude.{false, List, [], ◌∷◌, ◌++◌, replicate, if◌then◌else◌}
 use Rattle.std.specs.Int.{div_ceil}
-use Rattle.pcm_base.specs.declared.block.BlockRef.{BlockRef}
-use Rattle.pcm_base.specs.declared.piece.Piece.{Piece}
 use Rattle.pcm_base.specs.declared.piece.Piece.TheVariants.{Old, Scaled, Zero, Given}
 use Rattle.pcm_base.specs.Pieces.{piece_len, total, whole}
+use Rattle.pcm_base.specs.{declared.block.BlockRef.BlockRef, declared.piece.Piece.Piece}
 
 -- a block that is kept, or a new one of this many samples
 pub data Part : Type 0 where
@@ -27,30 +26,30 @@ is_whole (Zero len) = false
 is_whole (Given from to) = false
 
 -- a whole block of m / 2 to m samples
-unfoldable pub is_sound : ℕ → Piece → Bool
-is_sound m p = is_whole p && nat_le m (2 * piece_len p) && nat_le (piece_len p) m
+unfoldable pub is_full : ℕ → Piece → Bool
+is_full m p = is_whole p && nat_le m (2 * piece_len p) && nat_le (piece_len p) m
 
--- whether none of the pieces is sound
-abbrev pub none_sound : ℕ → List Piece → Bool
-none_sound m [] = true
-none_sound m (p ∷ ps) = not (is_sound m p) && none_sound m ps
+-- whether none of the pieces is full
+abbrev pub none_full : ℕ → List Piece → Bool
+none_full m [] = true
+none_full m (p ∷ ps) = not (is_full m p) && none_full m ps
 
--- the samples before the first sound piece
+-- the samples before the first full piece
 abbrev pub front : ℕ → List Piece → ℕ
 front m [] = 0
-front m (p ∷ ps) = if is_sound m p then 0 else piece_len p + front m ps
+front m (p ∷ ps) = if is_full m p then 0 else piece_len p + front m ps
 
 -- a run of t samples takes in a neighbour
 unfoldable pub is_short : ℕ → ℕ → Bool
 is_short m t = nat_lt 0 t && nat_lt (2 * t) m
 
--- whether the run directly before a sound piece takes it in: it begins the clip, and is short
+-- whether the run directly before a full piece takes it in: it begins the clip, and is short
 abbrev pub taken_by_first : ℕ → List Piece → Bool
-taken_by_first m before = none_sound m before && is_short m (total before)
+taken_by_first m before = none_full m before && is_short m (total before)
 
 -- whether a piece between others keeps its block
 abbrev pub is_kept : ℕ → List Piece → Piece → List Piece → Bool
-is_kept m before p after = is_sound m p && not (taken_by_first m before) && not (is_short m (front m after))
+is_kept m before p after = is_full m p && not (taken_by_first m before) && not (is_short m (front m after))
 
 -- those of some pieces that keep their blocks, with the place of the first sample, where others come before
 abbrev pub kept_from : ℕ → List Piece → List Piece → List (ℕ × Piece)
@@ -100,16 +99,16 @@ made_count [] = 0
 made_count (Kept b ∷ ps) = made_count ps
 made_count (Made n ∷ ps) = 1 + made_count ps
 
--- how many pieces are not sound
-abbrev pub unsound : ℕ → List Piece → ℕ
-unsound m [] = 0
-unsound m (p ∷ ps) = (if is_sound m p then 0 else 1) + unsound m ps
+-- how many pieces are not full
+abbrev pub unfull : ℕ → List Piece → ℕ
+unfull m [] = 0
+unfull m (p ∷ ps) = (if is_full m p then 0 else 1) + unfull m ps
 
 -- the same of a clip, where one whole block alone is as good
 abbrev pub rough : ℕ → List Piece → ℕ
 rough m [] = 0
 rough m (p ∷ []) = if is_whole p then 0 else 1
-rough m (p ∷ q ∷ ps) = unsound m (p ∷ q ∷ ps)
+rough m (p ∷ q ∷ ps) = unfull m (p ∷ q ∷ ps)
 
 -- no piece has more samples than a block may have, and none is empty
 abbrev pub AllShort : ℕ → List Piece → Type 0

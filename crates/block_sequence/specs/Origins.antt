@@ -1,8 +1,7 @@
 -- Where pieces come from: blocks of a list, and this many samples that a command brings.
 use Rattle.std.specs.Prelude.{ℕ, ◌≤◌, List, [], ◌∷◌, Contains}
-use Rattle.pcm_base.specs.declared.block.BlockRef.{BlockRef}
-use Rattle.pcm_base.specs.declared.piece.Piece.{Piece}
 use Rattle.pcm_base.specs.declared.piece.Piece.TheVariants.{Old, Scaled, Zero, Given}
+use Rattle.pcm_base.specs.{declared.block.BlockRef.BlockRef, declared.piece.Piece.Piece}
 use Rattle.block_sequence.specs.declared.types.Laid.{Laid}
 use Rattle.block_sequence.specs.declared.types.Laid.TheVariants.{Keep, Make}
 

@@ -1,13 +1,12 @@
 -- How many samples the new blocks of a clip have room for at most, counted from its pieces alone.
 --
 -- A run of t samples is cut into as few blocks as hold it, which have room for fewer than t + m. Where the run takes in
--- a sound piece, before it or after it, that are at most m samples more.
+-- a full piece, before it or after it, that are at most m samples more.
 use Rattle.std.specs.Prelude.{ℕ, ◌+◌, ◌*◌, List, [], ◌∷◌, if◌then◌else◌}
-use Rattle.pcm_base.specs.declared.piece.Piece.{Piece}
-use Rattle.pcm_base.specs.Pieces.{piece_len}
-use Rattle.block_sequence.specs.Fuse.{is_whole, is_sound}
+use Rattle.pcm_base.specs.{declared.piece.Piece.Piece, Pieces.piece_len}
+use Rattle.block_sequence.specs.Fuse.{is_whole, is_full}
 
--- where a piece stands: it begins its clip, or a sound piece, or one that is not sound, is directly before it
+-- where a piece stands: it begins its clip, or a full piece, or one that is not full, is directly before it
 pub data Stand : Type 0 where
   First : Stand
   Behind : Stand
@@ -27,7 +26,7 @@ taken m Within = m
 
 abbrev pub room : ℕ → Stand → List Piece → ℕ
 room m s [] = 0
-room m s (p ∷ ps) = if is_sound m p then taken m s + room m Behind ps else piece_len p + spare m s + room m Within ps
+room m s (p ∷ ps) = if is_full m p then taken m s + room m Behind ps else piece_len p + spare m s + room m Within ps
 
 -- the same of a clip: one whole block alone is kept
 abbrev pub clip_room : ℕ → List Piece → ℕ

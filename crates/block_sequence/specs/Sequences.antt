@@ -1,8 +1,7 @@
 -- What holds of every sequence of blocks, by its type.
 use Rattle.std.specs.Prelude.{◌≡◌, ℕ, ◌≤◌, List}
-use Rattle.pcm_base.specs.declared.limits.TheConstants.{MAX_CELLS}
 use Rattle.pcm_base.specs.Blocks.{block_lens, blocks_len, NoneEmpty, IsHalfFull}
-use Rattle.pcm_base.specs.declared.block.BlockRef.{BlockRef}
+use Rattle.pcm_base.specs.{declared.limits.TheConstants.MAX_CELLS, declared.block.BlockRef.BlockRef}
 
 -- half full at some block size m; which one, its holder knows
 abbrev pub IsHalfFullSomewhere : List BlockRef → Type 0

@@ -17,10 +17,10 @@ use super::types::{Laid, Pieces};
 use pcm_base::{BlockRef, NoMemory, Piece};
 use std::alloc::{AllocError, Global};
 
-#[tactic(auto, unfolding(crate::specs::Fuse::is_sound))]
-fn is_sound(piece: Piece, m: u32) -> bool
+#[tactic(auto, unfolding(crate::specs::Fuse::is_full))]
+fn is_full(piece: Piece, m: u32) -> bool
     requires { IsValid piece }
-    ensures { result ≡ layout.is_sound m piece }
+    ensures { result ≡ layout.is_full m piece }
 {
     match piece {
         Piece::Old { block, from, to } => {
@@ -39,7 +39,7 @@ fn is_short(run: u64, m: u32) -> bool
 }
 
 #[tactic(auto, using(crate::proofs::Rest::valid_at, crate::proofs::Rest::total_rest))]
-/// The samples from a place on up to the next sound piece.
+/// The samples from a place on up to the next full piece.
 fn front(pieces: &[Piece], at: usize, m: u32) -> u64
     requires valid { AllValid pieces.now }
     requires few { total pieces.now ≤ MAX_CELLS }
@@ -49,7 +49,7 @@ fn front(pieces: &[Piece], at: usize, m: u32) -> u64
 {
     let mut i = at;
     let mut sum = 0;
-    while i < pieces.len() && !is_sound(pieces[i], m) {
+    while i < pieces.len() && !is_full(pieces[i], m) {
         sum += piece_len(pieces[i]);
         i += 1;
     }
@@ -119,10 +119,10 @@ fn ends_run(pieces: &[Piece], i: usize, first: bool, m: u32) -> bool
     requires valid { AllValid pieces.now }
     requires few { total pieces.now ≤ MAX_CELLS }
     requires within { i < length pieces.now }
-    ensures { result ≡ (layout.is_sound m (slice_index_or pieces.now i no_piece) && not first && not
+    ensures { result ≡ (layout.is_full m (slice_index_or pieces.now i no_piece) && not first && not
         (layout.is_short m (layout.front m (drop (i + 1) pieces.now)))) }
 {
-    is_sound(pieces[i], m) && !first && !is_short(front(pieces, i + 1, m), m)
+    is_full(pieces[i], m) && !first && !is_short(front(pieces, i + 1, m), m)
 }
 
 /// The block of a piece that is a whole one.
@@ -136,12 +136,18 @@ fn block_of(piece: Piece) -> BlockRef
     }
 }
 
+/// From one piece up to another.
+#[derive(Clone, Copy)]
+struct Span {
+    start: usize,
+    end: usize,
+}
+
 /// The pieces from one place to another are a run.
 fn lay_between(
     alloc: Global,
     pieces: &[Piece],
-    start: usize,
-    end: usize,
+    span: Span,
     run: u64,
     m: u32,
     out: &mut Vec<Laid>,
@@ -150,9 +156,9 @@ fn lay_between(
     requires valid { AllValid pieces.now }
     requires fit { AllFit m pieces.now }
     requires few { total pieces.now ≤ MAX_CELLS }
-    requires rising { start ≤ end }
-    requires within { end ≤ length pieces.now }
-    requires run { total (drop start pieces.now) ≡ run + total (drop end pieces.now) }
+    requires rising { span.start ≤ span.end }
+    requires within { span.end ≤ length pieces.now }
+    requires run { total (drop span.start pieces.now) ≡ run + total (drop span.end pieces.now) }
     requires made { AllMade m out.old.items }
     ensures made { OnOk result (AllMade m out.new.items) }
     ensures parts { OnOk result (parts out.new.items ≡ parts out.old.items ++ laying.run_parts m run) }
@@ -160,18 +166,18 @@ fn lay_between(
         AllFrom blocks count pieces.now → AllLaidFrom blocks count out.old.items
         → AllLaidFrom blocks count out.new.items) }
     ensures samples { OnOk result ((src : Sources) →
-        all_laid_samples src out.new.items ++ all_samples src (drop end pieces.now) ≡ all_laid_samples src out.old.items
-        ++ all_samples src (drop start pieces.now)) }
+        all_laid_samples src out.new.items ++ all_samples src (drop span.end pieces.now)
+        ≡ all_laid_samples src out.old.items ++ all_samples src (drop span.start pieces.now)) }
 {
-    lay_run(alloc, &pieces[start..end], run, m, out)
+    lay_run(alloc, &pieces[span.start..span.end], run, m, out)
 }
 
 /// Whether a run that begins the clip still stands open after a piece.
 fn is_still_first(first: bool, piece: Piece, m: u32) -> bool
     requires { IsValid piece }
-    ensures { result ≡ (first && not (layout.is_sound m piece)) }
+    ensures { result ≡ (first && not (layout.is_full m piece)) }
 {
-    first && !is_sound(piece, m)
+    first && !is_full(piece, m)
 }
 
 #[tactic(auto, using(crate::proofs::Rest::valid_at, crate::proofs::Rest::total_rest))]
@@ -194,7 +200,7 @@ fn lay_clip(alloc: Global, pieces: &[Piece], m: u32) -> Result<Vec<Laid>, AllocE
     for i in 0..pieces.len() {
         let piece = pieces[i];
         if ends_run(pieces, i, first, m) {
-            lay_between(alloc, pieces, start, i, run, m, &mut out)?;
+            lay_between(alloc, pieces, Span { start, end: i }, run, m, &mut out)?;
             let block = block_of(piece);
             out.push(Laid::Keep { block })?;
             start = i + 1;
@@ -204,7 +210,8 @@ fn lay_clip(alloc: Global, pieces: &[Piece], m: u32) -> Result<Vec<Laid>, AllocE
             first = is_still_first(first, piece, m);
         }
     }
-    lay_between(alloc, pieces, start, pieces.len(), run, m, &mut out)?;
+    let end = pieces.len();
+    lay_between(alloc, pieces, Span { start, end }, run, m, &mut out)?;
     Ok(out)
 }
 

@@ -3,15 +3,12 @@ use Rattle.std.proofs.Common.{◌≡◌, ◌^◌, ◌<◌, ◌∙◌, ℕ, ℤ, 
 use Rattle.std.proofs.Common.{ap, subst, arith}
 use Rattle.std.specs.Prelude.{OnOk, IsOkUnless}
 use Rattle.disk_model.specs.Disk.{Files, bytes_of}
-use Rattle.sample_block.specs.Spelling.{IsBlock, IsSpelled}
-use Rattle.sample_block.specs.Faults.{damage_of, samples_in}
-use Rattle.sample_block.specs.Blocks.{HasBlock}
-use Rattle.sample_block.proofs.Laws.{length_samples}
-use Rattle.sample_block.proofs.Spellings.{spelled_read, spelled_size}
-use Rattle.sample_block.proofs.BlockLaws.{blocks_have, blocks_of_has}
-use Rattle.block_store.specs.declared.fault.BlockFault.{BlockFault}
+use Rattle.sample_block.specs.{Spelling.IsBlock, Spelling.IsSpelled, Faults.damage_of, Faults.samples_in}
+use Rattle.sample_block.specs.{Blocks.HasBlock}
+use Rattle.sample_block.proofs.{Laws.length_samples, Spellings.spelled_read, Spellings.spelled_size}
+use Rattle.sample_block.proofs.{BlockLaws.blocks_have, BlockLaws.blocks_of_has}
+use Rattle.block_store.specs.{declared.fault.BlockFault.BlockFault, Checks.Checks, Checks.IsWhole}
 use Rattle.block_store.specs.declared.fault.BlockFault.TheVariants as fault
-use Rattle.block_store.specs.Checks.{Checks, IsWhole}
 
 there : (file : Option (List ℕ)) → 0 < length (bytes_of file) → file ≡ Some (bytes_of file)
 there None some = absurd (omega (arith, some))
@@ -29,8 +26,8 @@ whole_spelled files id len xs block size spelled =
     } in
     (xs, blocks_of_has files id xs has, size)
 
-pub whole_sound : (files : Files) (id len : ℕ) → IsWhole files id len → damage_of id len (bytes_of (files id)) ≡ None
-whole_sound files id len whole =
+pub whole_valid : (files : Files) (id len : ℕ) → IsWhole files id len → damage_of id len (bytes_of (files id)) ≡ None
+whole_valid files id len whole =
     let has = blocks_have files id whole.0 whole.1 in
     let low : id < 2 ^ 64 = omega (arith, has.block.id_high) in
     let few : length whole.0 < 2 ^ 32 = omega (arith, has.block.few) in
@@ -44,9 +41,9 @@ whole_result (Ok x) files id len block spelled = whole_spelled files id len
     (samples_in (bytes_of (files id)) 16 len) block (length_samples (bytes_of (files id)) 16 len) spelled
 whole_result (Err why) files id len block spelled = tt
 
-pub sound_check : {T : Type 0} (r : Result T BlockFault) (files : Files) (id len : ℕ) → IsWhole files id len
+pub valid_check : {T : Type 0} (r : Result T BlockFault) (files : Files) (id len : ℕ) → IsWhole files id len
     → Checks id (damage_of id len (bytes_of (files id))) r → IsOkUnless r fault.DiskFault
-sound_check (Ok x) files id len whole checked = tt
-sound_check (Err fault.DiskFault) files id len whole checked = refl
-sound_check (Err (fault.Damaged file found)) files id len whole checked =
-    absurd (let clash = sym (whole_sound files id len whole) ∙ checked.1 in cc)
+valid_check (Ok x) files id len whole checked = tt
+valid_check (Err fault.DiskFault) files id len whole checked = refl
+valid_check (Err (fault.Damaged file found)) files id len whole checked =
+    absurd (let clash = sym (whole_valid files id len whole) ∙ checked.1 in cc)

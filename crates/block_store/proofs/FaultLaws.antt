@@ -3,15 +3,13 @@ use Rattle.std.proofs.Common.{◌≡◌, ℕ, ◌+◌, ◌*◌, take, drop, ◌^
 use Rattle.std.proofs.Common.{sym, ap, ◌∙◌, arith, ⊎_elim, inl, inr, zero, suc, Result, Ok, Err}
 use Rattle.std.specs.Prelude.{IfErr, IsOkUnless, OnOk}
 use Rattle.disk_model.specs.Disk.{Files, bytes_of}
-use Rattle.sample_block.specs.Spelling.{header_fields, size_of}
-use Rattle.sample_block.specs.Faults.{difference, samples_in}
-use Rattle.sample_block.specs.Blocks.{blocks}
+use Rattle.sample_block.specs.{Spelling.header_fields, Spelling.size_of, Faults.difference, Faults.samples_in}
+use Rattle.sample_block.specs.{Blocks.blocks}
 use Rattle.sample_block.proofs.Spellings.{spelled_read, spelled_header, spelled_size}
-use Rattle.sample_block.proofs.Laws.{samples_stretch}
-use Rattle.sample_block.proofs.BlockLaws.{blocks_have}
+use Rattle.sample_block.proofs.{Laws.samples_stretch, BlockLaws.blocks_have}
 use Rattle.block_store.specs.declared.fault.BlockFault.{BlockFault}
-use Rattle.block_store.specs.declared.fault.BlockFault.TheVariants as fault
 use Rattle.block_store.specs.Reads.{HasHeader, IsEarly, IsReadFault, end_of}
+use Rattle.block_store.specs.declared.fault.BlockFault.TheVariants as fault
 
 -- the samples of a block are those in its file
 pub block_samples : (files : Files) (id len : ℕ) (xs : List ℤ) → blocks files id ≡ Some xs → length xs ≡ len
@@ -22,12 +20,6 @@ block_samples files id len xs e size =
     let few : length xs < 2 ^ 32 = omega (arith, has.block.few) in
     ap (λ (o : Option (List ℕ)). samples_in (bytes_of o) 16 len) has.file ∙ ap (samples_in has.bytes 16) (sym size)
     ∙ (spelled_read id xs has.bytes low few has.spelled).1
-
--- a fault before a place is one before a later place
-pub early_on : (id len before end : ℕ) (bytes : List ℕ) (why : BlockFault) → before ≤ end
-    → IsEarly id len before bytes why → IsEarly id len end bytes why
-early_on id len before end bytes fault.DiskFault le early = tt
-early_on id len before end bytes (fault.Damaged file found) le early = (early.0, (early.1.0, omega (arith, early.1.1)))
 
 pub fault_on : (id len before end : ℕ) (bytes : List ℕ) (why : BlockFault) → before ≤ end
     → IsReadFault id len before bytes why → IsReadFault id len end bytes why
@@ -47,24 +39,15 @@ pub early_result : {T : Type 0} (r : Result T BlockFault) (id len end : ℕ) (by
 early_result (Ok x) id len end bytes has early = tt
 early_result (Err why) id len end bytes has early = early_fault id len end bytes why has.1 early
 
--- a read of some items ends after the last of them
-pub end_some : (n place : ℕ) → 0 < n → end_of n place ≡ place
-end_some zero place some = absurd (omega (arith, some))
-end_some (suc n) place some = refl
-
-pub end_least : (n place : ℕ) → 16 ≤ place → 16 ≤ end_of n place
-end_least zero place le = omega arith
-end_least (suc n) place le = le
-
 pub end_most : (n place most : ℕ) → 16 ≤ most → place ≤ most → end_of n place ≤ most
 end_most zero place most front le = front
 end_most (suc n) place most front le = le
 
 -- a block has no fault
-pub block_sound : (files : Files) (id len end : ℕ) (xs : List ℤ) (why : BlockFault) → blocks files id ≡ Some xs
+pub block_valid : (files : Files) (id len end : ℕ) (xs : List ℤ) (why : BlockFault) → blocks files id ≡ Some xs
     → length xs ≡ len → end ≤ size_of len
     → IsReadFault id len end (bytes_of (files id)) why → why ≡ fault.DiskFault
-block_sound files id len end xs (fault.Damaged file found) e size le is =
+block_valid files id len end xs (fault.Damaged file found) e size le is =
     let has = blocks_have files id xs e in
     let low : id < 2 ^ 64 = omega (arith, has.block.id_high) in
     let few : length xs < 2 ^ 32 = omega (arith, has.block.few) in
@@ -77,13 +60,13 @@ block_sound files id len end xs (fault.Damaged file found) e size le is =
     ap length bytes ∙ spelled_size id xs has.bytes has.spelled ∙ ap size_of size in
     ⊎_elim (λ some. absurd (let clash = sym none ∙ some.1 in cc))
     (λ early. absurd (omega (arith, early.0.1, le, long))) is.1
-block_sound files id len end xs fault.DiskFault e size le is = refl
+block_valid files id len end xs fault.DiskFault e size le is = refl
 
-pub sound_result : {T : Type 0} (r : Result T BlockFault) (files : Files) (id len end : ℕ) (xs : List ℤ)
+pub valid_result : {T : Type 0} (r : Result T BlockFault) (files : Files) (id len end : ℕ) (xs : List ℤ)
     → blocks files id ≡ Some xs → length xs ≡ len → end ≤ size_of len
     → IfErr r (λ e. IsReadFault id len end (bytes_of (files id)) e) → IsOkUnless r fault.DiskFault
-sound_result (Ok x) files id len end xs e size le is = tt
-sound_result (Err why) files id len end xs e size le is = block_sound files id len end xs why e size le is
+valid_result (Ok x) files id len end xs e size le is = tt
+valid_result (Err why) files id len end xs e size le is = block_valid files id len end xs why e size le is
 
 pub read_result : {T : Type 0} (r : Result T BlockFault) (files : Files) (id len from n : ℕ) (xs out : List ℤ)
     → blocks files id ≡ Some xs → length xs ≡ len

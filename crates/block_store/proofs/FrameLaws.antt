@@ -1,23 +1,17 @@
 -- The frames of a block of the disk are the summaries of its stretches.
 use Rattle.std.proofs.Common.{◌≡◌, ℕ, zero, suc, ◌∷◌, ◌++◌, ◌+◌, ◌*◌, ◌^◌, ◌<◌, ◌≤◌, ℤ, List, length, length-drop, take}
 use Rattle.std.proofs.Common.{drop, map, Option, Some, None, sym, refl, ap, ◌∙◌, arith, subst, Result, Ok, Err}
-use Rattle.std.specs.Prelude.{OnOk}
-use Rattle.std.specs.List.{range_with_len}
 use Rattle.std.proofs.lemmas.List.{same_lists, get_or-take, get_or-drop, length-take}
 use Rattle.std.proofs.lemmas.List.FromFn.{get_or-map-range_with_len, length-map-range_with_len}
+use Rattle.std.specs.{Prelude.OnOk, List.range_with_len}
 use Rattle.disk_model.specs.Disk.{Files, bytes_of}
-use Rattle.peak_summary.specs.declared.stretch.Summary.{Summary}
-use Rattle.peak_summary.specs.Peaks.{frame_count, frame_of, frames_of}
+use Rattle.peak_summary.specs.{declared.stretch.Summary.Summary, Peaks.frame_count, Peaks.frame_of, Peaks.frames_of}
 use Rattle.sample_block.specs.Spelling.{IsSpelled, level_fields, size_of}
-use Rattle.sample_block.specs.Faults.{difference, frame_in}
-use Rattle.sample_block.specs.Blocks.{blocks}
-use Rattle.sample_block.proofs.Laws.{frame_part}
-use Rattle.sample_block.proofs.Spellings.{spelled_short, frame_read}
-use Rattle.sample_block.proofs.BlockLaws.{blocks_have}
-use Rattle.block_store.specs.declared.fault.BlockFault.{BlockFault}
-use Rattle.block_store.specs.declared.frames.Level.{Level}
+use Rattle.sample_block.specs.{Faults.difference, Faults.frame_in, Blocks.blocks}
+use Rattle.sample_block.proofs.{Laws.frame_part, Spellings.spelled_short, Spellings.frame_read, BlockLaws.blocks_have}
 use Rattle.block_store.specs.declared.frames.Level.TheVariants.{Short, Long}
 use Rattle.block_store.specs.Reads.{frame_len, frame_samples, level_place, stored_frame, stored_frames}
+use Rattle.block_store.specs.{declared.fault.BlockFault.BlockFault, declared.frames.Level.Level}
 
 level_none : (level : Level) (id : ℕ) (xs : List ℤ) (bytes : List ℕ) → id < 2 ^ 64 → length xs < 2 ^ 32
     → IsSpelled id xs bytes

@@ -1,15 +1,12 @@
 -- Stretches of the samples of a block of the disk, and parts of lists, for the layers above.
 use Rattle.std.proofs.Common.{◌≡◌, ℕ, ◌+◌, ◌-◌, ◌≤◌, ℤ, pos, List, [], ◌++◌, length, get_or, take, drop, min, Option}
-use Rattle.std.proofs.Common.{Some}
-use Rattle.std.proofs.Common.{sym, ap, ◌∙◌, arith, length-drop}
-use Rattle.std.specs.Prelude.{unwrap_or}
+use Rattle.std.proofs.Common.{Some, sym, ap, ◌∙◌, arith, length-drop}
 use Rattle.std.proofs.lemmas.List.{length-take, take-append-drop, take-take, drop-drop, drop-take}
+use Rattle.std.specs.Prelude.{unwrap_or}
 use Rattle.disk_model.specs.Disk.{Files}
-use Rattle.pcm_base.specs.Edits.{part}
-use Rattle.pcm_base.specs.Pieces.{stretch}
+use Rattle.pcm_base.specs.{Edits.part, Pieces.stretch}
 use Rattle.pcm_base.proofs.Pieces.{part-stretch, stretch_list}
-use Rattle.sample_block.specs.Blocks.{blocks}
-use Rattle.sample_block.specs.Sources.{samples_on}
+use Rattle.sample_block.specs.{Blocks.blocks, Sources.samples_on}
 
 -- a stretch of the items of a list
 pub stretch_part : (xs : List ℤ) (from n : ℕ) → from + n ≤ length xs

@@ -1,8 +1,7 @@
 -- What a check of a block's file answers.
 use Rattle.std.specs.Prelude.{◌≡◌, ℕ, ℤ, List, length, Option, Some, None, Result, Ok, Err}
 use Rattle.disk_model.specs.Disk.{Files}
-use Rattle.sample_block.specs.Blocks.{blocks}
-use Rattle.sample_block.specs.declared.damage.Damaged.{Damaged}
+use Rattle.sample_block.specs.{Blocks.blocks, declared.damage.Damaged.Damaged}
 use Rattle.block_store.specs.declared.fault.BlockFault.{BlockFault}
 use Rattle.block_store.specs.declared.fault.BlockFault.TheVariants as fault
 

@@ -2,19 +2,14 @@
 use Rattle.std.specs.Prelude.{◌≡◌, ◌<◌, ◌≤◌, ◌⊎◌, ℕ, zero, suc, ◌+◌, ◌*◌, ◌-◌, min, map, List, length, Contains, Option}
 use Rattle.std.specs.Prelude.{Some, None, Result, MatchResult}
 use Rattle.std.specs.List.{range_with_len}
-use Rattle.sample_block.specs.declared.levels.TheConstants.{LONG_FRAME}
+use Rattle.sample_block.specs.{declared.levels.TheConstants.LONG_FRAME, Spelling.header_fields, Spelling.size_of}
+use Rattle.sample_block.specs.{Faults.difference, Faults.frame_in, declared.damage.Damaged.Damaged}
 use Rattle.disk_model.specs.Disk.{Files, bytes_of}
-use Rattle.pcm_base.specs.declared.block.BlockRef.{BlockRef}
-use Rattle.pcm_base.specs.Causes.{Rose}
-use Rattle.peak_summary.specs.declared.stretch.Summary.{Summary}
-use Rattle.peak_summary.specs.Peaks.{frame_count}
-use Rattle.sample_block.specs.Spelling.{header_fields, size_of}
-use Rattle.sample_block.specs.Faults.{difference, frame_in}
-use Rattle.sample_block.specs.declared.damage.Damaged.{Damaged}
-use Rattle.block_store.specs.declared.fault.BlockFault.{BlockFault}
-use Rattle.block_store.specs.declared.fault.BlockFault.TheVariants as fault
-use Rattle.block_store.specs.declared.frames.Level.{Level}
+use Rattle.pcm_base.specs.{declared.block.BlockRef.BlockRef, Causes.Rose}
+use Rattle.peak_summary.specs.{declared.stretch.Summary.Summary, Peaks.frame_count}
 use Rattle.block_store.specs.declared.frames.Level.TheVariants.{Short, Long}
+use Rattle.block_store.specs.{declared.fault.BlockFault.BlockFault, declared.frames.Level.Level}
+use Rattle.block_store.specs.declared.fault.BlockFault.TheVariants as fault
 
 -- the count of failed reads rises where the disk failed, and stays elsewhere
 abbrev pub CountedBy : BlockFault → ℕ → ℕ → Type 0

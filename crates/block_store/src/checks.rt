@@ -124,7 +124,7 @@ pub fn check_block<S: Store>(
     requires room { size_of block.len ≤ vec_capacity buffer.old }
     // Ok is for a block of the disk, of this many samples, and for such a block nothing but the disk refuses.
     ensures whole { IsTrue (S.tells store.old) → OnOk result (IsWhole (S.reads store.old) block.id block.len) }
-    ensures sound { IsTrue (S.tells store.old) → IsWhole (S.reads store.old) block.id block.len
+    ensures valid { IsTrue (S.tells store.old) → IsWhole (S.reads store.old) block.id block.len
         → IsOkUnless result fault.DiskFault }
     // A fault is the first field that differs.
     ensures checked { IsTrue (S.tells store.old)

@@ -25,7 +25,7 @@ pub fn compare_once<S: Store>(
     ensures last { OnOk result (last.new ≡ Some block) }
     ensures header { IsTrue (S.tells store.old)
         → OnOk result (HasHeader block.id block.len (bytes_of (S.reads store.old block.id))) }
-    ensures sound { (xs : List ℤ) → IsTrue (S.tells store.old) → blocks (S.reads store.old) block.id ≡ Some xs
+    ensures valid { (xs : List ℤ) → IsTrue (S.tells store.old) → blocks (S.reads store.old) block.id ≡ Some xs
         → length xs ≡ block.len
         → IsOkUnless result fault.DiskFault }
     ensures damaged { IsTrue (S.tells store.old)

@@ -21,7 +21,7 @@ use peak_summary::Summary;
 use sample_block::{LONG_FRAME, frame_at};
 
 /// How many frames are read at a time.
-const PIECE: usize = 256;
+const BUFFER_LEN: usize = 256;
 
 /// One of the two levels of a block's frames.
 #[derive(Clone, Copy, Debug, PartialEq, Eq)]
@@ -79,7 +79,7 @@ fn take_frames(bytes: &[u8], level: Level, len: usize, from: usize, out: &mut [S
 }
 
 /// Reads frames whose bytes fit the buffer.
-fn read_piece<S: Store>(
+fn read_buffer<S: Store>(
     store: &mut S,
     block: BlockRef,
     level: Level,
@@ -115,7 +115,7 @@ fn read_piece<S: Store>(
 }
 
 /// Reads the frames, a buffer at a time.
-fn read_pieces<S: Store>(
+fn read_buffers<S: Store>(
     store: &mut S,
     block: BlockRef,
     level: Level,
@@ -135,12 +135,12 @@ fn read_pieces<S: Store>(
     ensures kept { Kept S.Store store.old store.new }
     ensures faults { Counted result (S.read_fault_count store.old) (S.read_fault_count store.new) }
 {
-    let mut buf = [0u8; 12 * PIECE];
+    let mut buf = [0u8; 12 * BUFFER_LEN];
     let mut done = 0;
-    'pieces: while done < out.len() {
-        let next = done + PIECE.min(out.len() - done);
+    'buffers: while done < out.len() {
+        let next = done + BUFFER_LEN.min(out.len() - done);
         let part = &mut out[done..next];
-        if let Err(fault) = read_piece(store, block, level, from + done, &mut buf, part) {
+        if let Err(fault) = read_buffer(store, block, level, from + done, &mut buf, part) {
             return Err(fault);
         }
         done = next;
@@ -164,7 +164,7 @@ pub fn read_compared_frames<S: Store>(
     ensures read { (xs : List ℤ) → IsTrue (S.tells store.old) → blocks (S.reads store.old) block.id ≡ Some xs
         → length xs ≡ block.len
         → OnOk result (out.new ≡ take (length out.old) (drop from (frames_of (frame_len level) xs))) }
-    ensures sound { (xs : List ℤ) → IsTrue (S.tells store.old) → blocks (S.reads store.old) block.id ≡ Some xs
+    ensures valid { (xs : List ℤ) → IsTrue (S.tells store.old) → blocks (S.reads store.old) block.id ≡ Some xs
         → length xs ≡ block.len
         → IsOkUnless result fault.DiskFault }
     ensures frames { IsTrue (S.tells store.old)
@@ -179,7 +179,7 @@ pub fn read_compared_frames<S: Store>(
     ensures kept { Kept S.Store store.old store.new }
     ensures faults { Counted result (S.read_fault_count store.old) (S.read_fault_count store.new) }
 {
-    read_pieces(store, block, level, from as usize, out)
+    read_buffers(store, block, level, from as usize, out)
 }
 
 /// Reads the frames of a level of a block from number `from` on, as many as `out` holds; all of them are frames of the
@@ -199,7 +199,7 @@ pub fn read_frames<S: Store>(
     ensures read { (xs : List ℤ) → IsTrue (S.tells store.old) → blocks (S.reads store.old) block.id ≡ Some xs
         → length xs ≡ block.len
         → OnOk result (out.new ≡ take (length out.old) (drop from (frames_of (frame_len level) xs))) }
-    ensures sound { (xs : List ℤ) → IsTrue (S.tells store.old) → blocks (S.reads store.old) block.id ≡ Some xs
+    ensures valid { (xs : List ℤ) → IsTrue (S.tells store.old) → blocks (S.reads store.old) block.id ≡ Some xs
         → length xs ≡ block.len
         → IsOkUnless result fault.DiskFault }
     // Of any file they are what stands there.

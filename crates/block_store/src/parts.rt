@@ -119,7 +119,7 @@ pub fn compare_header<S: Store>(store: &mut S, block: BlockRef) -> Result<(), Bl
     // Ok comes for the header of this block alone, and of a block of the disk nothing but the disk refuses.
     ensures header { IsTrue (S.tells store.old)
         → OnOk result (HasHeader block.id block.len (bytes_of (S.reads store.old block.id))) }
-    ensures sound { (xs : List ℤ) → IsTrue (S.tells store.old) → blocks (S.reads store.old) block.id ≡ Some xs
+    ensures valid { (xs : List ℤ) → IsTrue (S.tells store.old) → blocks (S.reads store.old) block.id ≡ Some xs
         → length xs ≡ block.len
         → IsOkUnless result fault.DiskFault }
     // A fault is a header of another block, or else that the file ends before it.

@@ -17,13 +17,16 @@ use disk_model::Store;
 use pcm_base::BlockRef;
 
 /// How many samples are read at a time.
-const PIECE: usize = 4096;
+const BUFFER_LEN: usize = 4096;
 
 /// How many samples are few.
 const FEW: usize = 256;
 
+/// How many samples are many: so many are read at a time where at least as many are asked.
+const MANY: usize = 16_384;
+
 /// Reads samples whose bytes fit the buffer.
-fn read_piece<S: Store>(
+fn read_buffer<S: Store>(
     store: &mut S,
     block: BlockRef,
     from: usize,
@@ -52,8 +55,41 @@ fn read_piece<S: Store>(
     Ok(())
 }
 
-/// Reads the samples, a buffer at a time.
-fn read_pieces<S: Store>(
+/// Reads samples, as many at a time as the buffer has room for.
+fn read_buffers<S: Store>(
+    store: &mut S,
+    block: BlockRef,
+    from: usize,
+    buf: &mut [u8],
+    out: &mut [i16],
+) -> Result<(), BlockFault>
+    requires len { block.len ≤ MAX_BLOCK_SAMPLES }
+    requires within { from + length out.old ≤ block.len }
+    requires some { 2 ≤ length buf.old }
+    ensures whole { IsTrue (S.tells store.old) → OnOk result (0 < length out.old
+        → 16 + 2 * (from + length out.old) ≤ length (bytes_of (S.reads store.old block.id))) }
+    ensures samples { IsTrue (S.tells store.old)
+        → OnOk result (out.new ≡ samples_in (bytes_of (S.reads store.old block.id)) (16 + 2 * from) (length out.old)) }
+    ensures damaged { IsTrue (S.tells store.old)
+        → IfErr result (λ e. IsEarly block.id block.len (end_of (length out.old) (16 + 2 * (from + length out.old)))
+        (bytes_of (S.reads store.old block.id)) e) }
+    ensures kept { Kept S.Store store.old store.new }
+    ensures faults { Counted result (S.read_fault_count store.old) (S.read_fault_count store.new) }
+{
+    let most = buf.len() / 2;
+    let mut done = 0;
+    'buffers: while done < out.len() {
+        let next = done + most.min(out.len() - done);
+        if let Err(fault) = read_buffer(store, block, from + done, buf, &mut out[done..next]) {
+            return Err(fault);
+        }
+        done = next;
+    }
+    Ok(())
+}
+
+/// Reads samples by a buffer for those of a page.
+fn read_some<S: Store>(
     store: &mut S,
     block: BlockRef,
     from: usize,
@@ -71,16 +107,31 @@ fn read_pieces<S: Store>(
     ensures kept { Kept S.Store store.old store.new }
     ensures faults { Counted result (S.read_fault_count store.old) (S.read_fault_count store.new) }
 {
-    let mut buf = [0u8; 2 * PIECE];
-    let mut done = 0;
-    'pieces: while done < out.len() {
-        let next = done + PIECE.min(out.len() - done);
-        if let Err(fault) = read_piece(store, block, from + done, &mut buf, &mut out[done..next]) {
-            return Err(fault);
-        }
-        done = next;
-    }
-    Ok(())
+    let mut buf = [0u8; 2 * BUFFER_LEN];
+    read_buffers(store, block, from, &mut buf, out)
+}
+
+/// Reads so many samples that a large buffer is worth its making: the store is called less often.
+fn read_many<S: Store>(
+    store: &mut S,
+    block: BlockRef,
+    from: usize,
+    out: &mut [i16],
+) -> Result<(), BlockFault>
+    requires len { block.len ≤ MAX_BLOCK_SAMPLES }
+    requires within { from + length out.old ≤ block.len }
+    ensures whole { IsTrue (S.tells store.old) → OnOk result (0 < length out.old
+        → 16 + 2 * (from + length out.old) ≤ length (bytes_of (S.reads store.old block.id))) }
+    ensures samples { IsTrue (S.tells store.old)
+        → OnOk result (out.new ≡ samples_in (bytes_of (S.reads store.old block.id)) (16 + 2 * from) (length out.old)) }
+    ensures damaged { IsTrue (S.tells store.old)
+        → IfErr result (λ e. IsEarly block.id block.len (end_of (length out.old) (16 + 2 * (from + length out.old)))
+        (bytes_of (S.reads store.old block.id)) e) }
+    ensures kept { Kept S.Store store.old store.new }
+    ensures faults { Counted result (S.read_fault_count store.old) (S.read_fault_count store.new) }
+{
+    let mut buf = [0u8; 2 * MANY];
+    read_buffers(store, block, from, &mut buf, out)
 }
 
 /// Reads so few samples that a small buffer has room for them: it is made sooner than one of a page.
@@ -105,7 +156,7 @@ fn read_few<S: Store>(
     ensures faults { Counted result (S.read_fault_count store.old) (S.read_fault_count store.new) }
 {
     let mut buf = [0u8; 2 * FEW];
-    read_piece(store, block, from, &mut buf, out)
+    read_buffer(store, block, from, &mut buf, out)
 }
 
 /// Reads samples as `read_samples` does, of a block whose header was compared: it is not read again.
@@ -123,7 +174,7 @@ pub fn read_compared_samples<S: Store>(
     ensures read { (xs : List ℤ) → IsTrue (S.tells store.old) → blocks (S.reads store.old) block.id ≡ Some xs
         → length xs ≡ block.len
         → OnOk result (out.new ≡ take (length out.old) (drop from xs)) }
-    ensures sound { (xs : List ℤ) → IsTrue (S.tells store.old) → blocks (S.reads store.old) block.id ≡ Some xs
+    ensures valid { (xs : List ℤ) → IsTrue (S.tells store.old) → blocks (S.reads store.old) block.id ≡ Some xs
         → length xs ≡ block.len
         → IsOkUnless result fault.DiskFault }
     ensures samples { IsTrue (S.tells store.old)
@@ -140,7 +191,10 @@ pub fn read_compared_samples<S: Store>(
     if !out.is_empty() && out.len() <= FEW {
         return read_few(store, block, from as usize, out);
     }
-    read_pieces(store, block, from as usize, out)
+    if out.len() < MANY {
+        return read_some(store, block, from as usize, out);
+    }
+    read_many(store, block, from as usize, out)
 }
 
 /// Reads the samples of a block from number `from` on, as many as `out` holds; all of them are samples of the block. It
@@ -158,7 +212,7 @@ pub fn read_samples<S: Store>(
     ensures read { (xs : List ℤ) → IsTrue (S.tells store.old) → blocks (S.reads store.old) block.id ≡ Some xs
         → length xs ≡ block.len
         → OnOk result (out.new ≡ take (length out.old) (drop from xs)) }
-    ensures sound { (xs : List ℤ) → IsTrue (S.tells store.old) → blocks (S.reads store.old) block.id ≡ Some xs
+    ensures valid { (xs : List ℤ) → IsTrue (S.tells store.old) → blocks (S.reads store.old) block.id ≡ Some xs
         → length xs ≡ block.len
         → IsOkUnless result fault.DiskFault }
     // Of any file they are what stands there.

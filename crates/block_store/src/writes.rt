@@ -144,24 +144,3 @@ pub fn remove_block<S: Store>(store: &mut S, id: u64) -> Result<(), BlockFault>
         Err(_) => Err(BlockFault::DiskFault),
     }
 }
-
-/// Removes the file of a block, which may be absent, and waits until it is gone. The id is from 16 to below 2^62. After
-/// an error the file is there as it was, or not.
-pub fn drop_block<S: Store>(store: &mut S, id: u64) -> Result<(), BlockFault>
-    requires low { FIRST_BLOCK ≤ id }
-    requires high { id < COUNTER_LIMIT }
-    ensures gone { IsTrue (S.tells store.old) → OnOk result (S.reads store.new id ≡ None) }
-    // In every image from then on it is absent.
-    ensures durable { IsTrue (S.tells store.old) → OnOk result ((c : Files)
-        → S.may_leave store.new (S.clock store.new) c → c id ≡ None) }
-    // A stop at any moment of the call leaves what it could leave before, or that without this file, and after an error
-    // it is as it was or absent. No room is asked but for the calls.
-    ensures changed { Changed S.Store (RemoveStep id) (record { files = 0; bytes = 0; calls = 2 }) store.old store.new }
-    ensures fault { IsOkUnless result DiskFault }
-    ensures faults { HasCause (S.change_fault_count store.old) (S.change_fault_count store.new) result }
-    ensures read_faults { S.read_fault_count store.new ≡ S.read_fault_count store.old }
-{
-    remove_block(store, id)?;
-    sync_block(store, id)?;
-    Ok(())
-}

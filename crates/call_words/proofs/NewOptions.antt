@@ -1,17 +1,12 @@
 -- The options of a new project as rules of clap, and rows that tell them.
 use Rattle.std.proofs.Common.{◌≡◌, true, false, refl, ap, List, [], ◌∷◌, Option, Some, None, codes, true≢false, is_some}
-use Rattle.std.specs.Option.{option_map}
-use Rattle.std.specs.List.{find}
-use Rattle.std.specs.Str.{bytes_eq}
+use Rattle.std.specs.{Option.option_map, List.find, Str.bytes_eq}
 use Rattle.clap.specs.Walk.{Held, Row, Rule, Waiting, Walk, reading_by}
-use Rattle.clap.specs.Kinds.{Kinds, or_else}
-use Rattle.clap.specs.Simple.{Shape, built}
-use Rattle.clap.specs.Faults.{is_simple_and_free}
-use Rattle.clap.specs.declared.parser.matches.ValueSource.TheVariants.{CommandLine}
-use Rattle.clap.specs.declared.error.kind.ErrorKind.{ErrorKind}
-use Rattle.call_words.specs.Command.{new_command, own}
-use Rattle.call_words.specs.Texts.{Text}
+use Rattle.clap.specs.{Kinds.Kinds, Kinds.or_else, Simple.Shape, Simple.built, Faults.is_simple_and_free}
+use Rattle.clap.specs.{declared.parser.matches.ValueSource.TheVariants.CommandLine}
+use Rattle.clap.specs.{declared.error.kind.ErrorKind.ErrorKind}
 use Rattle.call_words.specs.Options.{Key, Rate, Block, Depth, Given}
+use Rattle.call_words.specs.{Command.new_command, Command.own, Texts.Text}
 
 abbrev pub shape : Shape
 shape = (built new_command).top

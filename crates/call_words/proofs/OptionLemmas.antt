@@ -1,23 +1,18 @@
 -- What clap makes of the options of a new project, beside the grammar.
 use Rattle.std.proofs.Common.{◌≡◌, ◌∙◌, Bool, cond, true, false, refl, sym, ap, ap₂, subst, List, [], ◌∷◌, Option, Some}
 use Rattle.std.proofs.Common.{None, codes, true≢false, inl, inr, is_some, fold, ◌||◌}
-use Rattle.std.specs.Option.{option_map}
-use Rattle.std.specs.Prelude.{option_and_then, slice_get, drop}
-use Rattle.std.specs.List.{list_any}
+use Rattle.std.specs.{Option.option_map, Prelude.option_and_then, Prelude.slice_get, Prelude.drop, List.list_any}
 use Rattle.clap.specs.Walk.{Held, Row, Rule, Walk, idle, has_row, walked, settled, finished, first_of, nothing_held}
 use Rattle.clap.specs.Walk.{with_default}
-use Rattle.clap.specs.Kinds.{HasKind, IsAmong, Kinds, or_else}
-use Rattle.clap.specs.Values.{kind_of}
-use Rattle.clap.specs.declared.error.Error.{Error}
-use Rattle.clap.specs.Simple.{App, built, entered, matches_of}
 use Rattle.clap.specs.Faults.{settle_fault, walk_fault, fault_of, defaults_fault, entered_fault, check_fault}
-use Rattle.clap.specs.declared.error.kind.ErrorKind.TheVariants as kind
-use Rattle.call_words.specs.Command.{new_command}
-use Rattle.call_words.specs.Texts.{Text, is_odd}
+use Rattle.clap.specs.{Kinds.HasKind, Kinds.IsAmong, Kinds.Kinds, Kinds.or_else, Values.kind_of}
+use Rattle.clap.specs.{declared.error.Error.Error, Simple.App, Simple.built, Simple.entered, Simple.matches_of}
 use Rattle.call_words.specs.Options.{Key, Rate, Block, Depth, Given, none_given, options_of, options_read}
+use Rattle.call_words.specs.{Command.new_command, Texts.Text, Texts.is_odd}
 use Rattle.call_words.proofs.NewOptions.{shape, rules, at, Faulty, faulty_first, name_of, rule_of, row_of, given_at}
 use Rattle.call_words.proofs.NewOptions.{Tells}
 use Rattle.call_words.proofs.WalkLemmas.{Result, rest_odd, run, Bad, Late, Done}
+use Rattle.clap.specs.declared.error.kind.ErrorKind.TheVariants as kind
 
 or_true : (b : Bool) → (b || true) ≡ true
 or_true true = refl

@@ -1,16 +1,13 @@
 -- A value of an option becomes a row, where none was given before.
 use Rattle.std.proofs.Common.{◌≡◌, ◌∙◌, Bool, cond, true, false, refl, sym, ap, List, [], ◌∷◌, ◌++◌, Option, Some, None}
 use Rattle.std.proofs.Common.{codes, true≢false, ◌||◌}
-use Rattle.std.specs.Option.{option_map}
-use Rattle.std.specs.List.{find, list_any}
-use Rattle.std.specs.Str.{bytes_eq}
+use Rattle.std.specs.{Option.option_map, List.find, List.list_any, Str.bytes_eq}
 use Rattle.clap.specs.Walk.{Row, at_row, has_row, more_values, used}
-use Rattle.clap.specs.Faults.{use_fault}
-use Rattle.clap.specs.declared.parser.matches.ValueSource.TheVariants.{CommandLine}
-use Rattle.clap.specs.declared.error.kind.ErrorKind.TheVariants as kind
+use Rattle.clap.specs.{Faults.use_fault, declared.parser.matches.ValueSource.TheVariants.CommandLine}
 use Rattle.call_words.specs.Texts.{Text}
 use Rattle.call_words.specs.Options.{Key, Rate, Block, Depth, Given, put}
 use Rattle.call_words.proofs.NewOptions.{some≢none, Faulty, name_of, rule_of, row_of, given_at, Tells}
+use Rattle.clap.specs.declared.error.kind.ErrorKind.TheVariants as kind
 
 none_any : {X : Type 0} (p : X → Bool) (xs : List X) → find p xs ≡ None → list_any p xs ≡ false
 none_any p [] e = refl
@@ -96,11 +93,6 @@ row_there : (rows : List Row) (key : Key) (g : Given) (v : Text) → Tells rows 
     → has_row (name_of key) rows ≡ true
 row_there rows key g v tells e =
     some_any (λ r. bytes_eq r.id (name_of key)) rows (row_of key v) (tells key ∙ ap (option_map (row_of key)) e)
-
-same_key : (key : Key) (v : Text) → bytes_eq (row_of key v).id (name_of key) ≡ true
-same_key Rate v = refl
-same_key Block v = refl
-same_key Depth v = refl
 
 tells_rate : (rows : List Row) (v : Text) (g : Given) → Tells rows g → has_row (codes "rate") rows ≡ false
     → Tells (rows ++ row_of Rate v ∷ []) (record g { rate = Some v })

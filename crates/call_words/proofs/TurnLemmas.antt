@@ -5,11 +5,11 @@ use Rattle.std.specs.Str.{bytes_eq}
 use Rattle.clap.specs.Walk.{Held, idle, option, arg_by_long, walked, reacted, settled}
 use Rattle.clap.specs.Lexer.{long_of, short_of}
 use Rattle.clap.specs.Faults.{settle_fault, react_fault, turn_fault, long_fault}
-use Rattle.clap.specs.declared.error.kind.ErrorKind.TheVariants as kind
 use Rattle.call_words.specs.Texts.{Text, begins_with_hyphen, is_odd, option_in}
 use Rattle.call_words.specs.Options.{Key, Rate, Block, Depth, key_of}
 use Rattle.call_words.proofs.NewOptions.{shape, rules, at, or_else_none, some≢none, Faulty, faulty_first, name_of}
 use Rattle.call_words.proofs.NewOptions.{rule_of}
+use Rattle.clap.specs.declared.error.kind.ErrorKind.TheVariants as kind
 
 -- the option that a name names
 pub data Names (n : Text) : Option Key → Type 0 where

@@ -1,12 +1,10 @@
 -- What clap's walk over all words comes to, beside the grammar.
 use Rattle.std.proofs.Common.{◌≡◌, ◌∙◌, Bool, true, false, refl, sym, ap, ap₂, subst, List, [], ◌∷◌, Option, Some, None}
 use Rattle.std.proofs.Common.{true≢false, fold}
-use Rattle.std.specs.Prelude.{option_and_then}
-use Rattle.std.specs.List.{list_any}
+use Rattle.std.specs.{Prelude.option_and_then, List.list_any}
 use Rattle.clap.specs.Walk.{Held, Waiting, Walk, idle, option, arg_by_long, used, walked, reacted, settled}
-use Rattle.clap.specs.Lexer.{long_of}
-use Rattle.clap.specs.Kinds.{or_else}
 use Rattle.clap.specs.Faults.{settle_fault, turn_fault, use_fault, walk_fault}
+use Rattle.clap.specs.{Lexer.long_of, Kinds.or_else}
 use Rattle.call_words.specs.Texts.{Text, begins_with_hyphen, is_odd, option_in}
 use Rattle.call_words.specs.Options.{Key, Rate, Block, Depth, Given, key_of, put, put_then, key_met, option_met}
 use Rattle.call_words.specs.Options.{value_met, word_met, options_of}

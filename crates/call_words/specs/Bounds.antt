@@ -1,8 +1,7 @@
 -- The bounds of the numbers that words give.
 use Rattle.std.specs.Prelude.{◌≡◌, ◌≤◌, ◌%◌}
 use Rattle.pcm_base.specs.declared.limits.TheConstants.{MAX_BLOCK_SAMPLES, MAX_DEPTH}
-use Rattle.call_words.specs.declared.asked.NewProject.{NewProject}
-use Rattle.call_words.specs.declared.asked.Words.{Words}
+use Rattle.call_words.specs.{declared.asked.NewProject.NewProject, declared.asked.Words.Words}
 use Rattle.call_words.specs.declared.asked.Words.TheVariants as words
 
 pub record IsNewProject (new : NewProject) : Type 0 where

@@ -1,8 +1,7 @@
 -- The command that reads the options of a new project.
 use Rattle.std.specs.Prelude.{true, codes, Some}
-use Rattle.clap.specs.Walk.{Rule, Text}
 use Rattle.clap.specs.Simple.{App, Shape, new_app, new_rule, on_top, with_rule}
-use Rattle.clap.specs.declared.builder.action.ArgAction.TheVariants.{Set}
+use Rattle.clap.specs.{Walk.Rule, Walk.Text, declared.builder.action.ArgAction.TheVariants.Set}
 
 abbrev pub own : Text → Rule
 own id = record (new_rule id) { long = Some id; action = Some Set }

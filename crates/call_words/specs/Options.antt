@@ -2,8 +2,7 @@
 use Rattle.std.specs.Prelude.{List, [], ◌∷◌, Option, Some, None, is_some, if◌then◌else◌, bytes_eq, codes}
 use Rattle.std.specs.Prelude.{option_and_then, option_map, drop}
 use Rattle.std.specs.List.{list_any}
-use Rattle.call_words.specs.Texts.{Text, is_odd, option_in}
-use Rattle.call_words.specs.declared.options.Given.{Given as Texts}
+use Rattle.call_words.specs.{Texts.Text, Texts.is_odd, Texts.option_in, declared.options.Given.Given as Texts}
 
 -- the options
 pub data Key : Type 0 where

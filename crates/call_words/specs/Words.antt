@@ -3,9 +3,7 @@ use Rattle.std.specs.Prelude.{ℕ, ◌==◌, ◌%◌, Bool, true, false, List, [
 use Rattle.std.specs.Prelude.{bytes_eq, codes, option_and_then, nat_le}
 use Rattle.pcm_base.specs.declared.limits.TheConstants.{MAX_BLOCK_SAMPLES, MAX_DEPTH}
 use Rattle.script_text.specs.Words.{number_up_to}
-use Rattle.call_words.specs.Texts.{Text}
-use Rattle.call_words.specs.Options.{Given, options_read}
-use Rattle.call_words.specs.declared.asked.Words.{Words}
+use Rattle.call_words.specs.{Texts.Text, Options.Given, Options.options_read, declared.asked.Words.Words}
 use Rattle.call_words.specs.declared.asked.Words.TheVariants as words
 
 abbrev pub at_least : ℕ → Option ℕ → Option ℕ

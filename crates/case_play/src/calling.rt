@@ -3,7 +3,7 @@ use super::devices::devices_of;
 use super::gates::HoldingGate;
 use super::program::{Left, Program};
 use super::world::{Asked, Manner, World};
-use case_text::{Fault, Line, goes_on, is_like, last_told};
+use case_text::{Fault, Line, goes_on, is_like, last_printed};
 use memory_disk::RamStore;
 use std::alloc::Global;
 use std::sync::Wait;
@@ -33,11 +33,11 @@ fn make_words<R: Threads + Wait + Sync, P: Program>(
     world: &mut World<'_>,
     words: &[String],
 ) -> Result<(), Fault> {
-    let devices = devices_of(world.alloc, &world.asked, world.sounds.as_slice())?;
+    let gate = HoldingGate::new(world.asked.take_holds(world.alloc));
+    let devices = devices_of(world.alloc, &world.asked, world.sounds.as_slice(), &gate)?;
     let store = world.take_store()?;
     let before = store.call_count();
-    let gate = HoldingGate::new(world.asked.take_holds(world.alloc));
-    let (store, left) = program.call(rt, world.alloc, words, store, devices, &gate);
+    let (store, left) = program.call(rt, world.alloc, words, store, devices);
     note(world, store, left, before);
     world.held = gate.has_held(rt);
     Ok(())
@@ -115,8 +115,8 @@ fn compare(world: &mut World<'_>, call: Line<'_>) -> Result<(), Fault> {
     if differs(world.alloc, world.manner, call, &world.asked, left)? {
         world.differs = true;
     }
-    if let Some(told) = last_told(left.out.bytes()) {
-        world.told = Some(told);
+    if let Some(told) = last_printed(left.out.bytes()) {
+        world.printed = Some(told);
     }
     Ok(())
 }

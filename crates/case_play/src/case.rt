@@ -26,11 +26,12 @@ pub(crate) enum Turn<'a> {
     Row(Line<'a>, &'a str, &'a str),
 }
 
-/// The lines that are played once, and those that are played again and again: both sections.
+/// The lines that are played once, and those that are played again and again: both sections, and those after them.
 #[derive(Clone, Copy)]
 pub(crate) struct Parts<'s, 'a> {
     pub(crate) head: &'s Section<'a>,
     pub(crate) body: &'s Section<'a>,
+    pub(crate) rest: &'s [Section<'a>],
 }
 
 // Sets up what a turn says.
@@ -112,18 +113,19 @@ fn play_sections<'a, R: Threads + Wait + Sync, P: Program>(
         return Ok(());
     };
     let Some((body, rest)) = rest.split_first() else {
-        return play_turn(rt, program, world, Parts { head, body: head }, Turn::Once);
+        let body = head;
+        return play_turn(rt, program, world, Parts { head, body, rest }, Turn::Once);
     };
-    let parts = Parts { head, body };
+    let parts = Parts { head, body, rest };
     let (word, what) = first_word(body.title.text);
     if word != "each" {
         return Err(body.title.unread());
     }
     let (word, port) = first_word(what);
     match word {
-        "stop" => play_sweep(rt, program, world, spare, parts, Sweep::Stops, rest),
-        "fault" => play_sweep(rt, program, world, spare, parts, Sweep::Calls(port), rest),
-        "row" => play_rows(rt, program, world, parts, rest),
+        "stop" => play_sweep(rt, program, world, spare, parts, Sweep::Stops),
+        "fault" => play_sweep(rt, program, world, spare, parts, Sweep::Calls(port)),
+        "row" => play_rows(rt, program, world, parts),
         _ => Err(body.title.unread()),
     }
 }

@@ -1,4 +1,5 @@
 // The devices of a call, as they are set up.
+use super::gates::HoldingGate;
 use super::program::Devices;
 use super::said::SaidVault;
 use super::sounds::Sound;
@@ -77,12 +78,13 @@ fn sound_streams(alloc: Global, asked: &Asked<'_>) -> Result<(MemSource, MemSink
     Ok((mic, speaker))
 }
 
-/// The devices of a call: what is asked of it, and the sounds.
-pub(crate) fn devices_of(
+/// The devices of a call: what is asked of it, the sounds, and the gate.
+pub(crate) fn devices_of<'g>(
     alloc: Global,
     asked: &Asked<'_>,
     sounds: &[Sound],
-) -> Result<Devices, Fault> {
+    gate: &'g HoldingGate,
+) -> Result<Devices<'g>, Fault> {
     let vault = vault_of(alloc, sounds, asked)?;
     let script = script_streams(alloc, asked)?;
     let sound = sound_streams(alloc, asked)?;
@@ -92,5 +94,6 @@ pub(crate) fn devices_of(
         vault,
         mic: sound.0,
         speaker: sound.1,
+        gate,
     })
 }

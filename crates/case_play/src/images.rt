@@ -39,23 +39,6 @@ fn has<'a, R: Threads + Wait + Sync, P: Program>(
     }
 }
 
-// Whether an image has what the section at this place says, or the next.
-fn image_has<'a, R: Threads + Wait + Sync, P: Program>(
-    rt: &R,
-    program: &P,
-    spare: &mut World<'a>,
-    store: &RamStore,
-    choice: u64,
-    sections: &[Section<'a>],
-    place: usize,
-) -> Result<bool, Fault> {
-    if has(rt, program, spare, store, choice, sections.get(place))? {
-        return Ok(true);
-    }
-    let next = sections.get(place.saturating_add(1));
-    has(rt, program, spare, store, choice, next)
-}
-
 /// The first image of a disk that has neither what the section at this place says nor the next, if there is one.
 pub(crate) fn other_image<'a, R: Threads + Wait + Sync, P: Program>(
     rt: &R,
@@ -66,7 +49,11 @@ pub(crate) fn other_image<'a, R: Threads + Wait + Sync, P: Program>(
     place: usize,
 ) -> Result<Option<u64>, Fault> {
     for choice in 0..IMAGES {
-        if !image_has(rt, program, spare, store, choice, sections, place)? {
+        if has(rt, program, spare, store, choice, sections.get(place))? {
+            continue;
+        }
+        let next = sections.get(place.saturating_add(1));
+        if !has(rt, program, spare, store, choice, next)? {
             return Ok(Some(choice));
         }
     }

@@ -10,14 +10,15 @@ use std::alloc::Global;
 use std::sync::Wait;
 use std::thread::Threads;
 
-/// The devices of a call beside the disk, in memory.
+/// The devices of a call beside the disk, in memory, and the gate that its threads pass.
 #[derive(Drop)]
-pub struct Devices {
+pub struct Devices<'g> {
     pub script: MemSource,
     pub out: MemSink,
     pub vault: SaidVault,
     pub mic: MemSource,
     pub speaker: MemSink,
+    pub gate: &'g HoldingGate,
 }
 
 /// What a call leaves beside the disk: its status, its devices, and the numbers of its commits.
@@ -41,15 +42,14 @@ pub struct Left {
 /// A program that makes calls.
 pub trait Program {
     /// Makes the call of these words, over this disk and these devices, and returns the disk. The first word is the
-    /// program's name. Its threads pass the gate.
+    /// program's name.
     fn call<R: Threads + Wait + Sync>(
         &self,
         rt: &R,
         alloc: Global,
         words: &[String],
         store: RamStore,
-        devices: Devices,
-        gate: &HoldingGate,
+        devices: Devices<'_>,
     ) -> (RamStore, Left)
         requires { IsSync R.row };
 }

@@ -2,7 +2,7 @@
 use super::case::{Parts, Turn, play_turn};
 use super::program::Program;
 use super::world::World;
-use case_text::{Fault, Line, Section};
+use case_text::{Fault, Line};
 use std::sync::Wait;
 use std::thread::Threads;
 
@@ -30,15 +30,14 @@ fn play_row<'a, R: Threads + Wait + Sync, P: Program>(
     }
 }
 
-/// Plays the case for each row of a section `rows`, of which there is at least one.
+/// Plays the case for each row of a section `rows`, of which there is at least one. It is the one after the case.
 pub(crate) fn play_rows<'a, R: Threads + Wait + Sync, P: Program>(
     rt: &R,
     program: &P,
     world: &mut World<'a>,
     parts: Parts<'_, 'a>,
-    sections: &[Section<'a>],
 ) -> Result<(), Fault> {
-    let [rows] = sections else {
+    let [rows] = parts.rest else {
         return Err(parts.body.title.unread());
     };
     if rows.title.text != "rows" || rows.lines.is_empty() {

@@ -28,9 +28,10 @@ impl<'a> Sweep<'a> {
     }
 }
 
-// The sections `stage`, `found` and `then`.
+// The title of a sweep, and its sections `stage`, `found` and `then`.
 #[derive(Clone, Copy)]
 struct Kinds<'s, 'a> {
+    title: Line<'a>,
     stages: &'s [Section<'a>],
     founds: &'s [Section<'a>],
     then: &'s [Section<'a>],
@@ -52,19 +53,22 @@ fn split_titled<'s, 'a>(
     (&sections[..count], &sections[count..])
 }
 
-fn kinds_of<'s, 'a>(sections: &'s [Section<'a>]) -> Kinds<'s, 'a> {
-    let (stages, rest) = split_titled(sections, "stage");
+fn kinds_of<'s, 'a>(parts: Parts<'s, 'a>) -> Kinds<'s, 'a> {
+    let (stages, rest) = split_titled(parts.rest, "stage");
     let (founds, then) = split_titled(rest, "found");
     Kinds {
+        title: parts.body.title,
         stages,
         founds,
         then,
     }
 }
 
-// How far a sweep is: among the stages, and among what is found. Nothing of them has come at first.
+// How far a sweep is: in the turn of which number, among the stages, and among what is found. Nothing of them has come
+// at first.
 #[derive(Clone, Copy)]
 struct Place {
+    number: u64,
     stage: Option<usize>,
     found: Option<usize>,
 }
@@ -97,41 +101,39 @@ fn came(world: &World<'_>, number: u64, why: &str) -> Result<String, Fault> {
 // The stage of a turn.
 fn stage_of(
     world: &World<'_>,
-    title: Line<'_>,
-    stages: &[Section<'_>],
-    before: Option<usize>,
-    number: u64,
+    kinds: Kinds<'_, '_>,
+    before: Place,
 ) -> Result<Option<usize>, Fault> {
-    if stages.is_empty() {
+    if kinds.stages.is_empty() {
         return Ok(None);
     }
-    for place in next_places(before) {
-        if is_at(world, stages.get(place))? {
+    for place in next_places(before.stage) {
+        if is_at(world, kinds.stages.get(place))? {
             return Ok(Some(place));
         }
     }
-    Err(title.wrong(came(world, number, "at no stage that may come")?))
+    let why = came(world, before.number, "at no stage that may come")?;
+    Err(kinds.title.wrong(why))
 }
 
 // The section that says what is found after a turn.
 fn found_of(
     world: &World<'_>,
-    title: Line<'_>,
-    founds: &[Section<'_>],
-    before: Option<usize>,
-    number: u64,
+    kinds: Kinds<'_, '_>,
+    before: Place,
 ) -> Result<Option<usize>, Fault> {
-    if founds.is_empty() {
+    if kinds.founds.is_empty() {
         return Ok(None);
     }
-    for place in next_places(before) {
-        if let Some(section) = founds.get(place) {
-            if is_after(section, world.told) {
+    for place in next_places(before.found) {
+        if let Some(section) = kinds.founds.get(place) {
+            if is_after(section, world.printed) {
                 return Ok(Some(place));
             }
         }
     }
-    Err(title.wrong(came(world, number, "after no commit that may come")?))
+    let why = came(world, before.number, "after no commit that may come")?;
+    Err(kinds.title.wrong(why))
 }
 
 // Each image has what is found at this place, or at the next.
@@ -140,18 +142,17 @@ fn check_images<'a, R: Threads + Wait + Sync, P: Program>(
     program: &P,
     world: &World<'_>,
     spare: &mut World<'a>,
-    title: Line<'_>,
-    founds: &[Section<'a>],
-    place: Option<usize>,
-    number: u64,
+    kinds: Kinds<'_, 'a>,
+    place: Place,
 ) -> Result<(), Fault> {
-    let Some(place) = place else {
+    let Some(found) = place.found else {
         return Ok(());
     };
-    match other_image(rt, program, spare, &world.store, founds, place)? {
+    match other_image(rt, program, spare, &world.store, kinds.founds, found)? {
         Some(choice) => {
             let why = format!(in world.alloc; "image {choice} has something else")?;
-            Err(title.wrong(came(world, number, why.as_str())?))
+            let why = came(world, place.number, why.as_str())?;
+            Err(kinds.title.wrong(why))
         }
         None => Ok(()),
     }
@@ -178,17 +179,12 @@ fn play_after<'a, R: Threads + Wait + Sync, P: Program>(
 }
 
 // Where a turn is that is whole: at the last places. Else some did not come.
-fn ends(
-    world: &World<'_>,
-    title: Line<'_>,
-    kinds: Kinds<'_, '_>,
-    place: Place,
-    number: u64,
-) -> Result<(), Fault> {
+fn ends(world: &World<'_>, kinds: Kinds<'_, '_>, place: Place) -> Result<(), Fault> {
     if is_last(place.stage, kinds.stages.len()) && is_last(place.found, kinds.founds.len()) {
         return Ok(());
     }
-    Err(title.wrong(came(world, number, "whole, and not all sections have come")?))
+    let why = came(world, place.number, "whole, and not all sections have come")?;
+    Err(kinds.title.wrong(why))
 }
 
 // What has to hold after a turn, and what follows then: the place of the turn, or none if it is the last.
@@ -197,32 +193,20 @@ fn after_turn<'a, R: Threads + Wait + Sync, P: Program>(
     program: &P,
     world: &mut World<'a>,
     spare: &mut World<'a>,
-    title: Line<'a>,
     kinds: Kinds<'_, 'a>,
     before: Place,
-    number: u64,
 ) -> Result<Option<Place>, Fault> {
-    let founds = kinds.founds;
     let mut place = before;
     if world.differs {
-        place.stage = stage_of(world, title, kinds.stages, place.stage, number)?;
+        place.stage = stage_of(world, kinds, before)?;
     }
-    place.found = found_of(world, title, founds, place.found, number)?;
-    check_images(
-        rt,
-        program,
-        world,
-        spare,
-        title,
-        founds,
-        place.found,
-        number,
-    )?;
+    place.found = found_of(world, kinds, before)?;
+    check_images(rt, program, world, spare, kinds, place)?;
     if world.differs {
         play_after(rt, program, world, kinds, place.stage)?;
         return Ok(Some(place));
     }
-    ends(world, title, kinds, place, number)?;
+    ends(world, kinds, place)?;
     Ok(None)
 }
 
@@ -235,20 +219,20 @@ pub(crate) fn play_sweep<'a, R: Threads + Wait + Sync, P: Program>(
     spare: &mut World<'a>,
     parts: Parts<'_, 'a>,
     sweep: Sweep<'a>,
-    sections: &[Section<'a>],
 ) -> Result<(), Fault> {
-    let title = parts.body.title;
-    let kinds = kinds_of(sections);
+    let kinds = kinds_of(parts);
     let mut place = Place {
+        number: 0,
         stage: None,
         found: None,
     };
     for number in 0..MOST {
+        place.number = number;
         play_turn(rt, program, world, parts, sweep.turn(number))?;
-        match after_turn(rt, program, world, spare, title, kinds, place, number)? {
+        match after_turn(rt, program, world, spare, kinds, place)? {
             Some(next) => place = next,
             None => return Ok(()),
         }
     }
-    Err(title.unread())
+    Err(kinds.title.unread())
 }

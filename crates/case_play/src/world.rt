@@ -100,7 +100,7 @@ pub(crate) struct World<'a> {
     /// Whether each thread that was to be held in the last call was held, and none in vain.
     pub(crate) held: bool,
     /// The commit number of the last line `ok C` or `end C` that was printed.
-    pub(crate) told: Option<u64>,
+    pub(crate) printed: Option<u64>,
     pub(crate) manner: Manner,
     /// Whether a call left something else than the case says.
     pub(crate) differs: bool,
@@ -126,7 +126,7 @@ impl<'a> World<'a> {
             left: None,
             calls: None,
             held: false,
-            told: None,
+            printed: None,
             manner: Manner::Strict,
             differs: false,
         })
@@ -153,7 +153,7 @@ impl<'a> World<'a> {
         self.left = None;
         self.calls = None;
         self.held = false;
-        self.told = None;
+        self.printed = None;
         self.manner = Manner::Strict;
         self.differs = false;
     }

@@ -1,5 +1,5 @@
 // The studio as the program of a case.
-use case_play::{Devices, HoldingGate, Left, Program, SaidVault};
+use case_play::{Devices, Left, Program, SaidVault};
 use disk_model::Store;
 use edit_ports::{Gate, MemSink, MemSource, Sink, Source, Vault};
 use memory_disk::RamStore;
@@ -8,19 +8,24 @@ use std::alloc::Global;
 use std::sync::Wait;
 use std::thread::Threads;
 
+// What a call is handed beside the disk, of any kinds.
+struct Handed<'a, 'o, 'v, 'g, A, O, V, M, P, G> {
+    script: &'a mut A,
+    out: &'o mut O,
+    vault: &'v mut V,
+    mic: M,
+    speaker: P,
+    gate: &'g G,
+}
+
 // The call of the program, over streams and a disk of any kinds: so that a proof about certain ones does not lay out
 // what is promised of it.
 fn carried<R, A, O, S, V, M, P, G>(
     rt: &R,
     alloc: Global,
     words: &[String],
-    script: &mut A,
-    out: &mut O,
     store: S,
-    vault: &mut V,
-    mic: M,
-    speaker: P,
-    gate: &G,
+    handed: Handed<'_, '_, '_, '_, A, O, V, M, P, G>,
 ) -> Ending<S, M, P>
 where
     R: Threads + Wait + Sync,
@@ -32,6 +37,14 @@ where
     P: Sink + Send,
     G: Gate + Sync,
 {
+    let Handed {
+        script,
+        out,
+        vault,
+        mic,
+        speaker,
+        gate,
+    } = handed;
     studio_call(
         rt, alloc, words, script, out, store, vault, mic, speaker, gate,
     )
@@ -68,8 +81,7 @@ impl Program for Studio {
         alloc: Global,
         words: &[String],
         store: RamStore,
-        devices: Devices,
-        gate: &HoldingGate,
+        devices: Devices<'_>,
     ) -> (RamStore, Left) {
         let Devices {
             mut script,
@@ -77,19 +89,17 @@ impl Program for Studio {
             mut vault,
             mic,
             speaker,
+            gate,
         } = devices;
-        let ending = carried(
-            rt,
-            alloc,
-            words,
-            &mut script,
-            &mut out,
-            store,
-            &mut vault,
+        let handed = Handed {
+            script: &mut script,
+            out: &mut out,
+            vault: &mut vault,
             mic,
             speaker,
             gate,
-        );
+        };
+        let ending = carried(rt, alloc, words, store, handed);
         left_of(ending, out, vault)
     }
 }

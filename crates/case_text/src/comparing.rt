@@ -82,7 +82,7 @@ fn number_after(line: &str, word: &str) -> Option<u64> {
 }
 
 // The commit number that a line has, if it is `ok C` or `end C`.
-fn told_by(line: &str) -> Option<u64> {
+fn printed_by(line: &str) -> Option<u64> {
     match number_after(line, "ok ") {
         Some(number) => Some(number),
         None => number_after(line, "end "),
@@ -90,13 +90,13 @@ fn told_by(line: &str) -> Option<u64> {
 }
 
 /// The number of the last line `ok C` or `end C` of a text.
-pub fn last_told(text: &[u8]) -> Option<u64> {
+pub fn last_printed(text: &[u8]) -> Option<u64> {
     let mut told = None;
     let Ok(text) = std::str::from_utf8(text) else {
         return None;
     };
     for line in text.lines() {
-        if let Some(number) = told_by(line) {
+        if let Some(number) = printed_by(line) {
             told = Some(number);
         }
     }

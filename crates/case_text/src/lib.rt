@@ -11,7 +11,7 @@ mod fault;
 mod sections;
 mod words;
 
-pub use comparing::{goes_on, is_like, last_told};
+pub use comparing::{goes_on, is_like, last_printed};
 pub use facts::{are_bytes, are_numbers, not_numbers};
 pub use fault::Fault;
 pub use sections::{Line, Section, first_word, read_sections};

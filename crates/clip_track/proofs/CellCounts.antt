@@ -1,21 +1,17 @@
 -- The samples and clips of a strip's cells, counted item by item.
 use Rattle.std.proofs.Common.{◌≡◌, ℕ, zero, suc, ◌+◌, ◌-◌, ◌<◌, ℤ, Bool, true, false, List, [], ◌∷◌, ◌++◌, length, map}
 use Rattle.std.proofs.Common.{replicate, refl, sym, ap, ap₂, ◌∙◌, append_assoc, arith, if◌then◌else◌}
-use Rattle.pcm_base.specs.declared.sound.Cell.{Cell}
-use Rattle.pcm_base.specs.declared.sound.Cell.TheVariants as cell
-use Rattle.pcm_base.specs.Pieces.{Sources, piece_len, samples_of}
-use Rattle.pcm_base.proofs.Pieces.{length-samples}
-use Rattle.clip_track.specs.declared.items.Item.{Item}
-use Rattle.clip_track.specs.declared.items.Item.TheVariants.{Gap, Sound}
-use Rattle.pcm_base.specs.declared.block.BlockRef.{BlockRef}
-use Rattle.pcm_base.specs.Blocks.{blocks_len}
 use Rattle.std.proofs.Math.Nat.{sub-zero}
-use Rattle.clip_track.specs.declared.clips.Clip.{Clip}
+use Rattle.pcm_base.specs.Pieces.{Sources, piece_len, samples_of}
+use Rattle.pcm_base.specs.Sizes.{sample_count, clip_starts, clip_count}
+use Rattle.pcm_base.specs.{declared.sound.Cell.Cell, declared.block.BlockRef.BlockRef, Blocks.blocks_len}
+use Rattle.pcm_base.proofs.Pieces.{length-samples}
+use Rattle.clip_track.specs.declared.items.Item.TheVariants.{Gap, Sound}
 use Rattle.clip_track.specs.Items.{strip_cells, gap_items, AreItems}
 use Rattle.clip_track.specs.Clips.{clip_end, items_from, layout_cells, sound_items, AreClips}
+use Rattle.clip_track.specs.{declared.items.Item.Item, declared.clips.Clip.Clip, Counts.clips_len}
 use Rattle.clip_track.proofs.Layouts.{strip_cells-items, AreItems-items}
-use Rattle.pcm_base.specs.Sizes.{sample_count, clip_starts, clip_count}
-use Rattle.clip_track.specs.Counts.{clips_len}
+use Rattle.pcm_base.specs.declared.sound.Cell.TheVariants as cell
 
 abbrev pub item_samples : List Item → ℕ
 item_samples [] = 0

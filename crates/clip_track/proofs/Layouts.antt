@@ -1,18 +1,15 @@
 -- Lemmas on clips.
 use Rattle.std.proofs.Common.{◌≡◌, ℕ, zero, suc, ◌+◌, ◌-◌, ◌<◌, ◌≤◌, List, [], ◌∷◌, ◌++◌, length, get_or, map}
 use Rattle.std.proofs.Common.{replicate, refl, sym, ap, ap₂, ◌∙◌, arith}
-use Rattle.std.proofs.lemmas.List.{map-append, append-nil}
-use Rattle.std.proofs.Math.Nat.{sub-zero}
-use Rattle.pcm_base.specs.declared.sound.Cell.TheVariants as cell
-use Rattle.pcm_base.specs.declared.block.BlockRef.{BlockRef}
-use Rattle.pcm_base.specs.Pieces.{Sources, stretch}
+use Rattle.std.proofs.{lemmas.List.map-append, lemmas.List.append-nil, Math.Nat.sub-zero}
 use Rattle.pcm_base.specs.Blocks.{AllFull, IsHalfFull, NoneEmpty, block_lens, block_samples, blocks_len}
-use Rattle.clip_track.specs.declared.clips.Clip.{Clip}
-use Rattle.clip_track.specs.Items.{strip_len, strip_cells, AreItems, gap_items, ItemsFit}
-use Rattle.clip_track.specs.Clips.{clip_end, end_of, cells_from, layout_cells, AreClips, sound_items, items_from}
-use Rattle.clip_track.specs.Clips.{AllHalfFull}
+use Rattle.pcm_base.specs.{declared.block.BlockRef.BlockRef, Pieces.Sources, Pieces.stretch}
+use Rattle.clip_track.specs.{declared.clips.Clip.Clip, Items.strip_len, Items.strip_cells, Items.AreItems}
+use Rattle.clip_track.specs.{Items.gap_items, Items.ItemsFit, Clips.clip_end, Clips.end_of, Clips.cells_from}
+use Rattle.clip_track.specs.{Clips.layout_cells, Clips.AreClips, Clips.sound_items, Clips.items_from, Clips.AllHalfFull}
 use Rattle.clip_track.proofs.Strips.{strip_len-append, strip_cells-append, AreItems-append, ItemsFit-append}
 use Rattle.clip_track.proofs.Strips.{length-strip_cells}
+use Rattle.pcm_base.specs.declared.sound.Cell.TheVariants as cell
 
 pub strip_len-gap : (n : ℕ) → strip_len (gap_items n) ≡ n
 strip_len-gap zero = refl
@@ -72,8 +69,7 @@ strip_cells-items src at (c ∷ cs) =
 pub AreItems-items : (at from : ℕ) (cs : List Clip) → AreClips from cs → AreItems (items_from at cs)
 AreItems-items at from [] a = tt
 AreItems-items at from (c ∷ cs) a =
-    AreItems-append _ _
-    (AreItems-append _ _ (AreItems-gap (c.start - at)) (AreItems-sound c.blocks a.2))
+    AreItems-append _ _ (AreItems-append _ _ (AreItems-gap (c.start - at)) (AreItems-sound c.blocks a.2))
     (AreItems-items (clip_end c) (clip_end c + 1) cs a.3)
 
 -- a layout's length

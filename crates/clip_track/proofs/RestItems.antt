@@ -1,25 +1,19 @@
 -- Lemmas on what is left of a layout from a place on.
 use Rattle.std.proofs.Common.{◌≡◌, ℕ, zero, suc, ◌+◌, ◌-◌, ◌<◌, ◌≤◌, inl, inr, min, List, [], ◌∷◌, ◌++◌, length, get_or}
 use Rattle.std.proofs.Common.{take, drop, refl, sym, ap, ap₂, ◌∙◌, append_assoc, arith, subst, length-drop}
-use Rattle.std.specs.Prelude.{Contains}
 use Rattle.std.proofs.lemmas.Bool.{cases_lt, le-leb, lt-leb}
-use Rattle.std.proofs.lemmas.List.{take_all}
-use Rattle.std.proofs.lemmas.List.Elements.{Contains-append_right}
-use Rattle.std.proofs.Math.Nat.{sub-zero}
-use Rattle.pcm_base.specs.declared.block.BlockRef.{BlockRef}
+use Rattle.std.proofs.{lemmas.List.take_all, lemmas.List.Elements.Contains-append_right, Math.Nat.sub-zero}
+use Rattle.std.specs.Prelude.{Contains}
 use Rattle.pcm_base.specs.declared.piece.Piece.TheVariants.{Old, Scaled, Zero, Given}
-use Rattle.pcm_base.specs.Pieces.{Sources}
-use Rattle.pcm_base.specs.Blocks.{NoneEmpty}
-use Rattle.clip_track.specs.declared.items.Item.{Item}
+use Rattle.pcm_base.specs.{declared.block.BlockRef.BlockRef, Pieces.Sources, Blocks.NoneEmpty}
 use Rattle.clip_track.specs.declared.items.Item.TheVariants.{Gap, Sound}
-use Rattle.clip_track.specs.declared.rest.Left.{Left}
-use Rattle.clip_track.specs.declared.clips.Clip.{Clip}
 use Rattle.clip_track.specs.Items.{item_len, item_blocks, part_of_item, part_items, items_after, strip_len, strip_cells}
 use Rattle.clip_track.specs.Items.{strip_blocks, gap_items, AreItems, ItemsFit}
 use Rattle.clip_track.specs.Clips.{clip_end, items_from, layout_blocks, sound_items, AreClips}
 use Rattle.clip_track.specs.Rests.{sound_from, IsWithin, left_items, IsLeft}
+use Rattle.clip_track.specs.{declared.items.Item.Item, declared.rest.Left.Left, declared.clips.Clip.Clip}
 use Rattle.clip_track.proofs.Strips.{item_some, part_none, part_past, part_within, AreItems-append, strip_cells-part}
-use Rattle.clip_track.proofs.Strips.{length-strip_cells, strip_len-append, item_part_ok, ItemFits-part}
+use Rattle.clip_track.proofs.Strips.{length-strip_cells, strip_len-append, item_part_ok, ItemFits-part, item_part_len}
 use Rattle.clip_track.proofs.RoughStrips.{part_whole, part_all}
 use Rattle.clip_track.proofs.Layouts.{AreItems-gap, AreItems-sound, AreItems-items, strip_len-gap, strip_len-sound}
 
@@ -61,12 +55,6 @@ after_gap skip (suc g) xs v h = elim (cases_lt skip (suc g)) [
       rw e (after_past (suc g) (Gap (suc g)) xs (omega arith) ∙ rw z (after_none xs v))
 ]
 
-pub after_block : (skip : ℕ) (b : BlockRef) (xs : List Item) → skip < b.len
-    → items_after skip (Sound (Old b 0 b.len) ∷ xs) ≡ Sound (Old b skip b.len) ∷ xs
-after_block skip b xs h =
-    after_within skip (Sound (Old b 0 b.len)) xs (omega (arith, sub-zero b.len, h))
-    ∙ ap₂ (λ i j. Sound (Old b i j) ∷ xs) (omega arith) (omega (arith, sub-zero b.len, h))
-
 -- a part of what is left
 part_again : (skip n k : ℕ) (x : Item) → part_of_item 0 k (part_of_item skip n x) ≡ part_of_item skip k x
 part_again skip n k (Gap len) = refl
@@ -75,22 +63,15 @@ part_again skip n k (Sound (Scaled b from to gain)) = ap₂ (λ i j. Sound (Scal
 part_again skip n k (Sound (Zero len)) = refl
 part_again skip n k (Sound (Given from to)) = ap₂ (λ i j. Sound (Given i j)) (omega arith) (omega arith)
 
-part_len : (skip n : ℕ) (x : Item) → item_len (part_of_item skip n x) ≡ n
-part_len skip n (Gap len) = refl
-part_len skip n (Sound (Old b from to)) = omega arith
-part_len skip n (Sound (Scaled b from to gain)) = omega arith
-part_len skip n (Sound (Zero len)) = refl
-part_len skip n (Sound (Given from to)) = omega arith
-
 pub part_after : (skip n : ℕ) (xs : List Item) → part_items 0 n (items_after skip xs) ≡ part_items skip n xs
 part_after skip zero xs = part_none 0 (items_after skip xs) ∙ sym (part_none skip xs)
 part_after skip (suc n) [] = refl
 part_after skip (suc n) (x ∷ xs) = elim (cases_lt skip (item_len x)) [
   | inl lt ↦
       let y = part_of_item skip (item_len x - skip) x in
-      let e : item_len y - 0 ≡ item_len x - skip = omega (arith, part_len skip (item_len x - skip) x) in
+      let e : item_len y - 0 ≡ item_len x - skip = omega (arith, item_part_len skip (item_len x - skip) x) in
       ap (part_items 0 (suc n)) (after_within skip x xs lt)
-      ∙ part_within 0 (suc n) y xs (omega arith) (omega (arith, part_len skip (item_len x - skip) x, lt))
+      ∙ part_within 0 (suc n) y xs (omega arith) (omega (arith, item_part_len skip (item_len x - skip) x, lt))
       ∙ ap (λ k. part_of_item 0 (min (suc n) k) y ∷ part_items 0 (suc n - min (suc n) k) xs) e
       ∙ ap (λ z. z ∷ part_items 0 (suc n - min (suc n) (item_len x - skip)) xs)
       (part_again skip (item_len x - skip) (min (suc n) (item_len x - skip)) x)
@@ -113,8 +94,7 @@ sound_ok passed (b ∷ bs) some within =
 
 pub AreItems-left : (l : Left) → IsLeft l → AreItems (left_items l)
 AreItems-left l is =
-    AreItems-append _ _
-    (AreItems-append _ _ (AreItems-gap l.gaps) (sound_ok l.passed l.blocks.now is.some is.within))
+    AreItems-append _ _ (AreItems-append _ _ (AreItems-gap l.gaps) (sound_ok l.passed l.blocks.now is.some is.within))
     (AreItems-items l.end l.end l.clips.now is.apart)
 
 -- from one clip to the next
@@ -197,7 +177,7 @@ after_cells src skip xs v =
 pub after_len : (skip : ℕ) (xs : List Item) → strip_len (items_after skip xs) ≡ strip_len xs - skip
 after_len skip [] = omega arith
 after_len skip (x ∷ xs) = elim (cases_lt skip (item_len x)) [
-  | inl lt ↦ ap strip_len (after_within skip x xs lt) ∙ omega (arith, part_len skip (item_len x - skip) x, lt)
+  | inl lt ↦ ap strip_len (after_within skip x xs lt) ∙ omega (arith, item_part_len skip (item_len x - skip) x, lt)
   | inr le ↦ ap strip_len (after_past skip x xs le) ∙ omega (arith, after_len (skip - item_len x) xs, le)
 ]
 

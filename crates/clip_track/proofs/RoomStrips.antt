@@ -2,18 +2,17 @@
 use Rattle.std.proofs.Common.{◌≡◌, ℕ, zero, suc, ◌+◌, ◌-◌, ◌*◌, ◌≤◌, inl, inr, min, Bool, true, false, ◌&&◌, ◌||◌, List}
 use Rattle.std.proofs.Common.{[], ◌∷◌, ◌++◌, refl, ap, ◌∙◌, arith}
 use Rattle.std.proofs.lemmas.Bool.{cases_Bool, cases_lt}
-use Rattle.pcm_base.specs.declared.piece.Piece.{Piece}
-use Rattle.pcm_base.specs.Pieces.{piece_len, part_of}
+use Rattle.pcm_base.specs.{declared.piece.Piece.Piece, Pieces.piece_len, Pieces.part_of}
 use Rattle.pcm_base.proofs.Pieces.{piece_len-part}
-use Rattle.block_sequence.specs.Fuse.{is_whole, is_sound}
+use Rattle.block_sequence.specs.Fuse.{is_whole, is_full}
 use Rattle.block_sequence.specs.Room.{Stand, First, Behind, Within, spare, taken}
-use Rattle.clip_track.specs.declared.items.Item.{Item}
-use Rattle.clip_track.specs.declared.items.Item.TheVariants.{Gap, Sound}
 use Rattle.clip_track.specs.Items.{item_len, strip_len, part_of_item, part_items, gap_items, AreItems}
 use Rattle.clip_track.specs.Rough.{gap_next, rough_items, ItemShort, ItemsShort}
-use Rattle.clip_track.specs.Room.{is_first, strip_room}
+use Rattle.clip_track.specs.{declared.items.Item.Item, declared.items.Item.TheVariants.Gap}
+use Rattle.clip_track.specs.{declared.items.Item.TheVariants.Sound, Room.is_first, Room.strip_room}
 use Rattle.clip_track.proofs.Strips.{part_none, part_past, part_within, item_some}
 use Rattle.clip_track.proofs.RoughStrips.{part_whole, part_all, same_next}
+use Rattle.clip_track.proofs.ShortStrips.{short_part}
 
 taken_most : (m : ℕ) (s : Stand) → taken m s ≤ m
 taken_most m First = omega arith
@@ -25,10 +24,10 @@ spare_most m First = omega arith
 spare_most m Behind = omega arith
 spare_most m Within = omega arith
 
--- a sound piece, and one that is not
-sound_room : (m : ℕ) (s : Stand) (r : Bool) (p : Piece) (xs : List Item) → is_sound m p ≡ true
+-- a full piece, and one that is not
+full_room : (m : ℕ) (s : Stand) (r : Bool) (p : Piece) (xs : List Item) → is_full m p ≡ true
     → strip_room m s r (Sound p ∷ xs) ≡ taken m s + strip_room m Behind r xs
-sound_room m s r p xs e = rw e refl
+full_room m s r p xs e = rw e refl
 
 -- before a gap it is the same how a piece would stand
 gap_same : (m : ℕ) (s t : Stand) (r : Bool) (xs : List Item) → gap_next r xs ≡ true
@@ -38,7 +37,7 @@ gap_same m s t r (Gap n ∷ xs) g = refl
 gap_same m s t true (Sound p ∷ xs) g = cc
 gap_same m s t false (Sound p ∷ xs) g = cc
 
-rough_first : (m : ℕ) (r : Bool) (p : Piece) (xs : List Item) → is_sound m p ≡ false
+rough_first : (m : ℕ) (r : Bool) (p : Piece) (xs : List Item) → is_full m p ≡ false
     → (strip_room m First r (Sound p ∷ xs) ≤ piece_len p + m + strip_room m Within r xs)
     × (strip_room m Within r xs ≤ strip_room m First r (Sound p ∷ xs))
 rough_first m r p xs e = elim (cases_Bool (gap_next r xs)) [
@@ -49,13 +48,13 @@ rough_first m r p xs e = elim (cases_Bool (gap_next r xs)) [
   | inr g ↦ rw (e, g) (omega arith, omega arith)
 ]
 
-rough_most : (m : ℕ) (s : Stand) (r : Bool) (p : Piece) (xs : List Item) → is_sound m p ≡ false
+rough_most : (m : ℕ) (s : Stand) (r : Bool) (p : Piece) (xs : List Item) → is_full m p ≡ false
     → strip_room m s r (Sound p ∷ xs) ≤ piece_len p + spare m s + strip_room m Within r xs
 rough_most m First r p xs e = (rough_first m r p xs e).0
 rough_most m Behind r p xs e = rw e (omega arith)
 rough_most m Within r p xs e = rw e (omega arith)
 
-rough_least : (m : ℕ) (s : Stand) (r : Bool) (p : Piece) (xs : List Item) → is_sound m p ≡ false
+rough_least : (m : ℕ) (s : Stand) (r : Bool) (p : Piece) (xs : List Item) → is_full m p ≡ false
     → strip_room m Within r xs ≤ strip_room m s r (Sound p ∷ xs)
 rough_least m First r p xs e = (rough_first m r p xs e).1
 rough_least m Behind r p xs e = rw e (omega arith)
@@ -66,8 +65,8 @@ within_most : (m : ℕ) (s : Stand) (r : Bool) (xs : List Item) → ItemsShort m
     → strip_room m Within r xs ≤ strip_room m s r xs + m
 within_most m s r [] h = omega arith
 within_most m s r (Gap n ∷ xs) h = omega arith
-within_most m s r (Sound p ∷ xs) h = elim (cases_Bool (is_sound m p)) [
-  | inl e ↦ omega (arith, sound_room m Within r p xs e, sound_room m s r p xs e)
+within_most m s r (Sound p ∷ xs) h = elim (cases_Bool (is_full m p)) [
+  | inl e ↦ omega (arith, full_room m Within r p xs e, full_room m s r p xs e)
   | inr e ↦ omega (arith, rough_most m Within r p xs e, rough_least m s r p xs e, h.0)
 ]
 
@@ -75,13 +74,13 @@ behind_most : (m : ℕ) (r : Bool) (xs : List Item) → strip_room m Behind r xs
 behind_most m r [] = omega arith
 behind_most m r (Gap n ∷ xs) = omega arith
 behind_most m r (Sound p ∷ xs) =
-    elim (cases_Bool (is_sound m p)) [ inl e ↦ rw e (omega arith) | inr e ↦ rw e (omega arith) ]
+    elim (cases_Bool (is_full m p)) [ inl e ↦ rw e (omega arith) | inr e ↦ rw e (omega arith) ]
 
 -- the second of two strips has at most so much room, however its first piece stands
 same_flag : (m : ℕ) (s : Stand) (r q : Bool) (p : Piece) (b : ℕ) (xs ys : List Item) → gap_next r xs ≡ gap_next q ys
     → ((t : Stand) → strip_room m t r xs ≤ strip_room m t q ys + b)
     → strip_room m s r (Sound p ∷ xs) ≤ strip_room m s q (Sound p ∷ ys) + b
-same_flag m s r q p b xs ys g h = elim (cases_Bool (is_sound m p || ((is_first s && gap_next q ys) && is_whole p))) [
+same_flag m s r q p b xs ys g h = elim (cases_Bool (is_full m p || ((is_first s && gap_next q ys) && is_whole p))) [
   | inl e ↦ rw (g, e) (omega (arith, h Behind))
   | inr e ↦ rw (g, e) (omega (arith, h Within))
 ]
@@ -89,12 +88,12 @@ same_flag m s r q p b xs ys g h = elim (cases_Bool (is_sound m p || ((is_first s
 last_piece : (m : ℕ) (s : Stand) (r : Bool) (p : Piece) (b : ℕ) (ys : List Item)
     → ((t : Stand) → strip_room m t r ys ≤ b)
     → strip_room m s r (Sound p ∷ ys) ≤ strip_room m s false (Sound p ∷ []) + b
-last_piece m s r p b ys h = elim (cases_Bool (is_sound m p)) [
-  | inl e ↦ omega (arith, sound_room m s r p ys e, sound_room m s false p [] e, h Behind)
+last_piece m s r p b ys h = elim (cases_Bool (is_full m p)) [
+  | inl e ↦ omega (arith, full_room m s r p ys e, full_room m s false p [] e, h Behind)
   | inr e ↦ omega (arith, rough_most m s r p ys e, lone m s p e, h Within)
 ]
   where
-    lone : (m : ℕ) (s : Stand) (p : Piece) → is_sound m p ≡ false
+    lone : (m : ℕ) (s : Stand) (p : Piece) → is_full m p ≡ false
         → piece_len p + spare m s ≤ strip_room m s false (Sound p ∷ [])
     lone m First p e = rw e (omega arith)
     lone m Behind p e = rw e (omega arith)
@@ -117,14 +116,10 @@ room_only_gap m s r (suc n) = refl
 -- one item
 one_item : (m : ℕ) (s : Stand) (r : Bool) (x : Item) → ItemShort m x → strip_room m s r (x ∷ []) ≤ 3 * m
 one_item m s r (Gap n) h = omega arith
-one_item m s r (Sound p) h = elim (cases_Bool (is_sound m p)) [
-  | inl e ↦ omega (arith, sound_room m s r p [] e, taken_most m s)
+one_item m s r (Sound p) h = elim (cases_Bool (is_full m p)) [
+  | inl e ↦ omega (arith, full_room m s r p [] e, taken_most m s)
   | inr e ↦ omega (arith, rough_most m s r p [] e, spare_most m s, h)
 ]
-
-short_part : (m skip n : ℕ) (x : Item) → skip + n ≤ item_len x → ItemShort m x → ItemShort m (part_of_item skip n x)
-short_part m skip n (Gap k) h a = tt
-short_part m skip n (Sound p) h a = omega (arith, piece_len-part skip n p)
 
 cons_front : (m : ℕ) (s : Stand) (r : Bool) (x : Item) (ps qs : List Item) → gap_next false ps ≡ gap_next r qs
     → ((t : Stand) → strip_room m t false ps ≤ strip_room m t r qs + 3 * m)
@@ -165,8 +160,8 @@ back_past : (m e : ℕ) (s t : Stand) (r : Bool) (x : Item) (ps xs : List Item)
     → ((i : Stand) → strip_room m s r ps ≤ strip_room m i r xs + e)
     → strip_room m s r ps ≤ strip_room m t r (x ∷ xs) + e
 back_past m e s t r (Gap n) ps xs h = h First
-back_past m e s t r (Sound p) ps xs h = elim (cases_Bool (is_sound m p)) [
-  | inl k ↦ omega (arith, sound_room m t r p xs k, h Behind)
+back_past m e s t r (Sound p) ps xs h = elim (cases_Bool (is_full m p)) [
+  | inl k ↦ omega (arith, full_room m t r p xs k, h Behind)
   | inr k ↦ omega (arith, rough_least m t r p xs k, h Within)
 ]
 
@@ -179,13 +174,13 @@ back_within m e s t r skip k (Sound p) xs l v w a b =
     let f = within_most m Behind r xs w in
     let g = behind_most m r xs in
     let n = piece_len-part skip k p in
-    elim (cases_Bool (is_sound m q)) [
-      | inl i ↦ elim (cases_Bool (is_sound m p)) [
-        | inl j ↦ omega (arith, sound_room m s r q xs i, taken_most m s, sound_room m t r p xs j)
-        | inr j ↦ omega (arith, sound_room m s r q xs i, taken_most m s, rough_least m t r p xs j, g)
+    elim (cases_Bool (is_full m q)) [
+      | inl i ↦ elim (cases_Bool (is_full m p)) [
+        | inl j ↦ omega (arith, full_room m s r q xs i, taken_most m s, full_room m t r p xs j)
+        | inr j ↦ omega (arith, full_room m s r q xs i, taken_most m s, rough_least m t r p xs j, g)
       ]
-      | inr i ↦ elim (cases_Bool (is_sound m p)) [
-        | inl j ↦ omega (arith, rough_most m s r q xs i, n, sound_room m t r p xs j, f)
+      | inr i ↦ elim (cases_Bool (is_full m p)) [
+        | inl j ↦ omega (arith, rough_most m s r q xs i, n, full_room m t r p xs j, f)
         | inr j ↦ omega (arith, rough_most m s r q xs i, n, rough_least m t r p xs j)
       ]
     ]
@@ -213,7 +208,7 @@ pub no_room : (m : ℕ) (s : Stand) (r : Bool) (xs : List Item) → taken m s �
     → strip_room m s r xs ≡ 0
 no_room m s r [] k h = refl
 no_room m s r (Gap n ∷ xs) k h = no_room m First r xs refl h
-no_room m s r (Sound p ∷ xs) k h = elim (cases_Bool (is_sound m p || ((is_first s && gap_next r xs) && is_whole p))) [
+no_room m s r (Sound p ∷ xs) k h = elim (cases_Bool (is_full m p || ((is_first s && gap_next r xs) && is_whole p))) [
   | inl e ↦ rw e (omega (arith, k, no_room m Behind r xs refl (omega arith)))
   | inr e ↦ absurd (some _ (rw e at h))
 ]

@@ -2,31 +2,27 @@
 use Rattle.std.proofs.Common.{◌≡◌, ℕ, zero, suc, ◌+◌, ◌-◌, ◌*◌, ◌<◌, ◌≤◌, inl, inr, min, Bool, true, false, ◌&&◌, ◌||◌}
 use Rattle.std.proofs.Common.{List, [], ◌∷◌, ◌++◌, length, refl, ap, ap₂, ◌∙◌, arith, append_assoc, if◌then◌else◌}
 use Rattle.std.proofs.lemmas.Bool.{cases_Bool, cases_lt, eq-eqb, le-leb, and_from}
-use Rattle.std.proofs.Math.Nat.{sub-zero}
-use Rattle.std.proofs.lemmas.List.{append-nil}
-use Rattle.pcm_base.specs.declared.piece.Piece.{Piece}
+use Rattle.std.proofs.{Math.Nat.sub-zero, lemmas.List.append-nil}
 use Rattle.pcm_base.specs.declared.piece.Piece.TheVariants.{Old, Scaled, Zero, Given}
-use Rattle.pcm_base.specs.declared.block.BlockRef.{BlockRef}
-use Rattle.pcm_base.specs.Pieces.{part_of, whole}
 use Rattle.pcm_base.specs.Blocks.{AllFull, IsHalfFull, block_lens}
-use Rattle.block_sequence.specs.Fuse.{is_whole, is_sound, rough, unsound}
-use Rattle.block_sequence.proofs.HalfFull.{is_sound-true}
-use Rattle.clip_track.specs.declared.items.Item.{Item}
+use Rattle.pcm_base.specs.{declared.piece.Piece.Piece, declared.block.BlockRef.BlockRef, Pieces.part_of, Pieces.whole}
+use Rattle.block_sequence.specs.Fuse.{is_whole, is_full, rough, unfull}
+use Rattle.block_sequence.proofs.HalfFull.{is_full-true}
 use Rattle.clip_track.specs.declared.items.Item.TheVariants.{Gap, Sound}
-use Rattle.clip_track.specs.declared.clips.Clip.{Clip}
 use Rattle.clip_track.specs.Items.{item_len, strip_len, part_of_item, part_items, IsItem, AreItems, gap_items}
 use Rattle.clip_track.specs.Clips.{clip_end, AreClips, AllHalfFull, sound_items, items_from}
 use Rattle.clip_track.specs.Rough.{gap_next, rough_piece, rough_items, rough_from}
+use Rattle.clip_track.specs.{declared.items.Item.Item, declared.clips.Clip.Clip}
 use Rattle.clip_track.proofs.Strips.{part_none, part_past, part_within, item_some}
 
 rough_piece_le : (m : ℕ) (p : Piece) (b : Bool) → rough_piece m p b ≤ 1
 rough_piece_le m p b =
-    elim (cases_Bool (is_sound m p || (b && is_whole p))) [ inl e ↦ rw e (omega arith) | inr e ↦ rw e (omega arith) ]
+    elim (cases_Bool (is_full m p || (b && is_whole p))) [ inl e ↦ rw e (omega arith) | inr e ↦ rw e (omega arith) ]
 
 -- with no gap on one side a piece is no better
 rough_piece_worse : (m : ℕ) (p : Piece) (b : Bool) → rough_piece m p b ≤ rough_piece m p false
 rough_piece_worse m p true =
-    elim (cases_Bool (is_sound m p)) [ inl e ↦ rw e (omega arith) | inr e ↦ rw e (below_one (is_whole p)) ]
+    elim (cases_Bool (is_full m p)) [ inl e ↦ rw e (omega arith) | inr e ↦ rw e (below_one (is_whole p)) ]
   where
     below_one : (b : Bool) → (if b then 0 else 1) ≤ 1
     below_one true = omega arith
@@ -149,9 +145,9 @@ rough_back m s r skip (suc left) (x ∷ xs) v h = elim (cases_lt skip (item_len 
 whole_is_whole : (b : BlockRef) → is_whole (whole b) ≡ true
 whole_is_whole b = and_from _ _ (eq-eqb 0 0 refl) (eq-eqb b.len b.len refl)
 
-full_is_sound : (m : ℕ) (b : BlockRef) → m ≤ 2 * b.len → b.len ≤ m → is_sound m (whole b) ≡ true
-unfolding is_sound
-full_is_sound m b h k =
+large_is_full : (m : ℕ) (b : BlockRef) → m ≤ 2 * b.len → b.len ≤ m → is_full m (whole b) ≡ true
+unfolding is_full
+large_is_full m b h k =
     let e = sub-zero b.len in
     and_from _ _ (and_from _ _ (whole_is_whole b) (le-leb m (2 * (b.len - 0)) (omega (arith, e))))
     (le-leb (b.len - 0) m (omega (arith, e)))
@@ -161,7 +157,7 @@ rough_full : (m : ℕ) (s : Bool) (bs : List BlockRef) (rest : List Item) → Al
 rough_full m s [] rest h = worse_start m s true rest
 rough_full m s (b ∷ bs) rest h =
     let e : rough_piece m (whole b) (s && gap_next true (sound_items bs ++ rest)) ≡ 0 =
-    rw (full_is_sound m b h.0.0 h.0.1) refl in
+    rw (large_is_full m b h.0.0 h.0.1) refl in
     omega (arith, e, rough_full m false bs rest h.1)
 
 -- what follows a clip begins with a gap
@@ -173,7 +169,7 @@ follows m e (c ∷ cs) a =
     rw k (refl, refl)
 
 whole_alone : (m : ℕ) (b : BlockRef) → rough_piece m (whole b) true ≡ 0
-whole_alone m b = elim (cases_Bool (is_sound m (whole b)))
+whole_alone m b = elim (cases_Bool (is_full m (whole b)))
     [ inl s ↦ rw s refl | inr s ↦ rw s (lone (is_whole (whole b)) (whole_is_whole b)) ]
   where
     lone : (w : Bool) → w ≡ true → (let n : ℕ = if false || (true && w) then 0 else 1 in n) ≡ 0
@@ -203,14 +199,14 @@ rough_layout m at from (c ∷ cs) a h =
     ∙ omega (arith, rough_clip m c.blocks rest h.0 f.0 f.1, rough_layout m (clip_end c) (clip_end c + 1) cs a.3 h.1)
 
 -- clip by clip
-unsound-append : (m : ℕ) (ps qs : List Piece) → unsound m (ps ++ qs) ≡ unsound m ps + unsound m qs
-unsound-append m [] qs = omega arith
-unsound-append m (p ∷ ps) qs = omega (arith, unsound-append m ps qs)
+unfull-append : (m : ℕ) (ps qs : List Piece) → unfull m (ps ++ qs) ≡ unfull m ps + unfull m qs
+unfull-append m [] qs = omega arith
+unfull-append m (p ∷ ps) qs = omega (arith, unfull-append m ps qs)
 
-rough_le : (m : ℕ) (ps : List Piece) → rough m ps ≤ unsound m ps
+rough_le : (m : ℕ) (ps : List Piece) → rough m ps ≤ unfull m ps
 rough_le m [] = omega arith
-rough_le m (p ∷ []) = elim (cases_Bool (is_sound m p)) [
-  | inl s ↦ rw ((is_sound-true m p s).0, s) (omega arith)
+rough_le m (p ∷ []) = elim (cases_Bool (is_full m p)) [
+  | inl s ↦ rw ((is_full-true m p s).0, s) (omega arith)
   | inr s ↦ rw s (at_most_one (is_whole p))
 ]
   where
@@ -219,12 +215,12 @@ rough_le m (p ∷ []) = elim (cases_Bool (is_sound m p)) [
     at_most_one false = omega arith
 rough_le m (p ∷ q ∷ ps) = omega arith
 
-alone : (m : ℕ) (p : Piece) → rough_piece m p false ≡ unsound m (p ∷ [])
-alone m p = elim (cases_Bool (is_sound m p)) [ inl s ↦ rw s refl | inr s ↦ rw s refl ]
+alone : (m : ℕ) (p : Piece) → rough_piece m p false ≡ unfull m (p ∷ [])
+alone m p = elim (cases_Bool (is_full m p)) [ inl s ↦ rw s refl | inr s ↦ rw s refl ]
 
 between_gaps : (m : ℕ) (p : Piece) → rough m (p ∷ []) ≤ rough_piece m p true
-between_gaps m p = elim (cases_Bool (is_sound m p)) [
-  | inl s ↦ rw ((is_sound-true m p s).0, s) (omega arith)
+between_gaps m p = elim (cases_Bool (is_full m p)) [
+  | inl s ↦ rw ((is_full-true m p s).0, s) (omega arith)
   | inr s ↦ rw s (same (is_whole p))
 ]
   where
@@ -234,14 +230,14 @@ between_gaps m p = elim (cases_Bool (is_sound m p)) [
 
 from_held : (m : ℕ) (held : List Piece) (xs : List Item)
     → ((ys : List Item) → length ys < length xs → rough_from m [] ys ≤ rough_items m true true ys)
-    → rough_from m held xs ≤ unsound m held + rough_items m false true xs
+    → rough_from m held xs ≤ unfull m held + rough_items m false true xs
 from_held m held [] f = omega (arith, rough_le m held)
 from_held m held (Gap n ∷ xs) f = omega (arith, rough_le m held, f xs (omega arith))
 from_held m held (Sound p ∷ xs) f =
     omega (
       arith,
       from_held m (held ++ p ∷ []) xs (λ ys h. f ys (omega arith)),
-      unsound-append m held (p ∷ []),
+      unfull-append m held (p ∷ []),
       alone m p,
     )
 

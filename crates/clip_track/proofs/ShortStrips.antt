@@ -1,17 +1,12 @@
 -- No piece of a part is longer than a block.
-use Rattle.std.proofs.Common.{ℕ, zero, suc, ◌+◌, ◌-◌, ◌≤◌, inl, inr, min}
-use Rattle.std.proofs.Common.{List, [], ◌∷◌, ◌++◌, arith}
-use Rattle.std.proofs.lemmas.Bool.{cases_lt}
-use Rattle.std.proofs.Math.Nat.{sub-zero}
-use Rattle.pcm_base.specs.declared.block.BlockRef.{BlockRef}
+use Rattle.std.proofs.Common.{ℕ, zero, suc, ◌+◌, ◌-◌, ◌≤◌, inl, inr, min, List, [], ◌∷◌, ◌++◌, arith}
+use Rattle.std.proofs.{lemmas.Bool.cases_lt, Math.Nat.sub-zero}
+use Rattle.pcm_base.specs.{declared.block.BlockRef.BlockRef, Blocks.AllFull, Blocks.IsHalfFull, Blocks.block_lens}
 use Rattle.pcm_base.proofs.Pieces.{piece_len-part}
-use Rattle.pcm_base.specs.Blocks.{AllFull, IsHalfFull, block_lens}
-use Rattle.clip_track.specs.declared.items.Item.{Item}
-use Rattle.clip_track.specs.declared.items.Item.TheVariants.{Gap, Sound}
-use Rattle.clip_track.specs.declared.clips.Clip.{Clip}
-use Rattle.clip_track.specs.Items.{item_len, part_of_item, part_items, gap_items}
-use Rattle.clip_track.specs.Clips.{clip_end, AllHalfFull, sound_items, items_from}
-use Rattle.clip_track.specs.Rough.{ItemShort, ItemsShort}
+use Rattle.clip_track.specs.{declared.items.Item.Item, declared.items.Item.TheVariants.Gap}
+use Rattle.clip_track.specs.{declared.items.Item.TheVariants.Sound, declared.clips.Clip.Clip, Items.item_len}
+use Rattle.clip_track.specs.{Items.part_of_item, Items.part_items, Items.gap_items, Clips.clip_end, Clips.AllHalfFull}
+use Rattle.clip_track.specs.{Clips.sound_items, Clips.items_from, Rough.ItemShort, Rough.ItemsShort}
 use Rattle.clip_track.proofs.Strips.{part_none, part_past, part_within}
 
 -- no piece is longer than a block
@@ -19,7 +14,7 @@ pub ItemsShort-append : (m : ℕ) (xs ys : List Item) → ItemsShort m xs → It
 ItemsShort-append m [] ys a b = b
 ItemsShort-append m (x ∷ xs) ys a b = (a.0, ItemsShort-append m xs ys a.1 b)
 
-short_part : (m skip n : ℕ) (x : Item) → skip + n ≤ item_len x → ItemShort m x → ItemShort m (part_of_item skip n x)
+pub short_part : (m skip n : ℕ) (x : Item) → skip + n ≤ item_len x → ItemShort m x → ItemShort m (part_of_item skip n x)
 short_part m skip n (Gap k) h a = tt
 short_part m skip n (Sound p) h a = omega (arith, piece_len-part skip n p)
 

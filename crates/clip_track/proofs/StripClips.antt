@@ -2,13 +2,12 @@
 use Rattle.std.proofs.Common.{◌≡◌, ℕ, ◌+◌, ◌-◌, ◌<◌, ◌≤◌, ℤ, List, [], ◌∷◌, ◌++◌, map, replicate, refl, sym, ap, ◌∙◌}
 use Rattle.std.proofs.Common.{append_assoc, arith}
 use Rattle.std.proofs.lemmas.List.{append-nil, replicate-append-replicate, map-append}
-use Rattle.pcm_base.specs.declared.sound.Cell.{Cell}
-use Rattle.pcm_base.specs.declared.sound.Cell.TheVariants as cell
 use Rattle.pcm_base.specs.Pieces.{Sources, total, all_samples, samples_of, AllValid}
-use Rattle.pcm_base.specs.declared.piece.Piece.{Piece}
+use Rattle.pcm_base.specs.{declared.sound.Cell.Cell, declared.piece.Piece.Piece}
 use Rattle.pcm_base.proofs.Pieces.{all_samples-append}
 use Rattle.clip_track.specs.declared.strip_clips.StripClip.{StripClip}
 use Rattle.clip_track.specs.StripClips.{strip_clip_end, clips_end, next_start, clips_cells, AreStripClips}
+use Rattle.pcm_base.specs.declared.sound.Cell.TheVariants as cell
 
 pub clips_end-push : (at : ℕ) (cs : List StripClip) (c : StripClip) → clips_end at (cs ++ c ∷ []) ≡ strip_clip_end c
 clips_end-push at [] c = refl

@@ -1,15 +1,11 @@
 -- Layouts: clips apart from each other, and the cells that they mean.
 use Rattle.std.specs.Prelude.{ℕ, ◌+◌, ◌-◌, ◌<◌, ◌≤◌, List, [], ◌∷◌, ◌++◌, map, replicate}
-use Rattle.pcm_base.specs.declared.limits.TheConstants.{MAX_CELLS}
-use Rattle.pcm_base.specs.declared.sound.Cell.{Cell}
-use Rattle.pcm_base.specs.declared.sound.Cell.TheVariants as cell
-use Rattle.pcm_base.specs.declared.block.BlockRef.{BlockRef}
-use Rattle.pcm_base.specs.Pieces.{Sources, whole}
 use Rattle.pcm_base.specs.Blocks.{IsHalfFull, NoneEmpty, block_lens, block_samples, blocks_len}
-use Rattle.clip_track.specs.declared.items.Item.{Item}
-use Rattle.clip_track.specs.declared.items.Item.TheVariants.{Sound}
-use Rattle.clip_track.specs.declared.clips.Clip.{Clip}
-use Rattle.clip_track.specs.Items.{gap_items}
+use Rattle.pcm_base.specs.{declared.limits.TheConstants.MAX_CELLS, declared.sound.Cell.Cell}
+use Rattle.pcm_base.specs.{declared.block.BlockRef.BlockRef, Pieces.Sources, Pieces.whole}
+use Rattle.clip_track.specs.{declared.items.Item.Item, declared.items.Item.TheVariants.Sound, declared.clips.Clip.Clip}
+use Rattle.clip_track.specs.{Items.gap_items}
+use Rattle.pcm_base.specs.declared.sound.Cell.TheVariants as cell
 
 abbrev pub clip_end : Clip → ℕ
 clip_end c = c.start + blocks_len c.blocks

@@ -1,16 +1,12 @@
 -- What is left of a layout from a place on.
 use Rattle.std.specs.Prelude.{◌≡◌, ℕ, ◌≤◌, ◌<◌, List, [], ◌∷◌, ◌++◌, Option, MatchOption}
-use Rattle.pcm_base.specs.declared.limits.TheConstants.{MAX_CELLS}
-use Rattle.pcm_base.specs.declared.block.BlockRef.{BlockRef}
-use Rattle.pcm_base.specs.declared.piece.Piece.TheVariants.{Old}
-use Rattle.pcm_base.specs.Blocks.{NoneEmpty}
-use Rattle.clip_track.specs.declared.items.Item.{Item}
+use Rattle.pcm_base.specs.{declared.limits.TheConstants.MAX_CELLS, declared.block.BlockRef.BlockRef}
+use Rattle.pcm_base.specs.{declared.piece.Piece.TheVariants.Old, Blocks.NoneEmpty}
 use Rattle.clip_track.specs.declared.items.Item.TheVariants.{Gap, Sound}
-use Rattle.clip_track.specs.declared.rest.Left.{Left}
-use Rattle.clip_track.specs.declared.rest.Stretch.{Stretch}
 use Rattle.clip_track.specs.declared.rest.Stretch.TheVariants.{Gaps, Block}
-use Rattle.clip_track.specs.Items.{gap_items}
 use Rattle.clip_track.specs.Clips.{AreClips, end_of, items_from, sound_items}
+use Rattle.clip_track.specs.{declared.items.Item.Item, declared.rest.Left.Left, declared.rest.Stretch.Stretch}
+use Rattle.clip_track.specs.{Items.gap_items}
 
 -- a stretch as an item of a strip
 abbrev pub stretch_item : Stretch → Item

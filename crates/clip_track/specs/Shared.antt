@@ -1,9 +1,6 @@
 -- Clips with a count of owners.
 use Rattle.std.specs.Prelude.{List, [], Option, Some, None}
-use Rattle.std.specs.Arc.{arc_value}
-use Rattle.std.specs.declared.alloc.Global.{Global}
-use Rattle.std.specs.declared.sync.Arc.{Arc}
-use Rattle.std.specs.declared.vec.Vec.{Vec}
+use Rattle.std.specs.{Arc.arc_value, declared.alloc.Global.Global, declared.sync.Arc.Arc, declared.vec.Vec.Vec}
 use Rattle.clip_track.specs.declared.clips.Clip.{Clip}
 
 -- the clips that are owned, none where there is no owner

@@ -1,9 +1,8 @@
 -- The clips of a strip: pieces that follow each other, with the place where they begin.
 use Rattle.std.specs.Prelude.{ℕ, ◌+◌, ◌-◌, ◌≤◌, ◌<◌, List, [], ◌∷◌, ◌++◌, map, replicate}
-use Rattle.pcm_base.specs.declared.sound.Cell.{Cell}
-use Rattle.pcm_base.specs.declared.sound.Cell.TheVariants as cell
-use Rattle.pcm_base.specs.Pieces.{Sources, total, all_samples, AllValid}
+use Rattle.pcm_base.specs.{declared.sound.Cell.Cell, Pieces.Sources, Pieces.total, Pieces.all_samples, Pieces.AllValid}
 use Rattle.clip_track.specs.declared.strip_clips.StripClip.{StripClip}
+use Rattle.pcm_base.specs.declared.sound.Cell.TheVariants as cell
 
 abbrev pub strip_clip_end : StripClip → ℕ
 strip_clip_end c = c.start + total c.pieces

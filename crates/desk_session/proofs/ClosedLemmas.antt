@@ -1,62 +1,36 @@
 -- What a session did to a studio, once its desk is closed.
-use Rattle.std.proofs.Common.{◌≡◌, inl, inr, ℕ, Bool, true, List, [], ◌∷◌, ◌++◌, length, Option, Some, None}
-use Rattle.std.proofs.Common.{refl, sym, ◌∙◌, ap, subst}
+use Rattle.std.proofs.Common.{◌≡◌, inl, inr, ℕ, Bool, true, List, [], ◌∷◌, ◌++◌, length, Option, Some, None, refl, sym}
+use Rattle.std.proofs.Common.{◌∙◌, ap, subst}
 use Rattle.std.specs.Prelude.{IsSomeAnd}
-use Rattle.pcm_base.specs.declared.limits.TheConstants.{COUNTER_LIMIT}
-use Rattle.pcm_base.specs.declared.command.Call.{Call}
-use Rattle.pcm_base.specs.declared.command.Call.TheVariants.{Unpin}
-use Rattle.pcm_base.specs.Counters.{commits_of}
+use Rattle.pcm_base.specs.{declared.limits.TheConstants.COUNTER_LIMIT, declared.command.Call.Call}
+use Rattle.pcm_base.specs.{declared.command.Call.TheVariants.Unpin, Counters.commits_of}
 use Rattle.disk_model.specs.declared.store.Store.{Ghosts}
-use Rattle.edit_ports.specs.declared.source.Source as source
-use Rattle.edit_ports.specs.declared.vault.Vault as vault
-use Rattle.player_work.specs.Filled.{reads_to}
-use Rattle.pin_turn.specs.declared.view.View.{View}
-use Rattle.pin_turn.specs.Counts.{Each, once_below, times}
-use Rattle.pin_turn.specs.Rule.{ByOthers}
+use Rattle.player_threads.specs.Filled.{reads_to}
+use Rattle.pin_turn.specs.{declared.view.View.View, Counts.Each, Counts.once_below, Counts.times, Rule.ByOthers}
 use Rattle.pin_turn.proofs.Sums.{Each-left}
 use Rattle.editor_state.specs.Core.{Core}
-use Rattle.studio_seats.specs.declared.deed.Deed.{Deed}
-use Rattle.studio_seats.specs.declared.held.Held.{Held}
-use Rattle.studio_seats.specs.Deeds.{actor_of, number_after}
-use Rattle.studio_seats.specs.Desks.{IsFirst}
 use Rattle.studio_seats.specs.Merge.{Commits, Numbers, any_seat, by_seat, deeds_of, numbers_of}
-use Rattle.studio_seats.specs.Leads.{HadTurn}
-use Rattle.studio_seats.specs.Onward.{Asks, places_of}
-use Rattle.studio_seats.specs.Pieces.{pieces_by}
-use Rattle.studio_seats.specs.Stands.{StandsFor, origin}
-use Rattle.studio_seats.specs.Faults.{AllServed}
-use Rattle.studio_seats.proofs.FaultLemmas.{desks_serve}
-use Rattle.studio_seats.proofs.Grown.{leads}
-use Rattle.studio_seats.proofs.MergeLemmas.{merged_numbers}
-use Rattle.script_session.specs.Calls.{IsOfScript}
-use Rattle.script_session.specs.Served.{IsUndisturbed, TellsNoDevice}
-use Rattle.script_session.proofs.ServedLemmas.{sessions_serve}
-use Rattle.script_session.specs.Added.{Adds}
-use Rattle.script_session.specs.Change.{Change, change}
-use Rattle.script_session.specs.Place.{Place, place_of}
-use Rattle.script_session.specs.Session.{Session}
-use Rattle.script_session.proofs.AddedLemmas.{sessions_add}
-use Rattle.script_session.proofs.SpentLemmas.{sessions_spend}
-use Rattle.desk_session.specs.declared.opening.Opened.{Opened}
-use Rattle.desk_session.specs.declared.side.Side.{Side}
-use Rattle.desk_session.specs.declared.side.Side.TheVariants as side
-use Rattle.desk_session.specs.declared.told.Kept.{Kept}
-use Rattle.desk_session.specs.declared.told.Told.{Told}
-use Rattle.desk_session.specs.Lent.{Kinds, Lent, Outcome}
+use Rattle.studio_seats.specs.{declared.deed.Deed.Deed, declared.held.Held.Held, Deeds.actor_of, Deeds.number_after}
+use Rattle.studio_seats.specs.{Desks.IsFirst, Leads.HadTurn, Onward.Asks, Onward.places_of, Pieces.pieces_by}
+use Rattle.studio_seats.specs.{Stands.StandsFor, Stands.origin, Faults.AllServed}
+use Rattle.studio_seats.proofs.{FaultLemmas.desks_serve, Grown.leads, MergeLemmas.merged_numbers}
+use Rattle.script_reader.specs.{Calls.IsOfScript, Served.IsUndisturbed, Served.TellsNoDevice, Added.Adds, Change.Change}
+use Rattle.script_reader.specs.{Change.change, Place.Place, Place.place_of, Answering.AnswersLines}
+use Rattle.script_reader.proofs.{ServedLemmas.scripts_serve, AddedLemmas.scripts_add, SpentLemmas.scripts_spend}
 use Rattle.desk_session.specs.Opening.{IsOpening, Opens, PinDeed, TrackDeed, play_calls, record_calls, record_commits}
-use Rattle.desk_session.specs.Parts.{NewPart, Parted}
-use Rattle.desk_session.specs.Sat.{Sat}
 use Rattle.desk_session.specs.Sessions.{IsMadeOf, IsScripted, IsSession, place_behind}
-use Rattle.desk_session.specs.Sides.{WhereMade}
 use Rattle.desk_session.specs.Sounds.{AreRecorded, IsRecorded, Recorded, piece_numbers}
-use Rattle.desk_session.proofs.EndLemmas.{reads_later, recorded_later}
-use Rattle.desk_session.proofs.ListLemmas as list
-use Rattle.desk_session.proofs.ListLemmas.{all_numbers, same_rest}
-use Rattle.desk_session.proofs.MakerLemmas.{own_deeds}
+use Rattle.desk_session.specs.{declared.side.Side.Side, declared.outcome.RecordOutcome.RecordOutcome, Lent.Kinds}
+use Rattle.desk_session.specs.{Lent.Lent, Lent.Outcome, Parts.NewPart, Parts.Parted, Sat.Sat, Sides.WhereMade}
 use Rattle.desk_session.proofs.OpeningLemmas.{own_later, pin_later, track_later}
 use Rattle.desk_session.proofs.RecordedLemmas.{no_numbers, piece_commits, pieces_in}
-use Rattle.desk_session.proofs.RejoinLemmas.{own_mine}
-use Rattle.desk_session.proofs.SideLemmas.{some_as, where_both}
+use Rattle.desk_session.proofs.{EndLemmas.reads_later, EndLemmas.recorded_later, ListLemmas.all_numbers}
+use Rattle.desk_session.proofs.{ListLemmas.same_rest, MakerLemmas.own_deeds, RejoinLemmas.own_mine, SideLemmas.some_as}
+use Rattle.desk_session.proofs.{SideLemmas.where_both}
+use Rattle.edit_ports.specs.declared.source.Source as source
+use Rattle.edit_ports.specs.declared.vault.Vault as vault
+use Rattle.desk_session.specs.declared.side.Side.TheVariants as side
+use Rattle.desk_session.proofs.ListLemmas as list
 
 -- the player's calls are no commits
 pub quiet : (pin : Side) (c : Call) → play_calls pin c → commits_of c ≡ 0
@@ -67,20 +41,20 @@ quiet (side.Refused why) c h = absurd h
 
 module _ {D V M : Type 0} {disk : Ghosts D} (mics : source.Ghosts M) (mic : Change M) (first track : ℕ)
     (v w : View (Held D V disk) Deed) (spent : Bool) (own : List Deed) where
-  abbrev IsRecording : Side → Option Kept → Type 0
+  abbrev IsRecording : Side → Option RecordOutcome → Type 0
   IsRecording made kept = WhereMade made
       (λ tag. IsSomeAnd kept
       (Recorded mics mic (change [] (pieces_by track tag w.number first w.seen)) spent own))
       ((kept ≡ None) × (mic.now ≡ mic.before))
 
-  no_pieces : (fits : Call → Type 0) → ((c : Call) → fits c → ⊥) → (kept : Option Kept) (h : NewPart fits v w)
+  no_pieces : (fits : Call → Type 0) → ((c : Call) → fits c → ⊥) → (kept : Option RecordOutcome) (h : NewPart fits v w)
       → kept ≡ None
       → numbers_of (by_seat w.number) (number_after first v.seen) h.part.added ≡ piece_numbers kept
   no_pieces fits never kept h none =
       no_numbers fits never w.number (number_after first v.seen) h.part.added h.part.asks ∙ sym (ap piece_numbers none)
 
   -- the numbers of the recorder's seat are those of the pieces
-  pieces_are : (made : Side) (kept : Option Kept) (h : NewPart (record_calls track made) v w)
+  pieces_are : (made : Side) (kept : Option RecordOutcome) (h : NewPart (record_calls track made) v w)
       → IsRecording made kept → numbers_of (by_seat w.number) (number_after first v.seen) h.part.added ≡ piece_numbers kept
   pieces_are side.NotAsked kept h r = no_pieces (record_calls track side.NotAsked) (λ c k. k) kept h r.0
   pieces_are (side.Made tag) None h r = absurd r
@@ -97,23 +71,9 @@ module _ {D V M P : Type 0} (k : Kinds D V M P) (start final : Core D) (mid : V)
     (stands : StandsFor (origin k.disk k.vaults start) final w.seen)
     (counts : (k : ℕ) → times k w.mine ≡ once_below k (length w.seen))
     (turns : w.used_up ≡ true → length w.seen ≡ COUNTER_LIMIT) where
-  abbrev disk : Ghosts D
-  disk = k.disk
-
-  abbrev vaults : vault.Ghosts V
-  vaults = k.vaults
-
-  abbrev told : Told
-  told = out.told
-
-  abbrev opened : Opened
-  opened = out.opened
-
-  abbrev before : V
-  before = lent.vault.before
-
-  abbrev after : V
-  after = lent.vault.now
+  open k use {disk, vaults}
+  open out use {told, opened}
+  open lent use {vault.{before, now as after}}
 
   abbrev n : ℕ
   n = start.commit_number
@@ -181,12 +141,10 @@ module _ {D V M P : Type 0} (k : Kinds D V M P) (start final : Core D) (mid : V)
   }
 
   abbrev p : Place
-  p = place_behind n start.rate v.seen v.used_up (vaults.tells before) (vaults.holds before)
-      (vaults.fault_count before)
+  p = place_behind n start.rate v.seen v.used_up (vaults.tells before) (vaults.holds before) (vaults.fault_count before)
 
   abbrev q : Place
-  q = place_of start s.script s.ran.0 told.commits (vaults.tells after) (vaults.holds after)
-      (vaults.fault_count after)
+  q = place_of start s.script s.ran.0 told.commits (vaults.tells after) (vaults.holds after) (vaults.fault_count after)
 
   begins : place_of start v last [] (vaults.tells mid) (vaults.holds mid) (vaults.fault_count mid) ≡ p
   begins = λ i. record {
@@ -202,11 +160,11 @@ module _ {D V M P : Type 0} (k : Kinds D V M P) (start final : Core D) (mid : V)
     faults = vaults.fault_count (same i);
   }
 
-  session : Session p s.ran.1.lines s.ran.1.printed.answers q
-  session = subst (λ (z : Place). Session z s.ran.1.lines s.ran.1.printed.answers q) begins s.ran.1.printed.session
+  by_line : AnswersLines p s.ran.1.lines s.ran.1.printed.answers q
+  by_line = subst (λ (z : Place). AnswersLines z s.ran.1.lines s.ran.1.printed.answers q) begins s.ran.1.printed.line_by_line
 
   adds : Adds p q
-  adds = sessions_add s.ran.1.lines s.ran.1.printed.answers p q session
+  adds = scripts_add s.ran.1.lines s.ran.1.printed.answers p q by_line
 
   more_is : adds.added ≡ s.seats.by_script.added
   more_is = same_rest v.seen adds.added s.seats.by_script.added (sym adds.seen ∙ s.seats.by_script.seen)
@@ -231,7 +189,7 @@ module _ {D V M P : Type 0} (k : Kinds D V M P) (start final : Core D) (mid : V)
     no = s.ran.1.printed.no;
     used_up = v.used_up;
     last = q;
-    session = session;
+    line_by_line = by_line;
     later = s.seats.more_script;
     seen = sym whole ∙ s.seats.script_is;
     by_others = subst (λ (a : ℕ). ByOthers actor_of (a ∷ []) s.seats.more_script) is_zero
@@ -242,7 +200,7 @@ module _ {D V M P : Type 0} (k : Kinds D V M P) (start final : Core D) (mid : V)
         (list.script_numbers n pieces reads x s.seats (quiet opened.pin) own counts
         (number_after n v.seen));
     found = s.seats.script_spent;
-    tell_spent = λ had told. s.seats.script_spent ((sessions_spend s.ran.1.lines s.ran.1.printed.answers p q session).found
+    tell_spent = λ had told. s.seats.script_spent ((scripts_spend s.ran.1.lines s.ran.1.printed.answers p q by_line).found
         (Each-left HadTurn q.seen s.seats.more_script
         (subst (λ (l : List Deed). Each HadTurn l) (sym whole ∙ s.seats.script_is) had)) told);
     ends = (refl, refl, refl);
@@ -277,7 +235,7 @@ module _ {D V M P : Type 0} (k : Kinds D V M P) (start final : Core D) (mid : V)
       let whole_is : StandsFor (origin disk vaults start) final (q.seen ++ s.seats.more_script) =
       subst (λ (l : List Deed). StandsFor (origin disk vaults start) final l) s.seats.script_is stands in
       let fair =
-      sessions_serve disk vaults s.ran.1.lines s.ran.1.printed.answers p q start final s.seats.more_script session
+      scripts_serve disk vaults s.ran.1.lines s.ran.1.printed.answers p q start final s.seats.more_script by_line
       whole_is (subst (λ (l : List Deed). IsUndisturbed (origin disk vaults start) final l
       (change (vaults.fault_count before) (vaults.fault_count after))) s.seats.script_is h) in
       let is : fair.added ≡ s.seats.by_script.added =

@@ -1,29 +1,22 @@
 -- How the deeds of the recorder's and of the player's seat end.
 use Rattle.std.proofs.Common.{◌≡◌, ⊎_elim, inl, inr, ℕ, Bool, true, List, ◌++◌, Option, None, refl, sym, ◌∙◌, ap, subst}
 use Rattle.std.proofs.Common.{append_assoc}
-use Rattle.pcm_base.specs.declared.command.Call.{Call}
-use Rattle.pcm_base.specs.declared.command.Call.TheVariants.{Unpin}
-use Rattle.pcm_base.specs.declared.refusal.Refusal.{Refusal}
-use Rattle.pcm_base.specs.declared.sound.Frame.{Frame}
+use Rattle.pcm_base.specs.{declared.command.Call.Call, declared.command.Call.TheVariants.Unpin}
+use Rattle.pcm_base.specs.{declared.refusal.Refusal.Refusal, declared.sound.Frame.Frame}
 use Rattle.disk_model.specs.declared.store.Store.{Ghosts}
 use Rattle.edit_ports.specs.Answers.{AtEnd, NextAt, Reading, RefusedAt}
-use Rattle.edit_ports.specs.declared.sink.Sink as sink
-use Rattle.player_work.specs.Filled.{reads_to}
+use Rattle.player_threads.specs.Filled.{reads_to}
 use Rattle.pin_turn.specs.declared.view.View.{View}
-use Rattle.studio_seats.specs.declared.deed.Deed.{Deed}
-use Rattle.studio_seats.specs.declared.held.Held.{Held}
-use Rattle.studio_seats.specs.Merge.{by_seat, deeds_of}
 use Rattle.studio_seats.specs.Onward.{IsReadOf, Onward, worker}
 use Rattle.studio_seats.specs.Reads.{EndReads, ReadsOn, ReadsTo}
 use Rattle.studio_seats.specs.Recording.{RecorderAsks, RecordsOn, asks_piece, recorder}
-use Rattle.studio_seats.proofs.MergeLemmas.{deeds_append}
-use Rattle.studio_seats.proofs.WorkLemmas.{ends_later}
-use Rattle.script_session.specs.Change.{Change}
-use Rattle.desk_session.specs.declared.told.Heard.{Heard}
-use Rattle.desk_session.specs.Opening.{LetsGo, OwnDeed}
-use Rattle.desk_session.specs.Parts.{Part}
+use Rattle.studio_seats.specs.{declared.deed.Deed.Deed, declared.held.Held.Held, Merge.by_seat, Merge.deeds_of}
+use Rattle.studio_seats.proofs.{MergeLemmas.deeds_append, WorkLemmas.ends_later}
+use Rattle.script_reader.specs.Change.{Change}
 use Rattle.desk_session.specs.Sounds.{AreRecorded, IsPlayed, Played}
+use Rattle.desk_session.specs.{declared.outcome.PlayOutcome.PlayOutcome, Opening.LetsGo, Opening.OwnDeed, Parts.Part}
 use Rattle.desk_session.proofs.ListLemmas.{same_rest}
+use Rattle.edit_ports.specs.declared.sink.Sink as sink
 
 -- a seat that found that no turn is left still knows
 pub recorded_later : (a b : Bool) (told : Option Refusal) (ds : List Deed) → (a ≡ true → b ≡ true)
@@ -79,7 +72,7 @@ module _ {D V : Type 0} {disk : Ghosts D} where
 
   -- a player's seat, which then releases the pin
   module _ {P : Type 0} (speakers : sink.Ghosts P) (speaker : Change P) (shows : List Frame → Type 0)
-      (pin first place : ℕ) (v o u w : View (Held D V disk) Deed) (heard : Heard) (same : o.seen ≡ v.seen)
+      (pin first place : ℕ) (v o u w : View (Held D V disk) Deed) (heard : PlayOutcome) (same : o.seen ≡ v.seen)
       (reads : ReadsOn pin (reads_to heard.refused place) (worker o None) (worker u heard.refused))
       (lets : LetsGo first pin u w)
       (other : Call → Type 0) (p : Part other v w) (played : IsPlayed speakers speaker shows place heard)

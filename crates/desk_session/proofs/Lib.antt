@@ -10,4 +10,3 @@ pub mod SoundLemmas
 pub mod SeatLemmas
 pub mod EndLemmas
 pub mod ClosedLemmas
-pub mod LentLemmas

@@ -1,28 +1,22 @@
 -- The list of a session, by its makers.
-use Rattle.std.proofs.Common.{◌≡◌, ◌≢◌, ℕ, ◌+◌, ◌<◌, nat_lt, ◌||◌, Bool, true, false, List, [], ◌∷◌, ◌++◌, length}
-use Rattle.std.proofs.Common.{drop, refl, sym, ◌∙◌, ap, subst, arith, append_assoc, Result, Ok, Err}
-use Rattle.std.proofs.lemmas.List.{append-nil}
-use Rattle.std.proofs.Math.Seq.{drop-append_seam}
-use Rattle.pcm_base.specs.declared.answer.Reply.{Reply}
-use Rattle.pcm_base.specs.declared.command.Call.{Call}
-use Rattle.pcm_base.specs.declared.refusal.Refusal.{Refusal}
-use Rattle.pcm_base.specs.Counters.{commits_of}
+use Rattle.std.proofs.Common.{◌≡◌, ◌≢◌, ℕ, ◌+◌, ◌<◌, nat_lt, ◌||◌, Bool, true, false, List, [], ◌∷◌, ◌++◌, length, drop}
+use Rattle.std.proofs.Common.{refl, sym, ◌∙◌, ap, subst, arith, append_assoc, Result, Ok, Err}
+use Rattle.std.proofs.{lemmas.List.append-nil, Math.Seq.drop-append_seam}
+use Rattle.pcm_base.specs.{declared.answer.Reply.Reply, declared.command.Call.Call, declared.refusal.Refusal.Refusal}
+use Rattle.pcm_base.specs.{Counters.commits_of}
 use Rattle.disk_model.specs.declared.store.Store.{Ghosts}
-use Rattle.pin_turn.specs.Counts.{Each, once_below, times}
-use Rattle.pin_turn.specs.Rule.{ByOthers}
+use Rattle.pin_turn.specs.{Counts.Each, Counts.once_below, Counts.times, Rule.ByOthers}
 use Rattle.pin_turn.proofs.Sums.{Each-left, Each-right}
-use Rattle.studio_seats.specs.declared.deed.Deed.{Deed}
-use Rattle.studio_seats.specs.Deeds as deeds
 use Rattle.studio_seats.specs.Deeds.{actor_of, commits, is_commit, number_after, raised_by}
 use Rattle.studio_seats.specs.Merge.{Merged, SplitsIn, any_seat, by_seat, deeds_of, numbers_if, numbers_of, one_if}
-use Rattle.studio_seats.specs.Onward.{Asks, places_of}
-use Rattle.studio_seats.proofs.FreeingLemmas.{same_seat}
+use Rattle.studio_seats.specs.{declared.deed.Deed.Deed, Onward.Asks, Onward.places_of}
 use Rattle.studio_seats.proofs.MergeLemmas.{deeds_append, deeds_others, numbers_append, numbers_others}
-use Rattle.studio_seats.proofs.OnwardLemmas.{asks_others, each_append}
-use Rattle.script_session.specs.Calls.{IsOfScript}
+use Rattle.studio_seats.proofs.{FreeingLemmas.same_seat, OnwardLemmas.asks_others, OnwardLemmas.each_append}
+use Rattle.script_reader.specs.Calls.{IsOfScript}
 use Rattle.desk_session.specs.Makers.{Apart, Made, Parts, Seats, is_by}
 use Rattle.desk_session.specs.Parts.{Parted, Rejoined}
 use Rattle.desk_session.proofs.PartLemmas.{parts_made}
+use Rattle.studio_seats.specs.Deeds as deeds
 
 pub same_rest : (xs a b : List Deed) → xs ++ a ≡ xs ++ b → a ≡ b
 same_rest xs a b e = sym (drop-append_seam xs a) ∙ (ap (drop (length xs)) e ∙ drop-append_seam xs b)
@@ -106,8 +100,7 @@ all_numbers kind n (e ∷ es) h =
     (λ i. numbers_if (h.0 i) (deeds.made e) n ++ all_numbers kind (raised_by e n) es h.1 i)
 
 module _ {D V : Type 0} {disk : Ghosts D} (first : ℕ) (pieces reads : Call → Type 0) (x : Parted D V disk)
-    (h : Rejoined pieces reads x)
-    (quiet : (c : Call) → reads c → commits_of c ≡ 0)
+    (h : Rejoined pieces reads x) (quiet : (c : Call) → reads c → commits_of c ≡ 0)
     (own : x.seat.mine ≡ places_of (by_seat x.seat.number) 0 x.seat.seen)
     (counts : (k : ℕ) → times k x.joined.mine ≡ once_below k (length x.joined.seen)) where
   abbrev pub seats : Seats

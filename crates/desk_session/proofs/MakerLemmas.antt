@@ -4,9 +4,7 @@ use Rattle.std.proofs.Common.{length, refl, sym, ◌∙◌, ap, arith}
 use Rattle.std.proofs.lemmas.Bool.Decides.{nat_tests}
 use Rattle.pin_turn.specs.Counts.{Each, once_below, times}
 use Rattle.pin_turn.proofs.Sums.{times-append}
-use Rattle.studio_seats.specs.declared.deed.Deed.{Deed}
-use Rattle.studio_seats.specs.Merge.{deeds_of, one_if}
-use Rattle.studio_seats.specs.Onward.{places_of}
+use Rattle.studio_seats.specs.{declared.deed.Deed.Deed, Merge.deeds_of, Merge.one_if, Onward.places_of}
 
 pub times_if : (b : Bool) (k n : ℕ) → k < n → times n (if b then k ∷ [] else []) ≡ 0
 times_if true k n h = grind (arith, nat_tests)

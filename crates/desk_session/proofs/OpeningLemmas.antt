@@ -3,38 +3,27 @@ use Rattle.std.proofs.Common.{◌≡◌, inl, inr, ⊎_elim, ℕ, zero, suc, ◌
 use Rattle.std.proofs.Common.{List, [], ◌∷◌, ◌++◌, Result, Ok, Err, refl, sym, ◌∙◌, ap, subst, arith, append_assoc}
 use Rattle.std.proofs.Common.{eq-eqb}
 use Rattle.std.proofs.lemmas.List.{append-nil}
-use Rattle.pcm_base.specs.declared.answer.Reply.{Reply}
-use Rattle.pcm_base.specs.declared.answer.Reply.TheVariants as reply
-use Rattle.pcm_base.specs.declared.command.Call.{Call}
 use Rattle.pcm_base.specs.declared.command.Call.TheVariants.{Line, Pin, Unpin}
-use Rattle.pcm_base.specs.declared.command.Command.TheVariants.{Track}
-use Rattle.pcm_base.specs.declared.refusal.Refusal.{Refusal}
-use Rattle.pcm_base.specs.declared.said.Said.{Said}
-use Rattle.pcm_base.specs.Arithmetic.{counted_from}
-use Rattle.pcm_base.specs.Counters.{commits_of}
+use Rattle.pcm_base.specs.{declared.answer.Reply.Reply, declared.command.Call.Call}
+use Rattle.pcm_base.specs.{declared.command.Command.TheVariants.Track, declared.refusal.Refusal.Refusal}
+use Rattle.pcm_base.specs.{declared.said.Said.Said, Arithmetic.counted_from, Counters.commits_of}
 use Rattle.disk_model.specs.declared.store.Store.{Ghosts}
-use Rattle.edit_ports.specs.declared.vault.Vault as vault
 use Rattle.pin_turn.specs.declared.view.View.{View}
-use Rattle.editor_state.specs.Core.{Core}
-use Rattle.editor_state.specs.Took.{silent, told_by}
-use Rattle.studio_seats.specs.declared.deed.Deed.{Deed}
-use Rattle.studio_seats.specs.declared.held.Held.{Held}
+use Rattle.editor_state.specs.{Core.Core, Took.silent, Took.as_reply}
 use Rattle.studio_seats.specs.Deeds.{commits, deed, number_after}
 use Rattle.studio_seats.specs.Desks.{Says, Spends, Turned, asked, spent, views}
 use Rattle.studio_seats.specs.Merge.{by_seat, deeds_of, numbers_of}
-use Rattle.studio_seats.specs.Onward.{Onward}
-use Rattle.studio_seats.specs.Stands.{origin}
-use Rattle.studio_seats.proofs.Grown.{number_append}
+use Rattle.studio_seats.specs.{declared.deed.Deed.Deed, declared.held.Held.Held, Onward.Onward, Stands.origin}
 use Rattle.studio_seats.proofs.MergeLemmas.{deeds_append, deeds_others, numbers_append, numbers_others}
 use Rattle.studio_seats.proofs.OnwardLemmas.{onward_on, onward_self, onward_turn}
-use Rattle.studio_seats.proofs.Turns.{number_on, turned_number}
-use Rattle.desk_session.specs.declared.opening.Opened.{Opened}
-use Rattle.desk_session.specs.declared.side.Side.{Side}
-use Rattle.desk_session.specs.declared.side.Side.TheVariants as side
+use Rattle.studio_seats.proofs.{Grown.number_append, Turns.number_on, Turns.turned_number}
 use Rattle.desk_session.specs.Opening.{IsOpening, LetsGo, MakesCall, Opens, OwnDeed, PinDeed, TellsNumber, TrackDeed}
 use Rattle.desk_session.specs.Opening.{record_commits}
-use Rattle.desk_session.specs.Sides.{IfMade, made_by}
+use Rattle.desk_session.specs.{declared.opening.Opened.Opened, declared.side.Side.Side, Sides.IfMade, Sides.made_by}
 use Rattle.desk_session.proofs.ListLemmas.{same_rest}
+use Rattle.pcm_base.specs.declared.answer.Reply.TheVariants as reply
+use Rattle.edit_ports.specs.declared.vault.Vault as vault
+use Rattle.desk_session.specs.declared.side.Side.TheVariants as side
 
 own_one : (seat : ℕ) (call : Call) (what : Result Reply Refusal)
     → deeds_of (by_seat seat) (deed seat call what silent ∷ []) ≡ deed seat call what silent ∷ []
@@ -66,8 +55,7 @@ nothing_more : (xs ys : List Deed) → xs ≡ xs ++ ys → ys ≡ []
 nothing_more xs ys h = same_rest xs ys [] (sym h ∙ sym (append-nil xs))
 
 module _ {D V A : Type 0} (disk : Ghosts D) (vaults : vault.Ghosts V) (start : Core D) (v w : View (Held D V disk) Deed)
-    (fits : Call → Type 0) (call : Call)
-    (what : Result Reply Refusal) (said : Said A) (fit : fits call)
+    (fits : Call → Type 0) (call : Call) (what : Result Reply Refusal) (said : Said A) (fit : fits call)
     (none : (why : Refusal) → said.what ≡ Err why → what ≡ Err why) (few : commits_of call ≤ 1) where
   turned : (x : Turned (origin disk vaults start) (asked call what silent) said.at (views v w))
       → MakesCall fits start.commit_number (OwnDeed w.used_up v.number call what) (numbers_told (commits what call) said.at) v w
@@ -195,8 +183,7 @@ tag_on (side.Made tag) first seen seen' more is h =
 tag_on (side.Refused why) first seen seen' more is h = tt
 
 module _ {D V A : Type 0} (disk : Ghosts D) (vaults : vault.Ghosts V) (start : Core D) (v w : View (Held D V disk) Deed)
-    (call : Call)
-    (what : Result Reply Refusal) (said : Said A) where
+    (call : Call) (what : Result Reply Refusal) (said : Said A) where
   told_turn : (x : Turned (origin disk vaults start) (asked call what silent) said.at (views v w))
       → TellsNumber start.commit_number v said.at w
   told_turn x = λ last is.
@@ -221,16 +208,27 @@ module _ {D V A : Type 0} (disk : Ghosts D) (vaults : vault.Ghosts V) (start : C
       → TellsNumber start.commit_number v said.at w
   tells_number h = ⊎_elim told_turn told_spent h
 
+-- where no call is made, 0 is answered
+pub tells_none : {D V : Type 0} {disk : Ghosts D} (first : ℕ) (v : View (Held D V disk) Deed) → TellsNumber first v 0 v
+tells_none first v = λ last is. let stays : max last 0 ≡ last = omega arith in stays ∙ is
+
+-- after two calls the higher of both answers is the number
+pub tells_both : {D V : Type 0} {disk : Ghosts D} (first : ℕ) (u v w : View (Held D V disk) Deed) (one two at : ℕ)
+    → TellsNumber first u one v → TellsNumber first v two w → at ≡ max one two → TellsNumber first u at w
+tells_both first u v w one two at h k is = λ last here.
+    let same : max last at ≡ max (max last one) two = omega (arith, is) in
+    same ∙ k (max last one) (h last here)
+
 module _ {D V A : Type 0} (disk : Ghosts D) (vaults : vault.Ghosts V) (start : Core D) (v w : View (Held D V disk) Deed)
     (f : A → Reply) (said : Said A)
-    (says : Says (origin disk vaults start) (asked (Line Track) (told_by f said.what) silent) said (views v w)) where
+    (says : Says (origin disk vaults start) (asked (Line Track) (as_reply f said.what) silent) said (views v w)) where
   abbrev told : Result Reply Refusal
-  told = told_by f said.what
+  told = as_reply f said.what
 
   called : MakesCall IsOpening start.commit_number (OwnDeed w.used_up v.number (Line Track) told)
       (numbers_told (commits told (Line Track)) said.at) v w
   called = opens_call disk vaults start v w IsOpening (Line Track) told said (inl refl)
-      (λ why is. ap (λ (r : Result A Refusal). told_by f r) is) (let one : 1 ≤ 1 = omega arith in one) says
+      (λ why is. ap (λ (r : Result A Refusal). as_reply f r) is) (let one : 1 ≤ 1 = omega arith in one) says
 
   -- a new track
   pub track_made : (x : A) → said.what ≡ Ok x
@@ -238,8 +236,8 @@ module _ {D V A : Type 0} (disk : Ghosts D) (vaults : vault.Ghosts V) (start : C
       (record_commits (side.Made said.at)) v w
   track_made x is = opens_as start.commit_number (OwnDeed w.used_up v.number (Line Track) told)
       (TrackDeed w.used_up v.number (side.Made said.at)) (numbers_told (commits told (Line Track)) said.at) (said.at ∷ []) v w
-      (λ own h. (f x, subst (λ (r : Result A Refusal). OwnDeed w.used_up v.number (Line Track) (told_by f r) own) is h))
-      (ap (λ (r : Result A Refusal). numbers_told (commits (told_by f r) (Line Track)) said.at) is) called
+      (λ own h. (f x, subst (λ (r : Result A Refusal). OwnDeed w.used_up v.number (Line Track) (as_reply f r) own) is h))
+      (ap (λ (r : Result A Refusal). numbers_told (commits (as_reply f r) (Line Track)) said.at) is) called
 
   taken_above : (x : A) → said.what ≡ Ok x
       → Turned (origin disk vaults start) (asked (Line Track) told silent) said.at (views v w) → 1 ≤ said.at
@@ -249,7 +247,7 @@ module _ {D V A : Type 0} (disk : Ghosts D) (vaults : vault.Ghosts V) (start : C
       let at : said.at ≡ number_after n (v.seen ++ t.between) + commits told (Line Track) =
       t.number ∙ (turned_number t ∙ number_append n (v.seen ++ t.between) (e ∷ [])) in
       let one : said.at ≡ number_after n (v.seen ++ t.between) + 1 =
-      at ∙ ap (λ (r : Result A Refusal). number_after n (v.seen ++ t.between) + commits (told_by f r) (Line Track)) is
+      at ∙ ap (λ (r : Result A Refusal). number_after n (v.seen ++ t.between) + commits (as_reply f r) (Line Track)) is
       in omega (arith, one)
 
   -- its number is a commit number, up to the last that the seat knows
@@ -271,42 +269,41 @@ module _ {D V A : Type 0} (disk : Ghosts D) (vaults : vault.Ghosts V) (start : C
       (record_commits (side.Refused why)) v w
   track_refused why is = opens_as start.commit_number (OwnDeed w.used_up v.number (Line Track) told)
       (TrackDeed w.used_up v.number (side.Refused why)) (numbers_told (commits told (Line Track)) said.at) [] v w
-      (λ own h. subst (λ (r : Result A Refusal). OwnDeed w.used_up v.number (Line Track) (told_by f r) own) is h)
-      (ap (λ (r : Result A Refusal). numbers_told (commits (told_by f r) (Line Track)) said.at) is) called
+      (λ own h. subst (λ (r : Result A Refusal). OwnDeed w.used_up v.number (Line Track) (as_reply f r) own) is h)
+      (ap (λ (r : Result A Refusal). numbers_told (commits (as_reply f r) (Line Track)) said.at) is) called
 
 pin_deed : (used_up : Bool) (seat : ℕ) (r : Result ℕ Refusal) (own : List Deed)
-    → OwnDeed used_up seat Pin (told_by reply.Pinned r) own → PinDeed used_up seat (made_by r) own
+    → OwnDeed used_up seat Pin (as_reply reply.Pinned r) own → PinDeed used_up seat (made_by r) own
 pin_deed used_up seat (Ok pin) own h = h
 pin_deed used_up seat (Err why) own h = h
 
-no_numbers : (r : Result ℕ Refusal) (at : ℕ) → numbers_told (commits (told_by reply.Pinned r) Pin) at ≡ []
+no_numbers : (r : Result ℕ Refusal) (at : ℕ) → numbers_told (commits (as_reply reply.Pinned r) Pin) at ≡ []
 no_numbers (Ok pin) at = refl
 no_numbers (Err why) at = refl
 
 -- a pin
 pub pinned : {D V : Type 0} (disk : Ghosts D) (vaults : vault.Ghosts V) (start : Core D)
-    (v w : View (Held D V disk) Deed)
-    (said : Said ℕ)
-    → Says (origin disk vaults start) (asked Pin (told_by reply.Pinned said.what) silent) said (views v w)
+    (v w : View (Held D V disk) Deed) (said : Said ℕ)
+    → Says (origin disk vaults start) (asked Pin (as_reply reply.Pinned said.what) silent) said (views v w)
     → MakesCall IsOpening start.commit_number (PinDeed w.used_up v.number (made_by said.what)) [] v w
 pinned {D} {V} disk vaults start v w said says =
-    let told = told_by reply.Pinned said.what in
+    let told = as_reply reply.Pinned said.what in
     opens_as start.commit_number (OwnDeed w.used_up v.number Pin told)
     (PinDeed w.used_up v.number (made_by said.what)) (numbers_told (commits told Pin) said.at) [] v w
     (pin_deed w.used_up v.number said.what) (no_numbers said.what said.at)
     (opens_call disk vaults start v w IsOpening Pin told said (inr refl)
-    (λ why is. ap (λ (r : Result ℕ Refusal). told_by reply.Pinned r) is) (let none : 0 ≤ 1 = omega arith in none) says)
+    (λ why is. ap (λ (r : Result ℕ Refusal). as_reply reply.Pinned r) is) (let none : 0 ≤ 1 = omega arith in none) says)
 
 -- a pin was released
 pub lets_go : {D V : Type 0} (disk : Ghosts D) (vaults : vault.Ghosts V) (start : Core D)
     (v w : View (Held D V disk) Deed)
     (pin : ℕ) (said : Said (Unit {0}))
-    → Says (origin disk vaults start) (asked (Unpin pin) (told_by (λ _. reply.Done) said.what) silent) said (views v w)
+    → Says (origin disk vaults start) (asked (Unpin pin) (as_reply (λ _. reply.Done) said.what) silent) said (views v w)
     → LetsGo start.commit_number pin v w
 lets_go {D} {V} disk vaults start v w pin said says =
-    let told = told_by (λ _. reply.Done) said.what in
+    let told = as_reply (λ _. reply.Done) said.what in
     let called = opens_call disk vaults start v w (λ call. call ≡ Unpin pin) (Unpin pin) told said refl
-    (λ why is. ap (λ (r : Result (Unit {0}) Refusal). told_by (λ _. reply.Done) r) is)
+    (λ why is. ap (λ (r : Result (Unit {0}) Refusal). as_reply (λ _. reply.Done) r) is)
     (let none : 0 ≤ 1 = omega arith in none) says in
     record {
       what = told;
@@ -318,6 +315,6 @@ lets_go {D} {V} disk vaults start v w pin said says =
     }
   where
     no_unpin : (r : Result (Unit {0}) Refusal) (at : ℕ)
-        → numbers_told (commits (told_by (λ _. reply.Done) r) (Unpin pin)) at ≡ []
+        → numbers_told (commits (as_reply (λ _. reply.Done) r) (Unpin pin)) at ≡ []
     no_unpin (Ok _) at = refl
     no_unpin (Err why) at = refl

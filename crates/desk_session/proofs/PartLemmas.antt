@@ -2,15 +2,10 @@
 use Rattle.std.proofs.Common.{◌≡◌, ◌≢◌, ℕ, ◌+◌, ◌<◌, ◌≤◌, ◌==◌, ◌||◌, if◌then◌else◌, Bool, true, false, List, [], ◌∷◌}
 use Rattle.std.proofs.Common.{◌++◌, length, sym, ◌∙◌, ap, subst, refl, arith}
 use Rattle.std.proofs.lemmas.List.{length-append}
-use Rattle.pin_turn.specs.Counts.{Each, times}
-use Rattle.pin_turn.specs.Rule.{ByOthers}
+use Rattle.pin_turn.specs.{Counts.Each, Counts.times, Rule.ByOthers}
 use Rattle.pin_turn.proofs.Sums.{times-append}
-use Rattle.studio_seats.specs.declared.deed.Deed.{Deed}
-use Rattle.studio_seats.specs.Deeds.{actor_of}
-use Rattle.studio_seats.specs.Merge.{by_seat}
-use Rattle.studio_seats.specs.Onward.{places_of}
-use Rattle.studio_seats.proofs.FreeingLemmas.{same_seat}
-use Rattle.studio_seats.proofs.OnwardLemmas.{places_append}
+use Rattle.studio_seats.specs.{declared.deed.Deed.Deed, Deeds.actor_of, Merge.by_seat, Onward.places_of}
+use Rattle.studio_seats.proofs.{FreeingLemmas.same_seat, OnwardLemmas.places_append}
 use Rattle.desk_session.specs.Makers.{Apart, Made, Parts, PartsMade, Seats}
 use Rattle.desk_session.proofs.MakerLemmas.{each_has, sum_of, times_if}
 

@@ -1,30 +1,21 @@
 -- The numbers of a recording are those of its commits.
-use Rattle.std.proofs.Common.{◌≡◌, inl, inr, ℕ, ◌<◌, ◌≤◌, ◌==◌, ◌&&◌, ℤ, Bool, true, false, List, [], ◌∷◌, ◌++◌}
-use Rattle.std.proofs.Common.{length, take, Option, Some, None, refl, sym, ◌∙◌, ap, subst, arith, eq-eqb}
-use Rattle.std.specs.List.{zip}
+use Rattle.std.proofs.Common.{◌≡◌, inl, inr, ℕ, ◌<◌, ◌≤◌, ◌==◌, ◌&&◌, ℤ, Bool, true, false, List, [], ◌∷◌, ◌++◌, length}
+use Rattle.std.proofs.Common.{take, Option, Some, None, refl, sym, ◌∙◌, ap, subst, arith, eq-eqb}
 use Rattle.std.proofs.lemmas.List.{append-nil}
-use Rattle.pcm_base.specs.declared.command.Call.{Call}
-use Rattle.pcm_base.specs.declared.refusal.Refusal.{Refusal}
-use Rattle.pcm_base.specs.Counters.{commits_of}
+use Rattle.std.specs.List.{zip}
+use Rattle.pcm_base.specs.{declared.command.Call.Call, declared.refusal.Refusal.Refusal, Counters.commits_of}
 use Rattle.disk_model.specs.declared.store.Store.{Ghosts}
-use Rattle.pin_turn.specs.declared.view.View.{View}
-use Rattle.pin_turn.specs.Counts.{Each}
-use Rattle.pin_turn.specs.Rule.{ByOthers}
-use Rattle.studio_seats.specs.declared.deed.Deed.{Deed}
-use Rattle.studio_seats.specs.declared.held.Held.{Held}
+use Rattle.pin_turn.specs.{declared.view.View.View, Counts.Each, Rule.ByOthers}
 use Rattle.studio_seats.specs.Deeds.{actor_of, is_commit, made, number_after, raised_by}
 use Rattle.studio_seats.specs.Merge.{OnlyPieces, by_seat, is_piece, numbers_if, numbers_in, numbers_of}
-use Rattle.studio_seats.specs.Onward.{Asks, IsPieceOf}
-use Rattle.studio_seats.specs.Pieces.{pieces_by}
-use Rattle.studio_seats.specs.Recording.{RecorderAsks}
-use Rattle.studio_seats.proofs.FreeingLemmas.{same_seat}
-use Rattle.studio_seats.proofs.MergeLemmas.{numbers_append, numbers_others, pieces_are_chunks}
-use Rattle.studio_seats.proofs.OnwardLemmas.{each_append}
+use Rattle.studio_seats.specs.{declared.deed.Deed.Deed, declared.held.Held.Held, Onward.Asks, Onward.IsPieceOf}
+use Rattle.studio_seats.specs.{Pieces.pieces_by, Recording.RecorderAsks}
+use Rattle.studio_seats.proofs.MergeLemmas.{numbers_append, numbers_others, pieces_are_chunks, lower_others}
 use Rattle.studio_seats.proofs.PieceLemmas.{pieces_append, pieces_others}
-use Rattle.recorder_work.specs.Drained.{Taken, TakerState, Takes}
+use Rattle.studio_seats.proofs.{FreeingLemmas.same_seat, OnwardLemmas.each_append}
+use Rattle.recorder_threads.specs.Drained.{Taken, TakerState, Takes}
 use Rattle.desk_session.specs.Parts.{NewPart}
 use Rattle.desk_session.proofs.ListLemmas.{quiet_deed}
-use Rattle.desk_session.proofs.RejoinLemmas.{lower}
 
 no_more : (seat : ℕ) (e : Deed) → e.actor < seat → (b : Bool) → (seat == e.actor) ≡ b → (b && is_commit e) ≡ true → ⊥
 no_more seat e h true is c = let same = same_seat seat e.actor is in absurd (omega (arith, h, same))
@@ -92,7 +83,7 @@ module _ {D V : Type 0} {disk : Ghosts D} (first track tag : ℕ) (v w : View (H
   where
     -- it had no piece yet
     pub no_pieces : pieces_by track tag w.number first v.seen ≡ []
-    no_pieces = pieces_others track tag w.number first v.seen (lower w.number v.seen h.unseen)
+    no_pieces = pieces_others track tag w.number first v.seen (lower_others w.number v.seen h.unseen)
 
     pub piece_commits : (refused : Option Refusal) (told : Taken) (chunks : List (List ℤ))
         → Takes [] record { pieces = pieces_by track tag w.number first w.seen; refused = refused } told chunks
@@ -113,7 +104,7 @@ module _ {D V : Type 0} {disk : Ghosts D} (first track tag : ℕ) (v w : View (H
         ap (λ (l : List Deed). numbers_of (by_seat seat) first l) (append-nil w.seen ∙ h.part.seen)
         ∙ (numbers_append (by_seat seat) first v.seen h.part.added
         ∙ ap (λ (l : List ℕ). l ++ numbers_of (by_seat seat) (number_after first v.seen) h.part.added)
-        (numbers_others seat first v.seen (lower seat v.seen h.unseen))) in
+        (numbers_others seat first v.seen (lower_others seat v.seen h.unseen))) in
         sym (zipped chunks numbers
         (few [] record { pieces = pieces_by track tag seat first w.seen; refused = refused } told chunks t))
         ∙ (sym k ∙ own)

@@ -1,38 +1,22 @@
 -- A seat is split in three, and joined again.
 use Rattle.std.proofs.Common.{◌≡◌, ◌⊎◌, ⊎_elim, ℕ, ◌<◌, Bool, true, false, ◌||◌, List, [], ◌∷◌, ◌++◌, length, refl, sym}
-use Rattle.std.proofs.Common.{◌∙◌, ap, subst, arith}
-use Rattle.std.proofs.Common.{append_assoc}
-use Rattle.std.proofs.lemmas.Bool.Decides.{nat_tests}
+use Rattle.std.proofs.Common.{◌∙◌, ap, subst, append_assoc}
 use Rattle.std.proofs.lemmas.List.{append-nil}
 use Rattle.pcm_base.specs.declared.command.Call.{Call}
 use Rattle.disk_model.specs.declared.store.Store.{Ghosts}
-use Rattle.pin_turn.specs.declared.view.View.{View}
 use Rattle.pin_turn.specs.Counts.{Each, longer, times}
-use Rattle.pin_turn.specs.Views.{joined}
-use Rattle.pin_turn.specs.Rule.{ByOthers, IsNewNumber}
-use Rattle.pin_turn.specs.Calls.{Begins}
+use Rattle.pin_turn.specs.{declared.view.View.View, Views.joined, Rule.IsNewNumber, Calls.Begins}
 use Rattle.pin_turn.proofs.Calls.{first_longer, rejoins, second_longer}
-use Rattle.studio_seats.specs.declared.deed.Deed.{Deed}
-use Rattle.studio_seats.specs.declared.held.Held.{Held}
-use Rattle.studio_seats.specs.Deeds.{actor_of}
-use Rattle.studio_seats.specs.Merge.{by_seat}
 use Rattle.studio_seats.specs.Onward.{Asks, Onward, places_of}
-use Rattle.studio_seats.proofs.OnwardLemmas.{places_others}
-use Rattle.script_session.specs.Calls.{IsOfScript}
+use Rattle.studio_seats.specs.{declared.deed.Deed.Deed, declared.held.Held.Held, Deeds.actor_of, Merge.by_seat}
+use Rattle.studio_seats.proofs.{OnwardLemmas.places_others, MergeLemmas.lower_others}
+use Rattle.script_reader.specs.Calls.{IsOfScript}
 use Rattle.desk_session.specs.Parts.{NewPart, Part, Rejoined}
 use Rattle.desk_session.proofs.PartLemmas.{places_behind}
 
 or_true : (b : Bool) → (b || true) ≡ true
 or_true true = refl
 or_true false = refl
-
-below_other : (seat n : ℕ) → n < seat → times n (seat ∷ []) ≡ 0
-below_other seat n h = grind (arith, nat_tests)
-
--- none of the deeds is by a seat of a higher number
-pub lower : (seat : ℕ) (es : List Deed) → Each (λ e. e.actor < seat) es → ByOthers actor_of (seat ∷ []) es
-lower seat [] h = tt
-lower seat (e ∷ es) h = (below_other seat e.actor h.0, lower seat es h.1)
 
 last_of : (a : List ℕ) (P : ℕ → Type 0) (n : ℕ) → Each P (a ++ n ∷ []) → P n
 last_of [] P n h = h.0
@@ -70,7 +54,7 @@ module _ {D V : Type 0} {disk : Ghosts D} where
   new_part fits v o w new above unseen on =
       let seen : o.seen ≡ v.seen = ap (λ (z : View (Held D V disk) Deed). z.seen) new in
       let none : places_of (by_seat o.number) 0 o.seen ≡ [] = places_others o.number 0 o.seen
-      (lower o.number o.seen (subst (λ (l : List Deed). Each (λ e. e.actor < o.number) l) (sym seen) unseen)) in
+      (lower_others o.number o.seen (subst (λ (l : List Deed). Each (λ e. e.actor < o.number) l) (sym seen) unseen)) in
       let whole : places_of (by_seat o.number) 0 w.seen ≡ places_of (by_seat o.number) (length o.seen) on.added =
       ap (λ (l : List Deed). places_of (by_seat o.number) 0 l) on.seen
       ∙ (places_behind (by_seat o.number) o.seen on.added
@@ -113,8 +97,7 @@ module _ {D V : Type 0} {disk : Ghosts D} where
     pub rejoined : (j w : View (Held D V disk) Deed) → j ≡ joined script player → w ≡ joined j recorder
         → Begins actor_of script player ⊎ Begins actor_of player script
         → Begins actor_of j recorder ⊎ Begins actor_of recorder j
-        → Rejoined pieces reads
-        (record { seat = v; script = script; recorder = recorder; player = player; joined = w })
+        → Rejoined pieces reads (record { seat = v; script = script; recorder = recorder; player = player; joined = w })
     rejoined j w is is2 alike alike2 =
         let seen1 : v1.seen ≡ v.seen = ap (λ (z : View (Held D V disk) Deed). z.seen) kept in
         let seen2 : v2.seen ≡ v.seen = ap (λ (z : View (Held D V disk) Deed). z.seen) kept2 ∙ seen1 in

@@ -1,24 +1,14 @@
 -- What each seat of a session asked, by what was opened for it.
-use Rattle.std.proofs.Common.{◌≡◌, inl, inr, ℕ, ◌<◌, List, [], sym, ◌∙◌, ap}
-use Rattle.std.proofs.Common.{subst}
-use Rattle.pcm_base.specs.declared.command.Call.{Call}
-use Rattle.pcm_base.specs.declared.command.Call.TheVariants.{Unpin}
+use Rattle.std.proofs.Common.{◌≡◌, inl, inr, ℕ, ◌<◌, List, [], sym, ◌∙◌, ap, subst}
+use Rattle.pcm_base.specs.{declared.command.Call.Call, declared.command.Call.TheVariants.Unpin}
 use Rattle.disk_model.specs.declared.store.Store.{Ghosts}
-use Rattle.pin_turn.specs.declared.view.View.{View}
-use Rattle.pin_turn.specs.Counts.{Each}
-use Rattle.studio_seats.specs.declared.deed.Deed.{Deed}
-use Rattle.studio_seats.specs.declared.held.Held.{Held}
-use Rattle.studio_seats.specs.Onward.{IsReadOf, Onward}
-use Rattle.studio_seats.specs.Pieces.{pieces_by}
-use Rattle.studio_seats.specs.Recording.{RecorderAsks}
+use Rattle.pin_turn.specs.{declared.view.View.View, Counts.Each}
+use Rattle.studio_seats.specs.{declared.deed.Deed.Deed, declared.held.Held.Held, Onward.IsReadOf, Onward.Onward}
+use Rattle.studio_seats.specs.{Pieces.pieces_by, Recording.RecorderAsks}
 use Rattle.studio_seats.proofs.OnwardLemmas.{onward_on, onward_self}
-use Rattle.studio_seats.proofs.PieceLemmas.{pieces_others}
-use Rattle.studio_seats.proofs.WorkLemmas.{onward_as}
-use Rattle.desk_session.specs.declared.side.Side.{Side}
+use Rattle.studio_seats.proofs.{PieceLemmas.pieces_others, WorkLemmas.onward_as, MergeLemmas.lower_others}
+use Rattle.desk_session.specs.{declared.side.Side.Side, Opening.play_calls, Opening.record_calls, Sides.WhereMade}
 use Rattle.desk_session.specs.declared.side.Side.TheVariants as side
-use Rattle.desk_session.specs.Opening.{play_calls, record_calls}
-use Rattle.desk_session.specs.Sides.{WhereMade}
-use Rattle.desk_session.proofs.RejoinLemmas.{lower}
 
 module _ {D V : Type 0} {disk : Ghosts D} where
   pub recorder_goes : (made : Side) (track : ℕ) (v w : View (Held D V disk) Deed)
@@ -48,6 +38,6 @@ module _ {D V : Type 0} {disk : Ghosts D} where
   pub no_piece : (track tag first : ℕ) (v o : View (Held D V disk) Deed)
       → o ≡ record v { number = o.number; mine = []; away = [] }
       → Each (λ e. e.actor < o.number) v.seen → pieces_by track tag o.number first o.seen ≡ []
-  no_piece track tag first v o new unseen = pieces_others track tag o.number first o.seen (lower o.number o.seen
+  no_piece track tag first v o new unseen = pieces_others track tag o.number first o.seen (lower_others o.number o.seen
       (subst (λ (l : List Deed). Each (λ e. e.actor < o.number) l)
       (sym (ap (λ (z : View (Held D V disk) Deed). z.seen) new)) unseen))

@@ -1,13 +1,11 @@
 -- A side of a session, from what it is lent to what comes back.
 use Rattle.std.proofs.Common.{◌≡◌, ℕ, Option, Some, None, Result, Ok, Err, sym, ◌∙◌, subst}
 use Rattle.std.specs.Prelude.{IsErrAnd, IsOkAnd, IsSomeAnd, MatchResult}
-use Rattle.sound_session.specs.IfGiven.{IfGiven}
-use Rattle.desk_session.specs.declared.side.Side.{Side}
+use Rattle.session_threads.specs.IfGiven.{IfGiven}
+use Rattle.desk_session.specs.{declared.side.Side.Side, Sides.Lends, Sides.WhereMade, Sides.side_number}
 use Rattle.desk_session.specs.declared.side.Side.TheVariants as side
-use Rattle.desk_session.specs.Sides.{Lends, WhereMade, side_number}
 
-module _ {W R A : Type 0} (Works : ℕ → W → Type 0) (Rests : R → Type 0) (OfWork : W → A → Type 0)
-    (OfDone : A → Type 0)
+module _ {W R A : Type 0} (Works : ℕ → W → Type 0) (Rests : R → Type 0) (OfWork : W → A → Type 0) (OfDone : A → Type 0)
     (OfRest : R → Type 0) where
   -- what the work of a side led to
   abbrev pub DidWork : ℕ → Type 0

@@ -1,24 +1,18 @@
 -- What a recording and a playback did, in the words of the microphone and the speaker that were lent.
 use Rattle.std.proofs.Common.{◌≡◌, ℕ, Bool, false, List, Option, take, sym, ap, ◌∙◌, subst}
-use Rattle.pcm_base.specs.Causes.{Rose}
-use Rattle.pcm_base.specs.Recordings.{chunks_of, frame_bytes}
+use Rattle.pcm_base.specs.{Causes.Rose, Recordings.chunks_of, Recordings.frame_bytes}
+use Rattle.edit_ports.specs.Told.{Course, Open, grown, preceded}
+use Rattle.recorder_threads.specs.{Blocks.MicState, Captured.IsStoppedBy, Captured.mic_course}
+use Rattle.recorder_threads.specs.{declared.microphone.MicEnd.MicEnd, Drained.Taken, Drained.Takes, Drained.taker_state}
+use Rattle.session_threads.specs.{declared.play.Played.Played, declared.record.Recorded.Recorded, Played.Plays}
+use Rattle.session_threads.specs.{Recorded.Records}
+use Rattle.script_reader.specs.Change.{change}
+use Rattle.desk_session.specs.Sounds.{IsPlayed, IsRecorded}
+use Rattle.desk_session.specs.{declared.outcome.PlayOutcome.PlayOutcome, declared.outcome.RecordOutcome.RecordOutcome}
 use Rattle.edit_ports.specs.declared.frames.FrameGiver as giver
 use Rattle.edit_ports.specs.declared.pieces.PieceTaker as taker
 use Rattle.edit_ports.specs.declared.sink.Sink as sink
 use Rattle.edit_ports.specs.declared.source.Source as source
-use Rattle.edit_ports.specs.Told.{Course, Open, grown, preceded}
-use Rattle.recorder_work.specs.Blocks.{MicState}
-use Rattle.recorder_work.specs.Captured.{IsStoppedBy, mic_course}
-use Rattle.recorder_work.specs.declared.microphone.MicEnd.{MicEnd}
-use Rattle.recorder_work.specs.Drained.{Taken, Takes, taker_state}
-use Rattle.sound_run.specs.declared.play.Played.{Played}
-use Rattle.sound_run.specs.declared.record.Recorded.{Recorded}
-use Rattle.sound_run.specs.Played.{Plays}
-use Rattle.sound_run.specs.Recorded.{Records}
-use Rattle.script_session.specs.Change.{change}
-use Rattle.desk_session.specs.declared.told.Heard.{Heard}
-use Rattle.desk_session.specs.declared.told.Kept.{Kept}
-use Rattle.desk_session.specs.Sounds.{IsPlayed, IsRecorded}
 
 -- A microphone that was lent tells what is left of the one that lent it, and counts its faults, and what it follows that
 -- one follows.
@@ -27,7 +21,7 @@ pub recorded_of : {L M T : Type 0} (mics : source.Ghosts M) (lent : source.Ghost
     (count : (l : L) → lent.fault_count l ≡ mics.fault_count (inner l))
     (goes : (l n : L) (course : Course) → lent.follows l course n → (first : M) → mics.follows first Open (inner l)
     → mics.follows first course (inner n))
-    (m : L) (t : T) (d : Recorded L T) (k : Kept)
+    (m : L) (t : T) (d : Recorded L T) (k : RecordOutcome)
     → lent.follows m Open m → Records lent takers m t d → k.end ≡ d.end → k.numbers ≡ d.numbers → k.samples ≡ d.samples
     → k.refused ≡ d.refused
     → IsRecorded mics (change (inner m) (inner d.mic)) (change (takers.pieces t) (takers.pieces d.taker))
@@ -53,7 +47,7 @@ pub played_of : {G L P : Type 0} (speakers : sink.Ghosts P) (lent : sink.Ghosts 
     (count : (l : L) → lent.fault_count l ≡ speakers.fault_count (inner l))
     (goes : (l n : L) (failed : Bool) → lent.follows l failed n → (first : P) → speakers.follows first false (inner l)
     → speakers.follows first failed (inner n))
-    (v : G) (s : L) (d : Played G L) (k : Heard)
+    (v : G) (s : L) (d : Played G L) (k : PlayOutcome)
     → lent.follows s false s → (h : Plays givers lent v s d) → k.refused ≡ d.refused → k.frames ≡ d.frames
     → k.fault ≡ d.fault → IsPlayed speakers (change (inner s) (inner d.speaker)) (givers.shows v) h.place k
 played_of speakers lent givers inner written count goes v s d k self h refused frames fault = record {

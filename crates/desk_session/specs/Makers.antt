@@ -1,11 +1,7 @@
 -- Whose the deeds of a list are that three seats made.
 use Rattle.std.specs.Prelude.{◌≡◌, ◌≢◌, ℕ, ◌||◌, Bool, true, List, [], ◌∷◌, ◌++◌, length}
-use Rattle.pin_turn.specs.Counts.{Each, once_below, times}
-use Rattle.pin_turn.specs.Rule.{ByOthers}
-use Rattle.studio_seats.specs.declared.deed.Deed.{Deed}
-use Rattle.studio_seats.specs.Deeds.{actor_of}
-use Rattle.studio_seats.specs.Merge.{by_seat}
-use Rattle.studio_seats.specs.Onward.{places_of}
+use Rattle.pin_turn.specs.{Counts.Each, Counts.once_below, Counts.times, Rule.ByOthers}
+use Rattle.studio_seats.specs.{declared.deed.Deed.Deed, Deeds.actor_of, Merge.by_seat, Onward.places_of}
 
 -- the seats of a session: of the script, of the recorder and of the player
 pub record Seats : Type 0 where

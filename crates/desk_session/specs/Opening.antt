@@ -1,27 +1,17 @@
 -- What a session does before its script: a new track for a recording, and a pin for a playback.
 use Rattle.std.specs.Prelude.{◌≡◌, ◌⊎◌, ℕ, ◌≤◌, max, Bool, true, List, [], ◌∷◌, ◌++◌, Result, Ok, Err, IsTrue}
-use Rattle.pcm_base.specs.declared.answer.Reply.{Reply}
-use Rattle.pcm_base.specs.declared.answer.Reply.TheVariants as reply
-use Rattle.pcm_base.specs.declared.command.Call.{Call}
 use Rattle.pcm_base.specs.declared.command.Call.TheVariants.{Line, Pin, Unpin}
-use Rattle.pcm_base.specs.declared.command.Command.TheVariants.{Track}
-use Rattle.pcm_base.specs.declared.refusal.Refusal.{Refusal}
+use Rattle.pcm_base.specs.{declared.answer.Reply.Reply, declared.command.Call.Call}
+use Rattle.pcm_base.specs.{declared.command.Command.TheVariants.Track, declared.refusal.Refusal.Refusal}
 use Rattle.disk_model.specs.declared.store.Store.{Ghosts}
 use Rattle.pin_turn.specs.declared.view.View.{View}
-use Rattle.editor_state.specs.Core.{Core}
-use Rattle.editor_state.specs.Took.{silent}
-use Rattle.studio_seats.specs.declared.deed.Deed.{Deed}
-use Rattle.studio_seats.specs.declared.held.Held.{Held}
-use Rattle.studio_seats.specs.Deeds.{deed, entries_of, number_after}
-use Rattle.studio_seats.specs.Desks.{spent}
-use Rattle.studio_seats.specs.Merge.{by_seat, deeds_of, numbers_of}
-use Rattle.studio_seats.specs.Onward.{IsReadOf, Onward}
-use Rattle.studio_seats.specs.Pins.{is_made}
-use Rattle.studio_seats.specs.Recording.{RecorderAsks}
-use Rattle.desk_session.specs.declared.opening.Opened.{Opened}
-use Rattle.desk_session.specs.declared.side.Side.{Side}
+use Rattle.editor_state.specs.{Core.Core, Took.silent}
+use Rattle.studio_seats.specs.{declared.deed.Deed.Deed, declared.held.Held.Held, Deeds.deed, Deeds.entries_of}
+use Rattle.studio_seats.specs.{Deeds.number_after, Desks.spent, Merge.by_seat, Merge.deeds_of, Merge.numbers_of}
+use Rattle.studio_seats.specs.{Onward.IsReadOf, Onward.Onward, Pins.is_made, Recording.RecorderAsks}
+use Rattle.desk_session.specs.{declared.opening.Opened.Opened, declared.side.Side.Side, Sides.IfMade, Sides.WhereMade}
+use Rattle.pcm_base.specs.declared.answer.Reply.TheVariants as reply
 use Rattle.desk_session.specs.declared.side.Side.TheVariants as side
-use Rattle.desk_session.specs.Sides.{IfMade, WhereMade}
 
 -- the seat's own deed of a call that was answered so; it is none where no turn was left, as the seat then knows
 abbrev pub OwnDeed : Bool → ℕ → Call → Result Reply Refusal → List Deed → Type 0

@@ -2,13 +2,10 @@
 use Rattle.std.specs.Prelude.{◌≡◌, ◌<◌, true, List, ◌++◌}
 use Rattle.pcm_base.specs.declared.command.Call.{Call}
 use Rattle.disk_model.specs.declared.store.Store.{Ghosts}
-use Rattle.pin_turn.specs.declared.view.View.{View}
-use Rattle.pin_turn.specs.Counts.{Each}
-use Rattle.studio_seats.specs.declared.deed.Deed.{Deed}
-use Rattle.studio_seats.specs.declared.held.Held.{Held}
-use Rattle.studio_seats.specs.Merge.{by_seat}
+use Rattle.pin_turn.specs.{declared.view.View.View, Counts.Each}
 use Rattle.studio_seats.specs.Onward.{Asks, places_of}
-use Rattle.script_session.specs.Calls.{IsOfScript}
+use Rattle.studio_seats.specs.{declared.deed.Deed.Deed, declared.held.Held.Held, Merge.by_seat}
+use Rattle.script_reader.specs.Calls.{IsOfScript}
 
 -- What a seat knew before others were split from it; what it, the recorder's and the player's knew before they were
 -- joined; and what it knew then.

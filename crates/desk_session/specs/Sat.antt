@@ -3,19 +3,11 @@ use Rattle.std.specs.Prelude.{◌≡◌, ℕ, [], None, IsSomeAnd}
 use Rattle.disk_model.specs.declared.store.Store.{Ghosts}
 use Rattle.pin_turn.specs.declared.view.View.{View}
 use Rattle.editor_state.specs.Core.{Core}
-use Rattle.studio_seats.specs.declared.deed.Deed.{Deed}
-use Rattle.studio_seats.specs.declared.held.Held.{Held}
-use Rattle.studio_seats.specs.Merge.{by_seat, deeds_of}
-use Rattle.studio_seats.specs.Pieces.{pieces_by}
-use Rattle.studio_seats.specs.Shows.{IsMixOf}
-use Rattle.studio_seats.specs.Stands.{origin}
-use Rattle.script_session.specs.Change.{change}
-use Rattle.desk_session.specs.Lent.{Kinds, Lent, Outcome}
-use Rattle.desk_session.specs.Opening.{play_calls, record_calls}
-use Rattle.desk_session.specs.Parts.{Rejoined}
-use Rattle.desk_session.specs.Sides.{WhereMade}
-use Rattle.desk_session.specs.Sounds.{Played, Recorded}
-use Rattle.desk_session.specs.Works.{RanScript}
+use Rattle.studio_seats.specs.{declared.deed.Deed.Deed, declared.held.Held.Held, Merge.by_seat, Merge.deeds_of}
+use Rattle.studio_seats.specs.{Pieces.pieces_by, Shows.IsMixOf, Stands.origin}
+use Rattle.script_reader.specs.Change.{change}
+use Rattle.desk_session.specs.{Lent.Kinds, Lent.Lent, Lent.Outcome, Opening.play_calls, Opening.record_calls}
+use Rattle.desk_session.specs.{Parts.Rejoined, Sides.WhereMade, Sounds.Played, Sounds.Recorded, Works.RanScript}
 
 -- The studio with which a desk began, the track of the recording, the commit number that was told last before the
 -- script, and what the seat knew before it and knows after it.
@@ -25,6 +17,11 @@ pub record Sitting (D V : Type 0) (disk : Ghosts D) : Type 0 where
   pub last : ℕ
   pub seat : View (Held D V disk) Deed
   pub seat_now : View (Held D V disk) Deed
+
+abbrev pub sitting : {D V : Type 0} {disk : Ghosts D} → Core D → (track last : ℕ)
+    → (seat seat_now : View (Held D V disk) Deed) → Sitting D V disk
+sitting start track last seat seat_now =
+    record { start = start; track = track; last = last; seat = seat; seat_now = seat_now }
 
 -- What script, recorder and player did, each at its own seat, from what one seat had seen; it took the others in.
 pub record Sat {D V M P : Type 0} {disk : Ghosts D} (k : Kinds D V M P) (s : Sitting D V disk) (lent : Lent V M P)

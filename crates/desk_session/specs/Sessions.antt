@@ -1,38 +1,22 @@
 -- A session at a desk: a script, and beside it a recording and a playback, where they were asked for.
 use Rattle.std.specs.Prelude.{◌≡◌, ℕ, Bool, true, IsTrue, List, [], ◌∷◌, ◌++◌, length, None, IsSomeAnd}
 use Rattle.std.specs.List.{flat_map, list_any}
-use Rattle.pcm_base.specs.declared.limits.TheConstants.{COUNTER_LIMIT}
-use Rattle.pcm_base.specs.declared.answer.Answer.{Answer}
-use Rattle.pcm_base.specs.Outside.{Sounds}
-use Rattle.edit_ports.specs.declared.vault.Vault as vault
+use Rattle.pcm_base.specs.{declared.limits.TheConstants.COUNTER_LIMIT, declared.answer.Answer.Answer, Outside.Sounds}
 use Rattle.edit_ports.specs.Told.{preceded}
-use Rattle.pin_turn.specs.Counts.{Each}
-use Rattle.pin_turn.specs.Rule.{ByOthers}
+use Rattle.pin_turn.specs.{Counts.Each, Rule.ByOthers}
 use Rattle.editor_state.specs.Core.{Core}
-use Rattle.studio_seats.specs.declared.deed.Deed.{Deed}
-use Rattle.studio_seats.specs.Deeds.{actor_of, number_after}
-use Rattle.studio_seats.specs.Faults.{AllServed}
-use Rattle.studio_seats.specs.Leads.{HadTurn}
 use Rattle.studio_seats.specs.Merge.{Numbers, any_seat, by_seat, deeds_of, numbers_of}
-use Rattle.studio_seats.specs.Onward.{Asks}
-use Rattle.studio_seats.specs.Pieces.{pieces_by}
-use Rattle.studio_seats.specs.Shows.{IsMixOf}
-use Rattle.studio_seats.specs.Stands.{StandsFor, origin}
-use Rattle.script_session.specs.Added.{FollowsLines}
-use Rattle.script_session.specs.Calls.{IsOfScript}
-use Rattle.script_session.specs.Change.{change}
-use Rattle.script_session.specs.Place.{Place}
-use Rattle.script_session.specs.Progress.{IsCut, WritesAnswers, outcome_of, says_no}
-use Rattle.script_session.specs.Served.{IsUndisturbed, TellsNoDevice}
-use Rattle.script_session.specs.Session.{Session}
-use Rattle.script_session.specs.Spent.{TellSpent}
-use Rattle.desk_session.specs.declared.opening.Opened.{Opened}
-use Rattle.desk_session.specs.declared.told.Told.{Told}
-use Rattle.desk_session.specs.Lent.{Kinds, Lent, Outcome}
-use Rattle.desk_session.specs.Makers.{Apart, Seats, is_by}
+use Rattle.studio_seats.specs.{declared.deed.Deed.Deed, Deeds.actor_of, Deeds.number_after, Faults.AllServed}
+use Rattle.studio_seats.specs.{Leads.HadTurn, Onward.Asks, Pieces.pieces_by, Shows.IsMixOf, Stands.StandsFor}
+use Rattle.studio_seats.specs.{Stands.origin}
+use Rattle.script_reader.specs.Progress.{IsCut, WritesAnswers, outcome_of, says_no}
+use Rattle.script_reader.specs.{Added.FollowsLines, Calls.IsOfScript, Change.change, Place.Place, Served.IsUndisturbed}
+use Rattle.script_reader.specs.{Served.TellsNoDevice, Answering.AnswersLines, Spent.TellSpent}
 use Rattle.desk_session.specs.Opening.{PinDeed, TrackDeed, play_calls, record_calls, record_commits}
-use Rattle.desk_session.specs.Sides.{WhereMade}
-use Rattle.desk_session.specs.Sounds.{Played, Recorded, piece_numbers}
+use Rattle.desk_session.specs.{declared.opening.Opened.Opened, declared.outcome.ScriptOutcome.ScriptOutcome, Lent.Kinds}
+use Rattle.desk_session.specs.{Lent.Lent, Lent.Outcome, Makers.Apart, Makers.Seats, Makers.is_by, Sides.WhereMade}
+use Rattle.desk_session.specs.{Sounds.Played, Sounds.Recorded, Sounds.piece_numbers}
+use Rattle.edit_ports.specs.declared.vault.Vault as vault
 
 -- The deeds of a session, by their makers: the first seat made the opening, and then the lines, and the turns of those
 -- that bounce. A second one made the pieces of the recording, and reclaims, and a third one read the pin and released
@@ -78,9 +62,9 @@ pub record Split : Type 0 where
   pub rest : List Deed
 
 -- What a script did, of the deeds of a session: the bytes that it read are these lines, their answers were written, and
--- the deeds of its seat are those of its lines, as `session` says from its first place to its last.
+-- the deeds of its seat are those of its lines, as `line_by_line` says from its first place to its last.
 pub record IsScripted {V M P : Type 0} (vaults : vault.Ghosts V) (spent : Bool) (deeds : Split) (lent : Lent V M P)
-    (told : Told) : Type 0 where
+    (told : ScriptOutcome) : Type 0 where
   pub read : List ℕ
   pub lines : List (List ℕ)
   pub answers : List Answer
@@ -91,7 +75,7 @@ pub record IsScripted {V M P : Type 0} (vaults : vault.Ghosts V) (spent : Bool) 
   -- each answer tells the commit number after its turn, and where it took none the one that was told last
   pub used_up : Bool
   pub last : Place
-  pub session : Session (place_behind deeds.first deeds.rate deeds.opening used_up (vaults.tells lent.vault.before)
+  pub line_by_line : AnswersLines (place_behind deeds.first deeds.rate deeds.opening used_up (vaults.tells lent.vault.before)
       (vaults.holds lent.vault.before) (vaults.fault_count lent.vault.before)) lines answers last
   -- what its seat saw at last begins the list, and after that nothing is by it
   pub later : List Deed

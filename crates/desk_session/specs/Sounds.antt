@@ -1,36 +1,24 @@
 -- What a recording and a playback have done.
 use Rattle.std.specs.Prelude.{◌≡◌, ◌⊎◌, ℕ, ◌/◌, ℤ, Bool, true, false, List, [], ◌++◌, length, take, Option, Some, None}
 use Rattle.std.specs.Prelude.{Result}
-use Rattle.pcm_base.specs.declared.answer.Reply.{Reply}
-use Rattle.pcm_base.specs.declared.command.Call.TheVariants.{Unpin}
-use Rattle.pcm_base.specs.declared.refusal.Refusal.{Refusal}
-use Rattle.pcm_base.specs.declared.sound.Frame.{Frame}
-use Rattle.pcm_base.specs.Recordings.{chunks_of}
+use Rattle.pcm_base.specs.{declared.answer.Reply.Reply, declared.command.Call.TheVariants.Unpin}
+use Rattle.pcm_base.specs.{declared.refusal.Refusal.Refusal, declared.sound.Frame.Frame, Recordings.chunks_of}
 use Rattle.edit_ports.specs.Told.{Open, preceded}
+use Rattle.recorder_threads.specs.{Blocks.mic_state, Captured.IsStoppedBy, Captured.mic_course, Drained.Takes}
+use Rattle.player_threads.specs.{Filled.reads_to, Spoken.Writes, Spoken.speaker_state}
+use Rattle.studio_seats.specs.{declared.deed.Deed.Deed, Deeds.entries_of, Freeing.AreFreed, Freeing.unfreed}
+use Rattle.studio_seats.specs.{Merge.deeds_of, Onward.EndsBy, Reads.ReadsTo, Recording.asks_piece}
+use Rattle.script_reader.specs.Change.{Change}
+use Rattle.desk_session.specs.{declared.outcome.PlayOutcome.PlayOutcome, declared.outcome.RecordOutcome.RecordOutcome}
+use Rattle.desk_session.specs.{Opening.OwnDeed}
 use Rattle.edit_ports.specs.declared.sink.Sink as sink
 use Rattle.edit_ports.specs.declared.source.Source as source
-use Rattle.recorder_work.specs.Blocks.{mic_state}
-use Rattle.recorder_work.specs.Captured.{IsStoppedBy, mic_course}
-use Rattle.recorder_work.specs.Drained.{Takes}
-use Rattle.player_work.specs.Filled.{reads_to}
-use Rattle.player_work.specs.Spoken.{Writes, speaker_state}
-use Rattle.studio_seats.specs.declared.deed.Deed.{Deed}
-use Rattle.studio_seats.specs.Deeds.{entries_of}
-use Rattle.studio_seats.specs.Freeing.{AreFreed, unfreed}
-use Rattle.studio_seats.specs.Merge.{deeds_of}
-use Rattle.studio_seats.specs.Onward.{EndsBy}
-use Rattle.studio_seats.specs.Reads.{ReadsTo}
-use Rattle.studio_seats.specs.Recording.{asks_piece}
-use Rattle.script_session.specs.Change.{Change}
-use Rattle.desk_session.specs.declared.told.Heard.{Heard}
-use Rattle.desk_session.specs.declared.told.Kept.{Kept}
-use Rattle.desk_session.specs.Opening.{OwnDeed}
 
 -- These bytes were read of the microphone, up to what stopped it, with no read after its end or after one that failed;
 -- the pieces of the recording are their chunks, in order and each once, with these numbers, up to the first that was
 -- refused, where the taker of the pieces had `told`.
 pub record IsRecorded {M : Type 0} (mics : source.Ghosts M) (mic : Change M) (pieces : Change (List (List ℤ × ℕ)))
-    (told : Option Refusal) (kept : Kept) : Type 0 where
+    (told : Option Refusal) (kept : RecordOutcome) : Type 0 where
   pub bytes : List ℕ
   pub read : mics.left mic.before ≡ preceded bytes (mics.left mic.now)
   pub stopped : IsStoppedBy kept.end bytes (mic_state mics mic.before) (mic_state mics mic.now)
@@ -42,7 +30,7 @@ pub record IsRecorded {M : Type 0} (mics : source.Ghosts M) (mic : Change M) (pi
 -- failed; the frames are the first of those that are shown, all of them where no read was refused, and else all before
 -- the place of the read that was.
 pub record IsPlayed {P : Type 0} (speakers : sink.Ghosts P) (speaker : Change P) (shows : List Frame → Type 0)
-    (place : ℕ) (heard : Heard) : Type 0 where
+    (place : ℕ) (heard : PlayOutcome) : Type 0 where
   pub frames : List Frame
   pub first : (all : List Frame) → shows all → frames ≡ take (length frames) all
   pub whole : heard.refused ≡ None → (all : List Frame) → shows all → frames ≡ all
@@ -61,7 +49,7 @@ pub record AreRecorded (spent : Bool) (told : Option Refusal) (own : List Deed) 
 
 -- They end by what the taker was refused.
 pub record Recorded {M : Type 0} (mics : source.Ghosts M) (mic : Change M) (pieces : Change (List (List ℤ × ℕ)))
-    (spent : Bool) (own : List Deed) (kept : Kept) : Type 0 where
+    (spent : Bool) (own : List Deed) (kept : RecordOutcome) : Type 0 where
   pub told : Option Refusal
   pub is : IsRecorded mics mic pieces told kept
   pub own_are : AreRecorded spent told own
@@ -70,7 +58,7 @@ pub record Recorded {M : Type 0} (mics : source.Ghosts M) (mic : Change M) (piec
 -- reads go through the frames in order, up to one that gave fewer than it asked for, or to the refusal that is
 -- returned. The last of them began at the place, so all that was read before a refusal was played.
 pub record Played {P : Type 0} (speakers : sink.Ghosts P) (speaker : Change P) (shows : List Frame → Type 0) (pin : ℕ)
-    (spent : Bool) (player : ℕ) (own : List Deed) (heard : Heard) : Type 0 where
+    (spent : Bool) (player : ℕ) (own : List Deed) (heard : PlayOutcome) : Type 0 where
   pub place : ℕ
   pub is : IsPlayed speakers speaker shows place heard
   pub reads : List Deed
@@ -81,6 +69,6 @@ pub record Played {P : Type 0} (speakers : sink.Ghosts P) (speaker : Change P) (
   pub released : OwnDeed spent player (Unpin pin) what release
 
 -- the numbers of the pieces
-abbrev pub piece_numbers : Option Kept → List ℕ
+abbrev pub piece_numbers : Option RecordOutcome → List ℕ
 piece_numbers None = []
 piece_numbers (Some kept) = kept.numbers

@@ -2,26 +2,17 @@
 use Rattle.std.specs.Prelude.{◌≡◌, ℕ, ℤ, true, List, [], Option, None, IsSomeAnd, is_some}
 use Rattle.pcm_base.specs.declared.refusal.Refusal.{Refusal}
 use Rattle.disk_model.specs.declared.store.Store.{Ghosts}
-use Rattle.edit_ports.specs.declared.vault.Vault as vault
-use Rattle.player_work.specs.Filled.{reads_to}
+use Rattle.player_threads.specs.Filled.{reads_to}
 use Rattle.pin_turn.specs.declared.view.View.{View}
 use Rattle.editor_state.specs.Core.{Core}
-use Rattle.studio_seats.specs.declared.deed.Deed.{Deed}
-use Rattle.studio_seats.specs.declared.held.Held.{Held}
-use Rattle.studio_seats.specs.Onward.{Onward, worker}
-use Rattle.script_session.specs.Calls.{IsOfScript}
-use Rattle.studio_seats.specs.Pieces.{pieces_by}
-use Rattle.studio_seats.specs.Reads.{ReadsOn}
-use Rattle.studio_seats.specs.Recording.{RecordsOn, recorder}
-use Rattle.studio_seats.specs.Shows.{IsMixOf}
-use Rattle.studio_seats.specs.Stands.{origin}
-use Rattle.script_session.specs.Change.{Change, change}
-use Rattle.script_session.specs.Place.{place_of}
-use Rattle.script_session.specs.Progress.{Ran, reached}
-use Rattle.desk_session.specs.declared.told.Told.{Told}
-use Rattle.desk_session.specs.Lent.{Kinds, Lent, Outcome}
-use Rattle.desk_session.specs.Sides.{WhereMade}
-use Rattle.desk_session.specs.Sounds.{IsPlayed, IsRecorded}
+use Rattle.studio_seats.specs.{declared.deed.Deed.Deed, declared.held.Held.Held, Onward.Onward, Onward.worker}
+use Rattle.studio_seats.specs.{Pieces.pieces_by, Reads.ReadsOn, Recording.RecordsOn, Recording.recorder, Shows.IsMixOf}
+use Rattle.studio_seats.specs.{Stands.origin}
+use Rattle.script_reader.specs.{Calls.IsOfScript, Change.Change, Change.change, Place.place_of, Progress.Ran}
+use Rattle.script_reader.specs.{Progress.reached}
+use Rattle.desk_session.specs.{declared.outcome.ScriptOutcome.ScriptOutcome, Lent.Kinds, Lent.Lent, Lent.Outcome}
+use Rattle.desk_session.specs.{Sides.WhereMade, Sounds.IsPlayed, Sounds.IsRecorded}
+use Rattle.edit_ports.specs.declared.vault.Vault as vault
 
 -- The studio with which a desk began, the commit number that was told last before a script, and what the script's seat
 -- knew before it and knows after it.
@@ -32,7 +23,7 @@ pub record Scripting (D V : Type 0) (disk : Ghosts D) : Type 0 where
 
 -- a script ran, from the place of its seat before to that of its seat after
 abbrev pub RanScript : {D V M P : Type 0} {disk : Ghosts D} → vault.Ghosts V → Scripting D V disk → Lent V M P
-    → Told → Type 0
+    → ScriptOutcome → Type 0
 RanScript vaults s lent told = (told_last : ℕ) × Ran told.stop
     (reached (record {
       place = place_of s.start s.seat.before s.last [] (vaults.tells lent.vault.before)
@@ -53,6 +44,17 @@ pub record Working (D V : Type 0) (disk : Ghosts D) : Type 0 where
   pub script : Change (View (Held D V disk) Deed)
   pub recorder : Change (View (Held D V disk) Deed)
   pub player : Change (View (Held D V disk) Deed)
+
+abbrev pub working : {D V : Type 0} {disk : Ghosts D} → Core D → (track last : ℕ)
+    → (script recorder player : Change (View (Held D V disk) Deed)) → Working D V disk
+working start track last script recorder player = record {
+  start = start;
+  track = track;
+  last = last;
+  script = script;
+  recorder = recorder;
+  player = player;
+}
 
 -- the pieces of a recording, as a seat has seen them
 abbrev pub pieces_seen : {D V : Type 0} {disk : Ghosts D} → Working D V disk → ℕ → View (Held D V disk) Deed

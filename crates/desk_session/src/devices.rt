@@ -1,10 +1,12 @@
 // The devices of a session.
+use session_threads::Streams;
 
-/// What is lent to a session: a vault, the source of its script, the sink of its answers, a microphone and a speaker.
-pub struct Devices<'v, 'a, 'o, 'm, 'p, V, A, O, M, P> {
+/// What is lent to a session: a vault, the streams of its script, a microphone and a speaker, and the gate that its
+/// threads pass.
+pub struct Devices<'v, 'a, 'o, 'm, 'p, 'g, V, A, O, M, P, G> {
     pub vault: &'v mut V,
-    pub script: &'a mut A,
-    pub out: &'o mut O,
+    pub streams: Streams<'a, 'o, A, O>,
     pub mic: &'m mut M,
     pub speaker: &'p mut P,
+    pub gate: &'g G,
 }

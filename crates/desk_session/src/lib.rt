@@ -7,6 +7,7 @@
 
 mod devices;
 mod opening;
+mod outcome;
 mod player;
 mod recorder;
 mod rings;
@@ -15,10 +16,10 @@ mod seated;
 mod seats;
 mod setting;
 mod side;
-mod told;
 mod work;
 
+pub use devices::Devices;
 pub use opening::{Beside, Opened};
+pub use outcome::{PlayOutcome, RecordOutcome, Report, ScriptOutcome};
 pub use seated::{Ended, Seated};
 pub use side::Side;
-pub use told::{Heard, Kept, Told};

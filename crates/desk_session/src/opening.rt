@@ -71,82 +71,76 @@ fn open_track<R: Wait, S: Store, V: Vault>(
     }
 }
 
-// The same, where a recording is asked for, and the commit number after it.
+// The same, where a recording is asked for, and the number that the turn answered, or 0 where there was none.
 fn open_recording<R: Wait, S: Store, V: Vault>(
     rt: &R,
     alloc: Global,
     desk: &Desk<S, V>,
     seat: &mut DeskSeat<S, V>,
     vault: &mut V,
-    last: u64,
     records: bool,
 ) -> (Side, u64)
-    requires at { IsAt desk.now seat.old }
-    requires last { last ≡ number_seen (start_at desk.now) (known seat.old) }
+    requires { IsAt desk.now seat.old }
     ensures same { IsAt desk.now seat.new }
     ensures opens { MakesCall IsOpening (start_at desk.now).commit_number
         (TrackDeed (known seat.new).used_up (known seat.old).number result.0) (record_commits result.0)
         (known seat.old) (known seat.new) }
     ensures tag { IsTagTo result.0 (number_seen (start_at desk.now) (known seat.new)) }
-    ensures last { result.1 ≡ number_seen (start_at desk.now) (known seat.new) }
+    ensures at { TellsNumber (start_at desk.now).commit_number (known seat.old) result.1 (known seat.new) }
     ensures asked { is_asked result.0 ≡ records }
     ensures untouched { vault.new ≡ vault.old }
 {
     if records {
         let Said { at, what } = open_track(rt, alloc, desk, seat, vault);
-        (Side::made_by(what), last.max(at))
+        (Side::made_by(what), at)
     } else {
-        (Side::NotAsked, last)
+        (Side::NotAsked, 0)
     }
 }
 
-// Pins the project, where a playback is asked for.
+// Pins the project, where a playback is asked for, and answers the number of the turn too, or 0 where there was none.
 fn open_playback<R: Wait, S: Store, V: Vault>(
     rt: &R,
     desk: &Desk<S, V>,
     seat: &mut DeskSeat<S, V>,
-    last: u64,
     plays: bool,
 ) -> (Side, u64)
-    requires at { IsAt desk.now seat.old }
-    requires last { last ≡ number_seen (start_at desk.now) (known seat.old) }
+    requires { IsAt desk.now seat.old }
     ensures same { IsAt desk.now seat.new }
     ensures opens { MakesCall IsOpening (start_at desk.now).commit_number
         (PinDeed (known seat.new).used_up (known seat.old).number result.0) [] (known seat.old) (known seat.new) }
     ensures made { IsPinIn result.0 (known seat.new).seen }
-    ensures last { result.1 ≡ number_seen (start_at desk.now) (known seat.new) }
+    ensures at { TellsNumber (start_at desk.now).commit_number (known seat.old) result.1 (known seat.new) }
     ensures asked { is_asked result.0 ≡ plays }
 {
     if plays {
         let Said { at, what } = desk.pin(rt, seat);
-        (Side::made_by(what), last.max(at))
+        (Side::made_by(what), at)
     } else {
-        (Side::NotAsked, last)
+        (Side::NotAsked, 0)
     }
 }
 
 /// Makes what is asked for, by a seat: the track first, and then the pin. Besides it answers the commit number after
-/// both, where `last` is the one before.
+/// both, or 0 where there was no turn.
 pub fn open<R: Wait, S: Store, V: Vault>(
     rt: &R,
     alloc: Global,
     desk: &Desk<S, V>,
     seat: &mut DeskSeat<S, V>,
     vault: &mut V,
-    last: u64,
     beside: Beside,
 ) -> (Opened, u64)
-    requires at { IsAt desk.now seat.old }
-    requires last { last ≡ number_seen (start_at desk.now) (known seat.old) }
+    requires { IsAt desk.now seat.old }
     ensures same { IsAt desk.now seat.new }
     ensures opens { Opens (start_at desk.now).commit_number result.0 (known seat.old) (known seat.new) }
     ensures tag { IsTagTo result.0.recording (number_seen (start_at desk.now) (known seat.new)) }
     ensures made { IsPinIn result.0.pin (known seat.new).seen }
-    ensures last { result.1 ≡ number_seen (start_at desk.now) (known seat.new) }
+    ensures at { TellsNumber (start_at desk.now).commit_number (known seat.old) result.1 (known seat.new) }
     ensures asked { (is_asked result.0.recording ≡ beside.records) × (is_asked result.0.pin ≡ beside.plays) }
     ensures untouched { vault.new ≡ vault.old }
 {
-    let (recording, last) = open_recording(rt, alloc, desk, seat, vault, last, beside.records);
-    let (pin, last) = open_playback(rt, desk, seat, last, beside.plays);
-    (Opened { recording, pin }, last)
+    let (recording, made) = open_recording(rt, alloc, desk, seat, vault, beside.records);
+    let (pin, pinned) = open_playback(rt, desk, seat, beside.plays);
+    (Opened { recording, pin }, made.max(pinned))
 }

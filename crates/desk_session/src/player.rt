@@ -5,12 +5,11 @@ ghost use Rattle.studio_seats.specs.Desks.{IsAt};
 ghost use Rattle.desk_session.specs.Opening.{IsPinIn};
 ghost use Rattle.desk_session.specs.Sides.{Lends, is_asked};
 
+use super::outcome::PlayOutcome;
 use super::side::Side;
-use super::told::Heard;
 use disk_model::Store;
 use edit_ports::{Sink, Vault};
-use sound_run::Played;
-use sound_session::{LentSink, PlayRing, Playback};
+use session_threads::{LentSink, PlayRing, Playback, Played};
 use studio_seats::{Desk, DeskGiver, DeskSeat};
 
 /// Lends the seat and the speaker to a playback, where there is a pin, else they are kept.
@@ -44,7 +43,7 @@ pub fn lend_player<'a, 'b, S: Store, V: Vault, P: Sink>(
 /// The seat, the speaker, and what was played.
 pub fn take_player<'a, 'b, S: Store, V: Vault, P: Sink>(
     played: Result<Played<DeskGiver<'a, S, V>, LentSink<'b, P>>, (DeskSeat<S, V>, &'b mut P)>,
-) -> (DeskSeat<S, V>, &'b mut P, Option<Heard>)
+) -> (DeskSeat<S, V>, &'b mut P, Option<PlayOutcome>)
     ensures { MatchResult played.entry
         (λ d. IsAt d.giver.desk.now result.0 × (known result.0 ≡ known d.giver.seat)
         × (result.1.ghost_name ≡ d.speaker.sink.ghost_name) × (result.1.now ≡ d.speaker.sink.now)
@@ -61,7 +60,7 @@ pub fn take_player<'a, 'b, S: Store, V: Vault, P: Sink>(
                 frames,
                 fault,
             } = played;
-            let heard = Heard {
+            let heard = PlayOutcome {
                 refused,
                 frames,
                 fault,

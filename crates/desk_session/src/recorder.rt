@@ -6,12 +6,11 @@ ghost use Rattle.studio_seats.specs.Recording.{FreesTo};
 ghost use Rattle.desk_session.specs.Opening.{IsTagTo, number_seen};
 ghost use Rattle.desk_session.specs.Sides.{Lends, is_asked};
 
+use super::outcome::RecordOutcome;
 use super::side::Side;
-use super::told::Kept;
 use disk_model::Store;
 use edit_ports::{Source, Vault};
-use sound_run::Recorded;
-use sound_session::{LentSource, RecordRing, Recording};
+use session_threads::{LentSource, RecordRing, Recorded, Recording};
 use std::sync::Wait;
 use studio_seats::{Desk, DeskSeat, DeskTaker};
 
@@ -48,7 +47,7 @@ pub fn lend_recorder<'a, 'b, S: Store, V: Vault, M: Source>(
 pub fn take_recorder<'a, 'b, R: Wait, S: Store, V: Vault, M: Source>(
     rt: &R,
     recorded: Result<Recorded<LentSource<'b, M>, DeskTaker<'a, S, V>>, (DeskSeat<S, V>, &'b mut M)>,
-) -> (DeskSeat<S, V>, &'b mut M, Option<Kept>)
+) -> (DeskSeat<S, V>, &'b mut M, Option<RecordOutcome>)
     ensures { MatchResult recorded.entry
         (λ d. IsAt d.taker.desk.now result.0
         × FreesTo true d.taker.since (known d.taker.seat) 0 (known result.0)
@@ -68,7 +67,7 @@ pub fn take_recorder<'a, 'b, R: Wait, S: Store, V: Vault, M: Source>(
                 samples,
                 refused,
             } = recorded;
-            let kept = Kept {
+            let kept = RecordOutcome {
                 end,
                 numbers,
                 samples,

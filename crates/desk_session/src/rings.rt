@@ -3,7 +3,7 @@ ghost use Rattle.std.specs.Prelude.{◌≡◌, is_some, IfOk};
 
 use super::opening::Beside;
 use pcm_base::NoMemory;
-use sound_session::{PlayRing, RecordRing};
+use session_threads::{PlayRing, RecordRing};
 use std::alloc::Global;
 
 /// A ring for a recording and one for a playback, where they are asked for.

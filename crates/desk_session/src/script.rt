@@ -2,25 +2,25 @@
 ghost use Rattle.std.specs.Prelude.{◌≡◌, [], false};
 ghost use Rattle.pin_turn.specs.Calls.{known};
 ghost use Rattle.studio_seats.specs.Desks.{IsAt, start_at};
-ghost use Rattle.script_session.specs.Kept.{Holds};
+ghost use Rattle.script_reader.specs.HeldLine.{Holds};
 ghost use Rattle.desk_session.specs.Opening.{number_seen};
 
-use super::told::Told;
+use super::outcome::ScriptOutcome;
 use disk_model::Store;
 use edit_ports::Vault;
-use script_session::{DeskEditor, LineBuffer, Session, Stop};
+use script_reader::{DeskEditor, LineBuffer, ScriptState, Stop};
 use std::alloc::Global;
 use studio_seats::{Desk, DeskSeat};
 
 /// Lends the seat and the vault to a script that has not begun.
-pub fn lend_script<'a, S: Store, V: Vault>(
+pub fn lend_script<'a, 'b, S: Store, V: Vault>(
     alloc: Global,
     desk: &'a Desk<S, V>,
     seat: DeskSeat<S, V>,
-    vault: &'a mut V,
+    vault: &'b mut V,
     last: u64,
     line: LineBuffer,
-) -> Session<DeskEditor<'a, S, V>>
+) -> ScriptState<DeskEditor<'a, 'b, S, V>>
     requires at { IsAt desk.now seat }
     requires last { last ≡ number_seen (start_at desk.now) (known seat) }
     requires line { Holds line [] }
@@ -31,7 +31,7 @@ pub fn lend_script<'a, S: Store, V: Vault>(
     ensures begins { Holds result.line [] × (result.refused ≡ false) }
 {
     let editor = DeskEditor::new(alloc, desk, seat, vault, last);
-    Session {
+    ScriptState {
         editor,
         line,
         refused: false,
@@ -39,24 +39,24 @@ pub fn lend_script<'a, S: Store, V: Vault>(
 }
 
 /// The seat, what the script did, and the vault.
-pub fn take_script<'a, S: Store, V: Vault>(
-    session: Session<DeskEditor<'a, S, V>>,
+pub fn take_script<'a, 'b, S: Store, V: Vault>(
+    state: ScriptState<DeskEditor<'a, 'b, S, V>>,
     stop: Stop,
-) -> (DeskSeat<S, V>, Told, &'a mut V)
-    ensures at { IsAt session.entry.editor.desk.now result.0 }
-    ensures seat { known result.0 ≡ known session.entry.editor.seat }
-    ensures told { (result.1.stop ≡ stop) × (result.1.refused ≡ session.entry.refused)
-        × (result.1.commits ≡ session.entry.editor.commits.items) }
-    ensures vault { (result.2.ghost_name ≡ session.entry.editor.vault.ghost_name)
-        × (result.2.now ≡ session.entry.editor.vault.now) }
+) -> (DeskSeat<S, V>, ScriptOutcome, &'b mut V)
+    ensures at { IsAt state.entry.editor.desk.now result.0 }
+    ensures seat { known result.0 ≡ known state.entry.editor.seat }
+    ensures told { (result.1.stop ≡ stop) × (result.1.refused ≡ state.entry.refused)
+        × (result.1.commits ≡ state.entry.editor.commits.items) }
+    ensures vault { (result.2.ghost_name ≡ state.entry.editor.vault.ghost_name)
+        × (result.2.now ≡ state.entry.editor.vault.now) }
 {
-    let Session {
+    let ScriptState {
         editor,
         refused,
         ..
-    } = session;
+    } = state;
     let (seat, commits, vault) = editor.into_parts();
-    let told = Told {
+    let told = ScriptOutcome {
         stop,
         refused,
         commits,

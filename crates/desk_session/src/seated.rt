@@ -4,23 +4,20 @@ ghost use Rattle.pin_turn.specs.Calls.{known};
 ghost use Rattle.editor_core.specs.Core.{core_of};
 ghost use Rattle.editor_state.specs.Studios.{IsStudio};
 ghost use Rattle.studio_seats.specs.Desks.{IsAt, IsFirst, start_at};
-ghost use Rattle.script_session.specs.Change.{change};
-ghost use Rattle.script_session.specs.Progress.{IsCauseOf, IsReadTo};
-ghost use Rattle.desk_session.specs.Lent.{kinds};
+ghost use Rattle.script_reader.specs.Change.{change};
+ghost use Rattle.desk_session.specs.Lent.{AreSame, IsCausedIn, ReadsScript, kinds, lent_by, outcome};
 ghost use Rattle.desk_session.specs.Sessions.{IsSession};
 ghost use Rattle.desk_session.specs.Sides.{is_asked};
 
 use super::devices::Devices;
 use super::opening::{Beside, Opened, open};
+use super::outcome::Report;
 use super::rings::Rings;
-use super::seats::run_seats;
 use super::setting::Setting;
-use super::told::{Heard, Kept, Told};
 use disk_model::Store;
 use edit_ports::{Gate, Sink, Source, Vault};
 use editor_core::Studio;
-use script_session::LineBuffer;
-use sound_session::take_back;
+use script_reader::LineBuffer;
 use std::alloc::Global;
 use std::sync::Wait;
 use std::thread::Threads;
@@ -47,9 +44,7 @@ pub struct Ended<S: Store> {
     pub opened: Opened,
     /// The id that the recording's track has, where it was made.
     pub track: u64,
-    pub told: Told,
-    pub kept: Option<Kept>,
-    pub heard: Option<Heard>,
+    pub report: Report,
 }
 
 impl<S: Store, V: Vault> Seated<S, V> {
@@ -84,18 +79,13 @@ impl<S: Store, V: Vault> Seated<S, V> {
     }
 
     /// Makes the track and the pin that are asked for, runs script, recorder and player at once, lets the pin go, and
-    /// hands the studio out. Answers are written, and no last line.
-    pub fn run<R, A, O, M, P, G>(
+    /// hands out the studio and the devices. Answers are written, and no last line.
+    pub fn run<'v, 'a, 'o, 'm, 'p, 'g, R, A, O, M, P, G>(
         self,
         rt: &R,
         alloc: Global,
-        vault: &mut V,
-        script: &mut A,
-        out: &mut O,
-        mic: &mut M,
-        speaker: &mut P,
-        gate: &G,
-    ) -> Ended<S>
+        devices: Devices<'v, 'a, 'o, 'm, 'p, 'g, V, A, O, M, P, G>,
+    ) -> (Ended<S>, Devices<'v, 'a, 'o, 'm, 'p, 'g, V, A, O, M, P, G>)
     where
         R: Threads + Wait + Sync,
         S: Send,
@@ -105,22 +95,15 @@ impl<S: Store, V: Vault> Seated<S, V> {
         M: Source + Send,
         P: Sink + Send,
         G: Gate + Sync,
-        ensures session { IsSession (kinds S.Store V.Vault M.Source P.Sink)
-            (start_at self.desk) (core_of result.studio)
-            (record {
-              vault = change vault.old vault.new;
-              mic = change mic.old mic.new;
-              speaker = change speaker.old speaker.new;
-              left = change (A.left script.old) (A.left script.new);
-              written = change (O.written out.old) (O.written out.new);
-            })
-            (record { told = result.told; opened = result.opened; kept = result.kept; heard = result.heard }) }
-        ensures cause { IsCauseOf result.told.stop (change (A.fault_count script.old) (A.fault_count script.new))
-            (change (O.fault_count out.old) (O.fault_count out.new)) }
-        ensures reads { IsReadTo A.Source result.told.stop (change script.old script.new) }
-        ensures asked { (is_asked result.opened.recording ≡ self.beside.records)
-            × (is_asked result.opened.pin ≡ self.beside.plays) }
-        ensures track { result.track ≡ (start_at self.desk).next_track }
+        ensures session { IsSession (kinds S.Store V.Vault M.Source P.Sink) (start_at self.desk)
+            (core_of result.0.studio) (lent_by A.Source O.Sink (change devices.entry result.1))
+            (outcome result.0.opened result.0.report) }
+        ensures cause { IsCausedIn A.Source O.Sink (change devices.entry result.1) result.0.report.told.stop }
+        ensures reads { ReadsScript A.Source (change devices.entry result.1) result.0.report.told.stop }
+        ensures same { AreSame devices.entry result.1 }
+        ensures asked { (is_asked result.0.opened.recording ≡ self.beside.records)
+            × (is_asked result.0.opened.pin ≡ self.beside.plays) }
+        ensures track { result.0.track ≡ (start_at self.desk).next_track }
     {
         let Seated {
             desk,
@@ -132,7 +115,8 @@ impl<S: Store, V: Vault> Seated<S, V> {
             mut line,
         } = self;
         line.clear();
-        let (opened, last) = open(rt, alloc, &desk, &mut seat, vault, first, beside);
+        let (opened, at) = open(rt, alloc, &desk, &mut seat, devices.vault, beside);
+        let last = first.max(at);
         let setting = Setting {
             opened,
             rings,
@@ -140,33 +124,15 @@ impl<S: Store, V: Vault> Seated<S, V> {
             last,
             line,
         };
-        let devices = Devices {
-            vault,
-            script,
-            out,
-            mic,
-            speaker,
-        };
-        let (rejoined, devices) = run_seats(rt, alloc, &desk, seat, setting, devices, gate);
-        let Devices {
-            vault,
-            script,
-            out,
-            mic,
-            speaker,
-        } = devices;
-        take_back(vault);
-        take_back(script);
-        take_back(out);
-        take_back(mic);
-        take_back(speaker);
-        Ended {
-            studio: desk.close(rejoined.seat),
-            opened,
-            track,
-            told: rejoined.told,
-            kept: rejoined.kept,
-            heard: rejoined.heard,
-        }
+        let (seat, report, devices) = devices.run_seats(rt, alloc, &desk, seat, setting);
+        (
+            Ended {
+                studio: desk.close(seat),
+                opened,
+                track,
+                report,
+            },
+            devices,
+        )
     }
 }

@@ -4,7 +4,7 @@ ghost use Rattle.desk_session.specs.Sides.{is_asked};
 
 use super::opening::Opened;
 use super::rings::Rings;
-use script_session::LineBuffer;
+use script_reader::LineBuffer;
 
 /// What was opened, with the rings for it, and what else a session begins with.
 #[derive(Drop)]

@@ -1,11 +1,9 @@
 -- Calls of a store in turn, by what each leaves of it.
 use Rattle.std.proofs.Common.{inl, inr, ⊎_elim, IsSome, ◌∙◌, sym, subst, refl, arith}
 use Rattle.std.specs.Prelude.{IsTrue}
-use Rattle.disk_model.specs.Moment.{Moment, IsUpTo}
-use Rattle.disk_model.specs.Disk.{Files, Follows, StaysStep}
-use Rattle.disk_model.specs.Room.{Room, IsWithin, together}
-use Rattle.disk_model.specs.Frames.{asked, Kept, Changed}
-use Rattle.disk_model.specs.declared.store.Store.{Ghosts}
+use Rattle.disk_model.specs.{Moment.Moment, Moment.IsUpTo, Disk.Files, Disk.Follows, Disk.StaysStep, Room.Room}
+use Rattle.disk_model.specs.{Room.IsWithin, Room.together, Frames.asked, Frames.Kept, Frames.Changed}
+use Rattle.disk_model.specs.{declared.store.Store.Ghosts}
 use Rattle.disk_model.proofs.Moments.{wider, in_turn, follows_nothing}
 use Rattle.disk_model.proofs.Rooms.{within_refl, stays_refl, stays_same, stays_trans, stays_some, within_trans}
 use Rattle.disk_model.proofs.Rooms.{spent_on}
@@ -36,6 +34,15 @@ kept_turn {disk = disk} f g = record {
   same_room = g.same_room ∙ f.same_room;
   unfailing = λ some. g.unfailing (subst IsSome (sym f.same_room) some) ∙ f.unfailing some;
 }
+
+-- a store that reports its bytes does so after them, and did before
+pub tells_on : {D : Type 0} {disk : Ghosts D} {old new : D} → Kept disk old new → IsTrue (disk.tells old)
+    → IsTrue (disk.tells new)
+tells_on kept told = subst IsTrue (sym kept.same_tells) told
+
+pub tells_back : {D : Type 0} {disk : Ghosts D} {old new : D} → Kept disk old new → IsTrue (disk.tells new)
+    → IsTrue (disk.tells old)
+tells_back kept told = subst IsTrue kept.same_tells told
 
 -- no call at all
 pub kept_none : {D : Type 0} {disk : Ghosts D} (store : D) → Fewer disk store → Kept disk store store

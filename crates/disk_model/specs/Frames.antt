@@ -1,8 +1,7 @@
 -- What calls leave of a store, said of all the members of the store as one value.
 use Rattle.std.specs.Prelude.{◌≡◌, ◌⊎◌, ◌+◌, ◌≤◌, IsTrue, IsSome}
-use Rattle.disk_model.specs.Disk.{Files, StaysStep, Follows}
 use Rattle.disk_model.specs.Room.{Room, IsSpent, IsWithin, StaysRoom}
-use Rattle.disk_model.specs.declared.store.Store.{Ghosts}
+use Rattle.disk_model.specs.{Disk.Files, Disk.StaysStep, Disk.Follows, declared.store.Store.Ghosts}
 
 -- what was asked of a store so far
 abbrev pub asked : {D : Type 0} → Ghosts D → D → Room

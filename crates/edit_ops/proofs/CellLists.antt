@@ -1,21 +1,12 @@
 -- Lemmas on cells.
-use Rattle.std.proofs.Common.{◌≡◌, ℕ, ◌-◌, ◌≤◌, List, [], ◌∷◌, ◌++◌, length, map, take, drop, replicate, refl, sym, ap}
-use Rattle.std.proofs.Common.{◌∙◌, arith, length-drop, length-take-le}
+use Rattle.std.proofs.Common.{◌≡◌, ℕ, ◌-◌, ◌≤◌, List, [], ◌∷◌, ◌++◌, length, map, take, replicate, refl, ap, arith}
 use Rattle.std.proofs.lemmas.List.{take-append-le, take_all, length-replicate, length-append}
-use Rattle.pcm_base.specs.declared.sound.Cell.{Cell}
-use Rattle.pcm_base.specs.declared.sound.Cell.TheVariants.{Gap}
-use Rattle.pcm_base.specs.Cells.{continued}
-use Rattle.pcm_base.specs.Edits.{emptied}
+use Rattle.pcm_base.specs.{declared.sound.Cell.Cell, declared.sound.Cell.TheVariants.Gap, Cells.continued}
+use Rattle.pcm_base.specs.{Edits.emptied}
 
 pub map_gaps : (xs : List Cell) → map emptied xs ≡ replicate (length xs) Gap
 map_gaps [] = refl
 map_gaps (x ∷ xs) = ap (λ ys. Gap ∷ ys) (map_gaps xs)
-
-pub gaps_of_part : (from to : ℕ) (xs : List Cell) → from ≤ to → to ≤ length xs
-    → replicate (to - from) Gap ≡ map emptied (take (to - from) (drop from xs))
-gaps_of_part from to xs a b =
-    sym (map_gaps (take (to - from) (drop from xs))
-    ∙ ap (λ n. replicate n Gap) (length-take-le (to - from) (drop from xs) (omega (arith, length-drop from xs))))
 
 -- the front of a list that is continued by gaps
 pub front_within : (at : ℕ) (xs : List Cell) → at ≤ length xs → take at (continued at xs) ≡ take at xs

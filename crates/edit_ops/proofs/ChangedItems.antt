@@ -1,32 +1,22 @@
 -- Items with each sample changed.
 use Rattle.std.proofs.Common.{◌≡◌, ℕ, zero, suc, ◌+◌, ◌-◌, ◌<◌, ℤ, pos, List, [], ◌∷◌, ◌++◌, length, get_or, map}
-use Rattle.std.proofs.Common.{replicate, refl, sym, ap, ap₂, ◌∙◌, arith}
-use Rattle.std.proofs.lemmas.List.{map-append}
-use Rattle.pcm_base.specs.declared.sound.Cell.{Cell}
-use Rattle.pcm_base.specs.declared.sound.Cell.TheVariants as cell
-use Rattle.pcm_base.specs.declared.piece.Piece.{Piece}
+use Rattle.std.proofs.Common.{replicate, refl, sym, ap, ap₂, ◌∙◌, arith, inl, inr, min}
+use Rattle.std.proofs.{lemmas.List.map-append, lemmas.Bool.cases_lt}
 use Rattle.pcm_base.specs.declared.piece.Piece.TheVariants.{Old, Scaled, Zero, Given}
-use Rattle.pcm_base.specs.Arithmetic.{scaled, clamped}
-use Rattle.pcm_base.specs.Edits.{quieted, gained}
 use Rattle.pcm_base.specs.Pieces.{Sources, stretch, piece_len, samples_of, IsValid, Fits}
+use Rattle.pcm_base.specs.{declared.sound.Cell.Cell, declared.piece.Piece.Piece, Arithmetic.scaled, Arithmetic.clamped}
+use Rattle.pcm_base.specs.{Edits.quieted, Edits.gained, declared.block.BlockRef.BlockRef}
 use Rattle.pcm_base.proofs.Pieces.{length-samples}
-use Rattle.clip_track.specs.declared.items.Item.{Item}
 use Rattle.clip_track.specs.declared.items.Item.TheVariants.{Gap, Sound}
 use Rattle.clip_track.specs.Items.{item_len, item_cells, strip_len, strip_cells, IsItem, AreItems, ItemFits, ItemsFit}
 use Rattle.clip_track.specs.Items.{part_items, part_of_item, gap_items}
-use Rattle.std.proofs.lemmas.Bool.{cases_lt}
-use Rattle.std.proofs.Common.{inl, inr, min}
-use Rattle.pcm_base.specs.declared.block.BlockRef.{BlockRef}
-use Rattle.clip_track.specs.declared.clips.Clip.{Clip}
 use Rattle.clip_track.specs.Clips.{clip_end, sound_items, items_from}
+use Rattle.clip_track.specs.{declared.items.Item.Item, declared.clips.Clip.Clip}
 use Rattle.clip_track.proofs.Strips.{item_at, part_none, part_past, part_within}
-use Rattle.edit_ops.specs.declared.changing.Change.{Change}
-use Rattle.edit_ops.specs.declared.changing.Change.TheVariants.{Silence, Gain}
 use Rattle.edit_ops.specs.Changes.{cell_change, piece_change, item_change}
-use Rattle.edit_ops.specs.Strips.{IsOld, AllOld}
-
-pub item_ok_at : (xs : List Item) (i : ℕ) (d : Item) → i < length xs → AreItems xs → IsItem (get_or xs i d)
-item_ok_at xs i d h v = item_at xs i d h v
+use Rattle.edit_ops.specs.{declared.changing.Change.Change, declared.changing.Change.TheVariants.Silence}
+use Rattle.edit_ops.specs.{declared.changing.Change.TheVariants.Gain, Strips.IsOld, Strips.AllOld}
+use Rattle.pcm_base.specs.declared.sound.Cell.TheVariants as cell
 
 silent_samples : (xs : List ℤ) → map cell.Sample (replicate (length xs) (pos 0)) ≡ map quieted (map cell.Sample xs)
 silent_samples [] = refl
@@ -61,7 +51,7 @@ strip_cells_change src change (x ∷ xs) o =
     ap₂ ◌++◌ (item_cells_change src change x o.0) (strip_cells_change src change xs o.1)
     ∙ sym (map-append (cell_change change) (item_cells src x) (strip_cells src xs))
 
-piece_len_change : (change : Change) (p : Piece) → piece_len (piece_change change p) ≡ piece_len p
+pub piece_len_change : (change : Change) (p : Piece) → piece_len (piece_change change p) ≡ piece_len p
 piece_len_change Silence p = refl
 piece_len_change (Gain gain) (Old b from to) = refl
 piece_len_change (Gain gain) (Scaled b from to g) = refl
@@ -144,3 +134,6 @@ AllOld-items at (c ∷ cs) =
     AllOld-append (gap_items (c.start - at) ++ sound_items c.blocks) (items_from (clip_end c) cs)
     (AllOld-append (gap_items (c.start - at)) (sound_items c.blocks) (old_gap (c.start - at)) (old_sound c.blocks))
     (AllOld-items (clip_end c) cs)
+
+pub item_ok_at : (xs : List Item) (i : ℕ) (d : Item) → i < length xs → AreItems xs → IsItem (get_or xs i d)
+item_ok_at xs i d h v = item_at xs i d h v

@@ -4,24 +4,19 @@ use Rattle.std.proofs.Common.{replicate, sym, ap, ap₂, ◌∙◌, arith, lengt
 use Rattle.std.proofs.lemmas.Bool.{cases_lt}
 use Rattle.std.proofs.lemmas.List.{take_all, drop_all, append-nil, take-append-le, drop-append-le, drop-replicate}
 use Rattle.std.proofs.lemmas.List.{take-replicate, length-replicate}
-use Rattle.pcm_base.specs.declared.block.BlockRef.{BlockRef}
-use Rattle.pcm_base.specs.declared.sound.Cell.{Cell}
-use Rattle.pcm_base.specs.declared.sound.Cell.TheVariants as cell
-use Rattle.pcm_base.specs.Edits.{range_of}
-use Rattle.pcm_base.specs.Pieces.{Sources}
+use Rattle.pcm_base.specs.{declared.block.BlockRef.BlockRef, declared.sound.Cell.Cell, Edits.range_of, Pieces.Sources}
 use Rattle.pcm_base.proofs.Pieces.{drop-past}
-use Rattle.clip_track.specs.declared.items.Item.{Item}
 use Rattle.clip_track.specs.Items.{strip_len, strip_cells, part_items, gap_items, AreItems, ItemsFit}
-use Rattle.clip_track.specs.Rough.{rough_items, ItemsShort}
+use Rattle.clip_track.specs.{declared.items.Item.Item, Rough.rough_items, Rough.ItemsShort}
 use Rattle.clip_track.proofs.Strips.{length-strip_cells, strip_cells-append, strip_cells-part, ItemsFit-append}
 use Rattle.clip_track.proofs.Strips.{ItemsFit-part}
 use Rattle.clip_track.proofs.Layouts.{strip_cells-gap, ItemsFit-gap}
 use Rattle.clip_track.proofs.RoughStrips.{rough-append, rough_middle, rough_only_gap}
-use Rattle.clip_track.proofs.ShortStrips.{ItemsShort-append}
-use Rattle.clip_track.proofs.ShortStrips.{ItemsShort-part, short_gap}
+use Rattle.clip_track.proofs.ShortStrips.{ItemsShort-append, ItemsShort-part, short_gap}
 use Rattle.edit_ops.specs.Strips.{range_items, AllOld, IsClip, ItemsFrom}
 use Rattle.edit_ops.proofs.ChangedItems.{AllOld-append, AllOld-part, old_gap}
 use Rattle.edit_ops.proofs.Tame.{ItemsFrom-append, ItemsFrom-part, ItemsFrom-gap}
+use Rattle.pcm_base.specs.declared.sound.Cell.TheVariants as cell
 
 -- a front and what follows it, where the front is shorter
 take_over : {A : Type 0} (n : ℕ) (xs ys : List A) → length xs ≤ n → length xs + length ys ≤ n

@@ -1,23 +1,19 @@
 -- Lemmas on clips that are laid out.
 use Rattle.std.proofs.Common.{◌≡◌, ℕ, zero, suc, ◌+◌, ◌-◌, ◌<◌, ◌≤◌, ℤ, pos, List, [], ◌∷◌, ◌++◌, length, map}
 use Rattle.std.proofs.Common.{replicate, refl, sym, ap, ap₂, ◌∙◌, append_assoc, arith, length-append}
-use Rattle.std.proofs.lemmas.List.{append-nil, replicate-append-replicate, map-append}
-use Rattle.pcm_base.specs.declared.sound.Cell.{Cell}
-use Rattle.pcm_base.specs.declared.sound.Cell.TheVariants as cell
-use Rattle.pcm_base.specs.Cells.{trimmed, joined}
-use Rattle.pcm_base.specs.Pieces.{Sources, stretch, all_samples, samples_of}
-use Rattle.pcm_base.specs.declared.piece.Piece.{Piece}
-use Rattle.pcm_base.proofs.Pieces.{length-stretch, length-all_samples, all_samples-append}
-use Rattle.pcm_base.specs.declared.block.BlockRef.{BlockRef}
-use Rattle.pcm_base.specs.Blocks.{IsHalfFull}
+use Rattle.std.proofs.lemmas.List.{append-nil}
+use Rattle.pcm_base.specs.Pieces.{Sources, stretch, all_samples}
+use Rattle.pcm_base.specs.{declared.sound.Cell.Cell, Cells.trimmed, Cells.joined, declared.piece.Piece.Piece}
+use Rattle.pcm_base.specs.{declared.block.BlockRef.BlockRef, Blocks.IsHalfFull}
+use Rattle.pcm_base.proofs.Pieces.{length-stretch, length-all_samples}
 use Rattle.model_laws.proofs.Trimming.{trimmed-gaps, trimmed-samples}
 use Rattle.block_sequence.specs.Fuse.{added, made_count, AllShort}
-use Rattle.block_sequence.specs.Origins.{AllLaidFrom}
-use Rattle.block_sequence.specs.declared.types.Laid.{Laid}
 use Rattle.block_sequence.specs.declared.types.Laid.TheVariants.{Keep, Make}
 use Rattle.block_sequence.specs.Laid.{parts, sizes, all_laid_samples, AllMade}
+use Rattle.block_sequence.specs.{Origins.AllLaidFrom, declared.types.Laid.Laid}
 use Rattle.edit_ops.specs.declared.types.LaidClip.{LaidClip}
 use Rattle.edit_ops.specs.LaidClips.{ClipsFrom, laid_len, laid_end, laid_next, laid_cells, AreLaidClips, made_clips}
+use Rattle.pcm_base.specs.declared.sound.Cell.TheVariants as cell
 
 pub length-all_laid : (m : ℕ) (src : Sources) (ls : List Laid) → AllMade m ls
     → length (all_laid_samples src ls) ≡ added (sizes ls)
@@ -99,30 +95,6 @@ closed_cells src out c size samples e f =
     ∙ append-nil (laid_cells src 0 (out ++ c ∷ []))
     ∙ laid_cells-push src 0 out c
     ∙ ap (λ ss. laid_cells src 0 out ++ replicate (c.start - laid_end 0 out) cell.Gap ++ map cell.Sample ss) f
-
-pub gap_cells : (before : List Cell) (e k n : ℕ) (so_far rest all : List Cell) → k ≡ e + n
-    → before ++ replicate e cell.Gap ≡ so_far
-    → so_far ++ (replicate n cell.Gap ++ rest) ≡ all → before ++ replicate k cell.Gap ++ [] ++ rest ≡ all
-gap_cells before e k n so_far rest all d f g =
-    ap (λ xs. xs ++ rest) (append-nil (before ++ replicate k cell.Gap)
-    ∙ ap (λ i. before ++ replicate i cell.Gap) d
-    ∙ ap (λ xs. before ++ xs) (sym (replicate-append-replicate e n cell.Gap))
-    ∙ sym (append_assoc before (replicate e cell.Gap) (replicate n cell.Gap))
-    ∙ ap (λ xs. xs ++ replicate n cell.Gap) f)
-    ∙ append_assoc so_far (replicate n cell.Gap) rest
-    ∙ g
-
-pub sound_cells : (src : Sources) (before : List Cell) (held : List Piece) (p : Piece) (rest all : List Cell)
-    → before ++ map cell.Sample (all_samples src held) ++ (map cell.Sample (samples_of src p) ++ rest) ≡ all
-    → before ++ map cell.Sample (all_samples src (held ++ p ∷ [])) ++ rest ≡ all
-sound_cells src before held p rest all e =
-    ap (λ ss. before ++ map cell.Sample ss ++ rest)
-    (all_samples-append src held (p ∷ []) ∙ ap (λ ss. all_samples src held ++ ss) (append-nil (samples_of src p)))
-    ∙ ap (λ xs. before ++ xs ++ rest) (map-append cell.Sample (all_samples src held) (samples_of src p))
-    ∙ ap (λ xs. xs ++ rest)
-    (sym (append_assoc before (map cell.Sample (all_samples src held)) (map cell.Sample (samples_of src p))))
-    ∙ append_assoc (before ++ map cell.Sample (all_samples src held)) (map cell.Sample (samples_of src p)) rest
-    ∙ e
 
 -- all clips are laid out, and gaps are left
 pub ended_cells : (m : ℕ) (src : Sources) (cs : List LaidClip) (k : ℕ) (all : List Cell) → AreLaidClips m 0 cs

@@ -1,22 +1,18 @@
 -- Blocks by their ids.
 use Rattle.std.proofs.Common.{◌≡◌, ℕ, suc, inl, inr, ◌+◌, ◌-◌, ◌<◌, ◌≤◌, List, [], ◌∷◌, ◌++◌, length, map, replicate}
 use Rattle.std.proofs.Common.{refl, sym, ap, ap₂, subst, ◌∙◌, arith, length-append}
-use Rattle.pcm_base.specs.declared.block.BlockRef.{BlockRef}
-use Rattle.pcm_base.specs.declared.sound.Cell.TheVariants as cell
-use Rattle.pcm_base.specs.Pieces.{Sources, stretch}
 use Rattle.pcm_base.specs.Blocks.{AllFull, IsHalfFull, block_lens, blocks_len, block_samples, NoneEmpty}
-use Rattle.block_sequence.specs.Fuse.{added, made_count}
-use Rattle.block_sequence.specs.Origins.{AllLaidFrom}
-use Rattle.std.specs.Prelude.{Contains}
-use Rattle.block_sequence.specs.declared.types.Laid.{Laid}
-use Rattle.block_sequence.specs.declared.types.Laid.TheVariants.{Keep, Make}
+use Rattle.pcm_base.specs.{declared.block.BlockRef.BlockRef, Pieces.Sources, Pieces.stretch}
 use Rattle.block_sequence.specs.Laid.{parts, sizes, all_laid_samples, AllMade}
+use Rattle.block_sequence.specs.{Fuse.added, Fuse.made_count, Origins.AllLaidFrom, declared.types.Laid.Laid}
+use Rattle.block_sequence.specs.{declared.types.Laid.TheVariants.Keep, declared.types.Laid.TheVariants.Make}
+use Rattle.std.specs.Prelude.{Contains}
 use Rattle.clip_track.specs.Clips.{end_of, cells_from, AreClips, IsLayout, AllHalfFull, layout_blocks}
-use Rattle.edit_ops.specs.declared.types.LaidClip.{LaidClip}
-use Rattle.edit_ops.specs.declared.types.NewBlock.{NewBlock}
 use Rattle.edit_ops.specs.Plans.{AreWritten, AreNew, AllNewFrom, AreOldOrNew}
 use Rattle.edit_ops.specs.LaidClips.{named, new_blocks, next_after, ClipsFrom, laid_len, laid_end, laid_cells}
 use Rattle.edit_ops.specs.LaidClips.{AreLaidClips, named_clips, clips_new_blocks, clips_next, count_laid, made_clips}
+use Rattle.edit_ops.specs.{declared.types.LaidClip.LaidClip, declared.types.NewBlock.NewBlock}
+use Rattle.pcm_base.specs.declared.sound.Cell.TheVariants as cell
 
 -- each clip by itself
 abbrev pub AllLaid : ℕ → List LaidClip → Type 0
@@ -163,7 +159,7 @@ clips_next_counts next (c ∷ cs) = omega (
   clips_next_counts (next_after next c.laid.items) cs,
 )
 
-AreNew-append : (m next : ℕ) (ks bs : List NewBlock) → AreNew m next ks → AreNew m (next + length ks) bs
+pub AreNew-append : (m next : ℕ) (ks bs : List NewBlock) → AreNew m next ks → AreNew m (next + length ks) bs
     → AreNew m next (ks ++ bs)
 AreNew-append m next [] bs a b = let P : ℕ → Type 0 = λ n. AreNew m n bs in subst P (omega arith) b
 AreNew-append m next (x ∷ ks) bs a b =

@@ -1,14 +1,13 @@
 -- What the strips of pastes are, and what they mean.
 use Rattle.std.proofs.Common.{◌≡◌, ℕ, ◌+◌, ◌-◌, true, false, List, [], ◌∷◌, ◌++◌, take, drop, refl, sym, ap, ap₂, ◌∙◌}
 use Rattle.std.proofs.Common.{arith}
-use Rattle.std.specs.Prelude.{Contains}
 use Rattle.std.proofs.lemmas.List.Elements.{Contains-append_left, Contains-append_right}
-use Rattle.pcm_base.specs.declared.block.BlockRef.{BlockRef}
-use Rattle.pcm_base.specs.declared.piece.Piece.{Piece}
+use Rattle.std.specs.Prelude.{Contains}
 use Rattle.pcm_base.specs.declared.piece.Piece.TheVariants.{Old, Scaled, Zero, Given}
-use Rattle.pcm_base.specs.declared.sound.Cell.{Cell}
 use Rattle.pcm_base.specs.Cells.{trimmed, continued}
-use Rattle.pcm_base.specs.Pieces.{Sources}
+use Rattle.pcm_base.specs.declared.edits.Placing.TheVariants.{Insert, Cover}
+use Rattle.pcm_base.specs.{declared.block.BlockRef.BlockRef, declared.piece.Piece.Piece, declared.sound.Cell.Cell}
+use Rattle.pcm_base.specs.{Pieces.Sources, declared.edits.Placing.Placing, Edits.placed}
 use Rattle.block_sequence.specs.Origins.{IsFrom}
 use Rattle.clip_track.specs.declared.items.Item.{Item}
 use Rattle.clip_track.specs.declared.items.Item.TheVariants.{Gap, Sound}
@@ -17,9 +16,6 @@ use Rattle.clip_track.proofs.Strips.{length-strip_cells, strip_cells-append, Ite
 use Rattle.clip_track.proofs.Layouts.{ItemsFit-gap}
 use Rattle.clip_track.proofs.RoughStrips.{rough-append, rough_front, rough_back, rough_only_gap, rough_three}
 use Rattle.clip_track.proofs.ShortStrips.{ItemsShort-append, ItemsShort-part, short_gap}
-use Rattle.pcm_base.specs.declared.edits.Placing.{Placing}
-use Rattle.pcm_base.specs.declared.edits.Placing.TheVariants.{Insert, Cover}
-use Rattle.pcm_base.specs.Edits.{placed}
 use Rattle.edit_ops.specs.Placing.{placed_items}
 use Rattle.edit_ops.specs.Strips.{rest_items, front_items, IsOld, AllOld, IsClip, IsItemFrom, ItemsFrom}
 use Rattle.edit_ops.proofs.StripCells.{cells_front, rest_cells}

@@ -3,26 +3,22 @@ use Rattle.std.proofs.Common.{◌≡◌, ℕ, zero, suc, ◌+◌, ◌-◌, ◌*�
 use Rattle.std.proofs.Common.{◌∷◌, ◌++◌, map, refl, sym, ap, ◌∙◌, arith, append_assoc, if◌then◌else◌}
 use Rattle.std.proofs.lemmas.Bool.{cases_lt, cases_Bool}
 use Rattle.std.proofs.Math.Nat.{mul-le-mul_left, div-add-mod, mod-lt}
-use Rattle.pcm_base.specs.declared.piece.Piece.{Piece}
 use Rattle.pcm_base.specs.declared.piece.Piece.TheVariants.{Old, Scaled, Zero, Given}
-use Rattle.pcm_base.specs.Pieces.{Sources, piece_len}
-use Rattle.pcm_base.specs.Edits.{part}
-use Rattle.block_sequence.specs.Fuse.{is_whole}
-use Rattle.block_sequence.specs.Room.{Stand, First, Behind, Within, spare}
-use Rattle.block_sequence.proofs.HalfFull.{not_sound}
-use Rattle.clip_track.specs.declared.items.Item.{Item}
+use Rattle.pcm_base.specs.{declared.piece.Piece.Piece, Pieces.Sources, Pieces.piece_len, Edits.part, Sizes.sample_count}
+use Rattle.pcm_base.specs.{Sizes.clip_count}
+use Rattle.block_sequence.specs.{Fuse.is_whole, Room.Stand, Room.First, Room.Behind, Room.Within, Room.spare}
+use Rattle.block_sequence.proofs.HalfFull.{not_full}
 use Rattle.clip_track.specs.declared.items.Item.TheVariants.{Gap, Sound}
 use Rattle.clip_track.specs.Items.{strip_len, strip_cells, part_items, gap_items, AreItems}
 use Rattle.clip_track.specs.Rough.{gap_next, rough_items, ItemsShort}
-use Rattle.clip_track.specs.Room.{strip_room}
+use Rattle.clip_track.specs.{declared.items.Item.Item, Room.strip_room}
 use Rattle.clip_track.proofs.Strips.{AreItems-part, strip_cells-part}
 use Rattle.clip_track.proofs.RoomStrips.{spare_most, room-append, room_only_gap, room_front, room_back, no_room}
-use Rattle.edit_ops.specs.declared.changing.Change.{Change}
-use Rattle.edit_ops.specs.declared.changing.Change.TheVariants.{Silence, Gain}
-use Rattle.edit_ops.specs.Changes.{piece_change, item_change}
-use Rattle.pcm_base.specs.Sizes.{sample_count, clip_count}
-use Rattle.edit_ops.specs.Strips.{rest_items, front_items, with_inserted, given_items, with_change}
 use Rattle.clip_track.proofs.CellCounts.{item_samples, item_starts, sample_count-strip, clip_starts-strip}
+use Rattle.edit_ops.specs.Strips.{rest_items, front_items, with_inserted, given_items, with_change}
+use Rattle.edit_ops.specs.{declared.changing.Change.Change, declared.changing.Change.TheVariants.Silence}
+use Rattle.edit_ops.specs.{declared.changing.Change.TheVariants.Gain, Changes.piece_change, Changes.item_change}
+use Rattle.edit_ops.proofs.ChangedItems.{piece_len_change}
 
 -- the items of a layout's strip: only where they are cut is anything laid out anew
 pub record Smooth (m : ℕ) (xs : List Item) : Type 0 where
@@ -51,10 +47,10 @@ any_rest m at s xs h = rest_room m at (4 * m) s xs h (omega (arith, spare_most m
 new_piece : (m : ℕ) (s : Stand) (r : Bool) (p : Piece) (xs : List Item) → is_whole p ≡ false
     → strip_room m s r (Sound p ∷ xs) ≡ piece_len p + spare m s + strip_room m Within r xs
 new_piece m First r p xs w =
-    let n = not_sound m p w in
+    let n = not_full m p w in
     elim (cases_Bool (gap_next r xs)) [ inl g ↦ rw (n, w, g) refl | inr g ↦ rw (n, w, g) refl ]
-new_piece m Behind r p xs w = rw (not_sound m p w) refl
-new_piece m Within r p xs w = rw (not_sound m p w) refl
+new_piece m Behind r p xs w = rw (not_full m p w) refl
+new_piece m Within r p xs w = rw (not_full m p w) refl
 
 -- an insertion
 given_room : (m count at : ℕ) (s : Stand) (xs : List Item) → Smooth m xs
@@ -90,13 +86,6 @@ not_whole (Gain gain) (Scaled b from to g) = refl
 not_whole (Gain gain) (Zero len) = refl
 not_whole (Gain gain) (Given from to) = refl
 
-same_len : (change : Change) (p : Piece) → piece_len (piece_change change p) ≡ piece_len p
-same_len Silence p = refl
-same_len (Gain gain) (Old b from to) = refl
-same_len (Gain gain) (Scaled b from to g) = refl
-same_len (Gain gain) (Zero len) = refl
-same_len (Gain gain) (Given from to) = refl
-
 abbrev stand_of : Bool → Stand
 stand_of true = Within
 stand_of false = First
@@ -112,7 +101,7 @@ changed_items m change b (Gap n ∷ xs) = changed_items m change false xs
 changed_items m change b (Sound p ∷ xs) = omega (
   arith,
   new_piece m (stand_of b) false (piece_change change p) (map (item_change change) xs) (not_whole change p),
-  same_len change p,
+  piece_len_change change p,
   spare_of m (item_starts true xs) b,
   changed_items m change true xs,
 )
@@ -124,7 +113,7 @@ any_changed m change s (Gap n ∷ xs) = omega (arith, changed_items m change fal
 any_changed m change s (Sound p ∷ xs) = omega (
   arith,
   new_piece m s false (piece_change change p) (map (item_change change) xs) (not_whole change p),
-  same_len change p,
+  piece_len_change change p,
   spare_most m s,
   changed_items m change true xs,
 )

@@ -1,9 +1,7 @@
 -- Worked examples of the counts, computed.
 use Rattle.std.proofs.Common.{◌≡◌, refl, List, [], ◌∷◌, pos}
-use Rattle.pcm_base.specs.declared.sound.Cell.{Cell}
-use Rattle.pcm_base.specs.declared.sound.Cell.TheVariants.{Gap, Sample}
-use Rattle.pcm_base.specs.Edits.{part}
-use Rattle.pcm_base.specs.Sizes.{sample_count, clip_count}
+use Rattle.pcm_base.specs.{declared.sound.Cell.Cell, declared.sound.Cell.TheVariants.Gap}
+use Rattle.pcm_base.specs.{declared.sound.Cell.TheVariants.Sample, Edits.part, Sizes.sample_count, Sizes.clip_count}
 
 abbrev two_clips : List Cell
 two_clips = Gap ∷ Sample (pos 1) ∷ Sample (pos 2) ∷ Sample (pos 0) ∷ Gap ∷ Gap ∷ Sample (pos 3) ∷ []

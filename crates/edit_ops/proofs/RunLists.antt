@@ -1,25 +1,16 @@
 -- Lemmas on edits of several tracks.
 use Rattle.std.proofs.Common.{◌≡◌, ℕ, zero, suc, ◌+◌, ◌<◌, ◌^◌, List, [], ◌∷◌, ◌++◌, length, get_or, take, drop, refl}
 use Rattle.std.proofs.Common.{sym, ap, ◌∙◌, arith, inl, inr, ◌≤◌, Option, None, Some, nat_lt}
-use Rattle.std.proofs.lemmas.Bool.{cases_lt, lt-ltb}
-use Rattle.std.proofs.lemmas.List.{take_more, drop_more}
-use denote.Ref.{Bor}
-use Rattle.pcm_base.specs.declared.refusal.Refusal.{Refusal}
-use Rattle.pcm_base.specs.declared.refusal.Refusal.TheVariants.{LengthLimit}
+use Rattle.std.proofs.{lemmas.Bool.cases_lt, lemmas.Bool.lt-ltb, lemmas.List.take_more, lemmas.List.drop_more}
 use Rattle.pcm_base.specs.Refusals.{◌otherwise◌, refused_if, too_narrow, length_limit, placed_length}
-use Rattle.pcm_base.specs.declared.sound.Cell.{Cell}
-use Rattle.clip_track.specs.declared.items.Item.{Item}
-use Rattle.clip_track.specs.declared.clips.Clip.{Clip}
+use Rattle.pcm_base.specs.{declared.refusal.Refusal.Refusal, declared.refusal.Refusal.TheVariants.LengthLimit}
+use Rattle.pcm_base.specs.{declared.sound.Cell.Cell, declared.edits.Placing.Placing}
 use Rattle.clip_track.specs.Clips.{end_of, AllHalfFull}
-use Rattle.clip_track.specs.Items.{strip_len}
-use Rattle.edit_ops.specs.declared.types.Plan.{Plan}
-use Rattle.edit_ops.specs.Strips.{IsClip}
-use Rattle.edit_ops.specs.Placing.{SumsFit, LengthsFit}
-use Rattle.pcm_base.specs.declared.edits.Placing.{Placing}
-use Rattle.edit_ops.specs.Plans.{Start}
+use Rattle.clip_track.specs.{declared.items.Item.Item, declared.clips.Clip.Clip, Items.strip_len}
 use Rattle.edit_ops.specs.Runs.{AllTracksHalfFull, AreClips, IsCopy, AreCopies, IsCut, AreCuts, IsPaste, ArePastes}
-use Rattle.edit_ops.specs.Runs.{start_behind}
-use Rattle.edit_ops.specs.Runs.{layouts, next_of, lengths_of}
+use Rattle.edit_ops.specs.Runs.{start_behind, layouts, next_of, lengths_of}
+use Rattle.edit_ops.specs.{declared.types.Plan.Plan, Strips.IsClip, Placing.SumsFit, Placing.LengthsFit, Plans.Start}
+use denote.Ref.{Bor}
 
 -- the layouts after references
 layout_at : (refs : List (Bor (List Clip))) (i : ℕ) (r : Bor (List Clip)) → r ≡ get_or refs i r
@@ -107,12 +98,9 @@ pub ArePastes-push : (edit : List Cell → List Cell → List Cell) (start : Sta
     → ArePastes edit start cs ts ps → IsPaste edit (record start { next = next_of start.next ps }) c t p
     → ArePastes edit start (cs ++ c ∷ []) (ts ++ t ∷ []) (ps ++ p ∷ [])
 ArePastes-push edit start [] [] [] c t p a b = (b, tt)
-ArePastes-push edit start [] [] (x ∷ ps) c t p a b = absurd a
-ArePastes-push edit start [] (x ∷ ts) ps c t p a b = absurd a
-ArePastes-push edit start (x ∷ cs) [] ps c t p a b = absurd a
-ArePastes-push edit start (x ∷ cs) (y ∷ ts) [] c t p a b = absurd a
 ArePastes-push edit start (x ∷ cs) (y ∷ ts) (z ∷ ps) c t p a b =
     (a.0, ArePastes-push edit (start_behind start z) cs ts ps c t p a.1 b)
+ArePastes-push edit start _ _ _ c t p a b = absurd a
 
 pub next_of-push : (next : ℕ) (ps : List Plan) (p : Plan) → next_of next (ps ++ p ∷ []) ≡ p.next
 next_of-push next [] p = refl
@@ -165,11 +153,3 @@ limit_next n ns h = behind (refused_if (nat_lt (2 ^ 32) n) (LengthLimit n)) (len
 
 pub limit_first : (n : ℕ) (ns : List ℕ) (r : Refusal) → length_limit (n ∷ []) ≡ Some r → length_limit (n ∷ ns) ≡ Some r
 limit_first n ns r h = in_front (refused_if (nat_lt (2 ^ 32) n) (LengthLimit n)) (length_limit ns) r h
-
--- what is copied of layouts that are half full may be pasted
-pub clips_of_copies : (m from to : ℕ) (ts : List (List Clip)) (ss : List (List Item)) → AreCopies from to ts ss
-    → AllTracksHalfFull m ts → AreClips m ss
-clips_of_copies m from to [] [] a h = tt
-clips_of_copies m from to [] (s ∷ ss) a h = absurd a
-clips_of_copies m from to (t ∷ ts) [] a h = absurd a
-clips_of_copies m from to (t ∷ ts) (s ∷ ss) a h = (a.0.clip m h.0, clips_of_copies m from to ts ss a.1 h.1)

@@ -1,24 +1,20 @@
 -- What the strips of edits mean as cells.
 use Rattle.std.proofs.Common.{◌≡◌, ℕ, zero, suc, ◌-◌, inl, inr, min, List, ◌++◌, length, map, take, drop, replicate}
 use Rattle.std.proofs.Common.{refl, sym, ap, ap₂, ◌∙◌, arith, length-drop}
-use Rattle.std.proofs.lemmas.Bool.{cases_lt}
 use Rattle.std.proofs.lemmas.List.{take_all, append-nil, length-take}
-use Rattle.std.proofs.Math.Nat.{sub-zero}
-use Rattle.pcm_base.specs.declared.sound.Cell.{Cell}
-use Rattle.pcm_base.specs.declared.sound.Cell.TheVariants as cell
-use Rattle.pcm_base.specs.Cells.{continued}
-use Rattle.pcm_base.specs.Pieces.{Sources, stretch}
+use Rattle.std.proofs.{lemmas.Bool.cases_lt, Math.Nat.sub-zero}
 use Rattle.pcm_base.specs.Edits.{part, emptied, as_cells}
+use Rattle.pcm_base.specs.{declared.sound.Cell.Cell, Cells.continued, Pieces.Sources, Pieces.stretch}
 use Rattle.clip_track.specs.declared.items.Item.{Item}
 use Rattle.clip_track.specs.Items.{strip_len, strip_cells, part_items, gap_items}
 use Rattle.clip_track.proofs.Strips.{length-strip_cells, strip_cells-append, strip_cells-part}
 use Rattle.clip_track.proofs.Layouts.{strip_cells-gap}
-use Rattle.edit_ops.specs.declared.changing.Change.{Change}
-use Rattle.edit_ops.specs.Changes.{cell_change, item_change}
 use Rattle.edit_ops.specs.Strips.{rest_items, front_items, without, with_gaps, only_part, with_inserted, given_items}
 use Rattle.edit_ops.specs.Strips.{with_change, AllOld}
+use Rattle.edit_ops.specs.{declared.changing.Change.Change, Changes.cell_change, Changes.item_change}
 use Rattle.edit_ops.proofs.ChangedItems.{strip_cells_change, AllOld-part}
 use Rattle.edit_ops.proofs.CellLists.{map_gaps, front_within, front_past}
+use Rattle.pcm_base.specs.declared.sound.Cell.TheVariants as cell
 
 pub rest_cells : (src : Sources) (at : ℕ) (xs : List Item)
     → strip_cells src (rest_items at xs) ≡ drop at (strip_cells src xs)

@@ -1,30 +1,28 @@
 -- What the strips of edits are: parts of old blocks, few of which have to be laid out anew.
 use Rattle.std.proofs.Common.{◌≡◌, ℕ, zero, suc, ◌+◌, ◌-◌, ◌≤◌, inl, inr, min, true, false, List, [], ◌∷◌, ◌++◌, map}
 use Rattle.std.proofs.Common.{refl, sym, subst, arith}
-use Rattle.std.specs.Prelude.{Contains}
 use Rattle.std.proofs.lemmas.Bool.{cases_lt}
 use Rattle.std.proofs.lemmas.List.Elements.{Contains-append_left, Contains-append_right}
-use Rattle.pcm_base.specs.declared.block.BlockRef.{BlockRef}
-use Rattle.pcm_base.specs.declared.piece.Piece.{Piece}
+use Rattle.std.specs.Prelude.{Contains}
+use Rattle.pcm_base.specs.{declared.block.BlockRef.BlockRef, declared.piece.Piece.Piece}
 use Rattle.pcm_base.specs.declared.piece.Piece.TheVariants.{Old, Scaled, Zero, Given}
 use Rattle.block_sequence.specs.Origins.{IsFrom}
 use Rattle.block_sequence.proofs.Origins.{IsFrom-part}
-use Rattle.clip_track.specs.declared.items.Item.{Item}
 use Rattle.clip_track.specs.declared.items.Item.TheVariants.{Gap, Sound}
-use Rattle.clip_track.specs.declared.clips.Clip.{Clip}
 use Rattle.clip_track.specs.Clips.{clip_end, sound_items, items_from, layout_blocks}
 use Rattle.clip_track.specs.Items.{item_len, strip_len, part_of_item, part_items, gap_items, IsItem, AreItems, ItemsFit}
 use Rattle.clip_track.specs.Rough.{rough_items, ItemsShort}
+use Rattle.clip_track.specs.{declared.items.Item.Item, declared.clips.Clip.Clip}
 use Rattle.clip_track.proofs.Strips.{part_none, part_past, part_within, ItemsFit-append, ItemsFit-part}
 use Rattle.clip_track.proofs.Layouts.{ItemsFit-gap}
 use Rattle.clip_track.proofs.RoughStrips.{rough-append, rough_front, rough_back, rough_middle, rough_only_gap}
 use Rattle.clip_track.proofs.RoughStrips.{rough_three, rough_end}
 use Rattle.clip_track.proofs.ShortStrips.{ItemsShort-append, ItemsShort-part, short_gap}
-use Rattle.edit_ops.specs.declared.changing.Change.{Change}
-use Rattle.edit_ops.specs.declared.changing.Change.TheVariants.{Silence, Gain}
 use Rattle.edit_ops.specs.Changes.{piece_change, item_change}
 use Rattle.edit_ops.specs.Strips.{rest_items, front_items, without, with_gaps, only_part, with_inserted, given_items}
 use Rattle.edit_ops.specs.Strips.{with_change, IsItemFrom, ItemsFrom}
+use Rattle.edit_ops.specs.{declared.changing.Change.Change, declared.changing.Change.TheVariants.Silence}
+use Rattle.edit_ops.specs.declared.changing.Change.TheVariants.{Gain}
 use Rattle.edit_ops.proofs.ChangedItems.{ItemsFit_change}
 
 -- at block size m the items are parts of these blocks, of at most m samples, and at most n are to be laid out anew

@@ -1,9 +1,7 @@
 -- Changes of each sample.
-use Rattle.pcm_base.specs.declared.sound.Cell.{Cell}
-use Rattle.pcm_base.specs.declared.piece.Piece.{Piece}
 use Rattle.pcm_base.specs.declared.piece.Piece.TheVariants.{Old, Scaled, Zero, Given}
-use Rattle.pcm_base.specs.Pieces.{piece_len}
 use Rattle.pcm_base.specs.Edits.{quieted, gained}
+use Rattle.pcm_base.specs.{declared.sound.Cell.Cell, declared.piece.Piece.Piece, Pieces.piece_len}
 use Rattle.clip_track.specs.declared.items.Item.{Item}
 use Rattle.clip_track.specs.declared.items.Item.TheVariants.{Gap, Sound}
 use Rattle.edit_ops.specs.declared.changing.Change.{Change}

@@ -1,18 +1,13 @@
 -- Clips that are laid out, before the new blocks have ids.
 use Rattle.std.specs.Prelude.{ℕ, ◌+◌, ◌-◌, ◌≤◌, ◌<◌, List, [], ◌∷◌, ◌++◌, length, map, replicate}
-use Rattle.pcm_base.specs.declared.block.BlockRef.{BlockRef}
-use Rattle.pcm_base.specs.declared.sound.Cell.{Cell}
-use Rattle.pcm_base.specs.declared.sound.Cell.TheVariants as cell
-use Rattle.pcm_base.specs.Blocks.{IsHalfFull}
-use Rattle.pcm_base.specs.Pieces.{Sources}
-use Rattle.block_sequence.specs.declared.types.Laid.{Laid}
-use Rattle.block_sequence.specs.declared.types.Laid.TheVariants.{Keep, Make}
-use Rattle.block_sequence.specs.Fuse.{added, made_count}
+use Rattle.pcm_base.specs.{declared.block.BlockRef.BlockRef, declared.sound.Cell.Cell, Blocks.IsHalfFull}
+use Rattle.pcm_base.specs.{Pieces.Sources}
 use Rattle.block_sequence.specs.Laid.{parts, sizes, all_laid_samples, AllMade}
-use Rattle.block_sequence.specs.Origins.{AllLaidFrom}
+use Rattle.block_sequence.specs.{declared.types.Laid.Laid, declared.types.Laid.TheVariants.Keep}
+use Rattle.block_sequence.specs.{declared.types.Laid.TheVariants.Make, Fuse.added, Fuse.made_count, Origins.AllLaidFrom}
 use Rattle.clip_track.specs.declared.clips.Clip.{Clip}
-use Rattle.edit_ops.specs.declared.types.LaidClip.{LaidClip}
-use Rattle.edit_ops.specs.declared.types.NewBlock.{NewBlock}
+use Rattle.edit_ops.specs.{declared.types.LaidClip.LaidClip, declared.types.NewBlock.NewBlock}
+use Rattle.pcm_base.specs.declared.sound.Cell.TheVariants as cell
 
 -- the blocks that are laid out, the new ones by the ids that they get
 abbrev pub named : ℕ → List Laid → List BlockRef

@@ -1,13 +1,9 @@
 -- The two ways in which a strip is put into a track.
 use Rattle.std.specs.Prelude.{ℕ, ◌+◌, ◌≤◌, ◌<◌, ◌^◌, List, [], ◌∷◌}
-use Rattle.pcm_base.specs.declared.limits.TheConstants.{MAX_CELLS}
-use Rattle.pcm_base.specs.declared.edits.Placing.{Placing}
 use Rattle.pcm_base.specs.declared.edits.Placing.TheVariants.{Insert, Cover}
-use Rattle.pcm_base.specs.Refusals.{placed_length}
-use Rattle.clip_track.specs.declared.items.Item.{Item}
-use Rattle.clip_track.specs.declared.clips.Clip.{Clip}
-use Rattle.clip_track.specs.Clips.{end_of}
-use Rattle.clip_track.specs.Items.{strip_len}
+use Rattle.pcm_base.specs.{declared.limits.TheConstants.MAX_CELLS, declared.edits.Placing.Placing}
+use Rattle.pcm_base.specs.{Refusals.placed_length}
+use Rattle.clip_track.specs.{declared.items.Item.Item, declared.clips.Clip.Clip, Clips.end_of, Items.strip_len}
 use Rattle.edit_ops.specs.Strips.{with_inserted, with_covered}
 
 -- the items of a track with those of a strip put in

@@ -1,18 +1,13 @@
 -- What the plan of an edit promises.
 use Rattle.std.specs.Prelude.{◌≡◌, ℕ, ◌+◌, ◌<◌, ◌≤◌, ◌⊎◌, List, [], ◌∷◌, length, Contains, Option, None, Some, Result}
 use Rattle.std.specs.Prelude.{MatchResult}
-use Rattle.pcm_base.specs.declared.refusal.Refusal.{Refusal}
-use Rattle.pcm_base.specs.declared.refusal.Refusal.TheVariants.{NoMemory}
-use Rattle.pcm_base.specs.declared.block.BlockRef.{BlockRef}
-use Rattle.pcm_base.specs.declared.sound.Cell.{Cell}
 use Rattle.pcm_base.specs.Pieces.{Sources, stretch, total, all_samples, AllValid}
+use Rattle.pcm_base.specs.{declared.refusal.Refusal.Refusal, declared.refusal.Refusal.TheVariants.NoMemory}
+use Rattle.pcm_base.specs.{declared.block.BlockRef.BlockRef, declared.sound.Cell.Cell}
 use Rattle.block_sequence.specs.Origins.{AllFrom}
-use Rattle.clip_track.specs.declared.clips.Clip.{Clip}
-use Rattle.clip_track.specs.Clips.{layout_cells, AllHalfFull, layout_blocks}
-use Rattle.edit_ops.specs.declared.types.NewBlock.{NewBlock}
-use Rattle.edit_ops.specs.declared.types.Plan.{Plan}
-use Rattle.edit_ops.specs.declared.planner.Planner.{Planner}
-use Rattle.edit_ops.specs.declared.planner.RunPlanner.{RunPlanner}
+use Rattle.clip_track.specs.{declared.clips.Clip.Clip, Clips.layout_cells, Clips.AllHalfFull, Clips.layout_blocks}
+use Rattle.edit_ops.specs.{declared.types.NewBlock.NewBlock, declared.types.Plan.Plan, declared.planner.Planner.Planner}
+use Rattle.edit_ops.specs.{declared.planner.RunPlanner.RunPlanner}
 
 -- what is written to the new blocks is what their pieces say
 abbrev pub AreWritten : Sources → List NewBlock → Type 0

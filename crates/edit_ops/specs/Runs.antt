@@ -1,19 +1,14 @@
 -- Edits of several tracks: a run is a track and those after it in the project.
 use Rattle.std.specs.Prelude.{◌≡◌, ℕ, ◌-◌, ◌≤◌, max, List, [], ◌∷◌, ◌++◌, length, map, take, Option, None, Some}
-use denote.Ref.{Bor}
-use Rattle.pcm_base.specs.declared.sound.Cell.{Cell}
-use Rattle.pcm_base.specs.Edits.{range_of}
-use Rattle.pcm_base.specs.Pieces.{Sources}
-use Rattle.clip_track.specs.declared.items.Item.{Item}
-use Rattle.clip_track.specs.declared.clips.Clip.{Clip}
+use Rattle.pcm_base.specs.Refusals.{◌otherwise◌, too_narrow, bad_range, length_limit}
+use Rattle.pcm_base.specs.{declared.sound.Cell.Cell, Edits.range_of, Pieces.Sources, declared.refusal.Refusal.Refusal}
+use Rattle.pcm_base.specs.{declared.refusal.Refusal.TheVariants.EmptyClipboard}
 use Rattle.clip_track.specs.Clips.{end_of, layout_cells, AllHalfFull, layout_blocks}
 use Rattle.clip_track.specs.Items.{strip_len, strip_cells, strip_blocks}
-use Rattle.pcm_base.specs.declared.refusal.Refusal.{Refusal}
-use Rattle.pcm_base.specs.declared.refusal.Refusal.TheVariants.{EmptyClipboard}
-use Rattle.pcm_base.specs.Refusals.{◌otherwise◌, too_narrow, bad_range, length_limit}
-use Rattle.edit_ops.specs.declared.types.Plan.{Plan}
+use Rattle.clip_track.specs.{declared.items.Item.Item, declared.clips.Clip.Clip}
 use Rattle.edit_ops.specs.Plans.{Start, IsPlan, Means}
-use Rattle.edit_ops.specs.Strips.{IsClip, ItemsFrom}
+use Rattle.edit_ops.specs.{declared.types.Plan.Plan, Strips.IsClip, Strips.ItemsFrom}
+use denote.Ref.{Bor}
 
 -- the layout after each reference
 abbrev pub layouts : List (Bor (List Clip)) → List (List Clip)

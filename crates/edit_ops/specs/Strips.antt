@@ -3,12 +3,10 @@ use Rattle.std.specs.Prelude.{ℕ, zero, suc, ◌+◌, ◌-◌, ◌≤◌, min, 
 use Rattle.pcm_base.specs.declared.block.BlockRef.{BlockRef}
 use Rattle.pcm_base.specs.declared.piece.Piece.TheVariants.{Old, Scaled, Zero, Given}
 use Rattle.block_sequence.specs.Origins.{IsFrom}
-use Rattle.clip_track.specs.declared.items.Item.{Item}
-use Rattle.clip_track.specs.declared.items.Item.TheVariants.{Gap, Sound}
 use Rattle.clip_track.specs.Items.{strip_len, part_items, gap_items, ItemsFit}
-use Rattle.clip_track.specs.Rough.{rough_items, ItemsShort}
-use Rattle.edit_ops.specs.declared.changing.Change.{Change}
-use Rattle.edit_ops.specs.Changes.{item_change}
+use Rattle.clip_track.specs.{declared.items.Item.Item, declared.items.Item.TheVariants.Gap}
+use Rattle.clip_track.specs.{declared.items.Item.TheVariants.Sound, Rough.rough_items, Rough.ItemsShort}
+use Rattle.edit_ops.specs.{declared.changing.Change.Change, Changes.item_change}
 
 -- all from a place on
 abbrev pub rest_items : ℕ → List Item → List Item

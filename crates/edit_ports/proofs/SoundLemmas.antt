@@ -1,9 +1,8 @@
 -- Sounds by their names, of which one is changed.
 use Rattle.std.proofs.Common.{◌≡◌, ℕ, List, [], ◌∷◌, length, refl, sym, ap, ◌∙◌, true, false, Option, Some, None, inl}
 use Rattle.std.proofs.Common.{inr, ◌≢◌, if◌then◌else◌}
+use Rattle.std.proofs.{lemmas.Bool.cases_Bool, lemmas.Slice.Eq.bytes_eq-Decides}
 use Rattle.std.specs.Str.{bytes_eq}
-use Rattle.std.proofs.lemmas.Bool.{cases_Bool}
-use Rattle.std.proofs.lemmas.Slice.Eq.{bytes_eq-Decides}
 use Rattle.pcm_base.specs.Outside.{SameElsewhere}
 use Rattle.edit_ports.specs.Shelves.{Sound, held, with_sound, IsPlace}
 

@@ -1,43 +1,30 @@
 -- A commit after blocks that were made for it.
-use Rattle.std.proofs.Common.{ℤ, ◌≡◌, inl, inr, ⊎_elim, ap, ◌∙◌, subst, ℕ, ◌+◌, ◌^◌, ◌≤◌, None, List, [], length, Result}
-use Rattle.std.proofs.Common.{Ok, Err, IfErr, OnErr, arith}
-use Rattle.std.specs.List.{AllByRecursion}
+use Rattle.std.proofs.Common.{ℤ, ◌≡◌, inl, inr, ⊎_elim, ap, ◌∙◌, subst, ℕ, ◌+◌, ◌^◌, ◌≤◌, None, List, [], length}
+use Rattle.std.proofs.Common.{Result, Ok, Err, IfErr, OnErr, arith}
 use Rattle.std.proofs.lemmas.List.{take_all}
-use Rattle.pcm_base.specs.declared.answer.Reply.{Reply}
-use Rattle.pcm_base.specs.declared.answer.Reply.TheVariants.{Done}
-use Rattle.pcm_base.specs.declared.block.BlockRef.{BlockRef}
-use Rattle.pcm_base.specs.declared.command.Call.{Call}
-use Rattle.pcm_base.specs.declared.entry.SoundMove.{SoundMove}
-use Rattle.pcm_base.specs.declared.refusal.Refusal.{Refusal}
-use Rattle.pcm_base.specs.Counters.{Needs}
+use Rattle.std.specs.{List.AllByRecursion, Prelude.IfOk}
 use Rattle.pcm_base.specs.Run.{Answers, CarriesOut, followed, outside}
-use Rattle.pcm_base.specs.Studio as model
-use Rattle.disk_model.specs.Disk.{Files}
-use Rattle.disk_model.specs.declared.store.Store.{Ghosts}
+use Rattle.pcm_base.specs.{declared.answer.Reply.Reply, declared.answer.Reply.TheVariants.Done}
+use Rattle.pcm_base.specs.{declared.block.BlockRef.BlockRef, declared.command.Call.Call}
+use Rattle.pcm_base.specs.{declared.entry.SoundMove.SoundMove, declared.refusal.Refusal.Refusal, Counters.Needs}
+use Rattle.disk_model.specs.{Disk.Files, declared.store.Store.Ghosts}
 use Rattle.disk_model.proofs.Moments.{each_on}
 use Rattle.sample_block.specs.Sources.{IsWhole}
 use Rattle.project_journal.specs.Gate.{EachSince}
-use Rattle.record_body.specs.Kept.{Keeps}
-use Rattle.edit_ops.specs.declared.types.NewBlock.{NewBlock}
-use Rattle.edit_ops.specs.Plans.{AreNew, ref_of}
-use Rattle.editor_state.specs.Core.{Core}
+use Rattle.record_body.specs.Saved.{Keeps}
+use Rattle.edit_ops.specs.{declared.types.NewBlock.NewBlock, Plans.AreNew, Plans.ref_of}
 use Rattle.editor_state.specs.Left.{CountsIds, Left, Stops, Untouched}
-use Rattle.editor_state.specs.Made.{PiecesThere, batch_of, ids_from}
-use Rattle.editor_state.specs.Makes.{AreSynced, Making}
-use Rattle.editor_state.specs.Purges.{Purges}
 use Rattle.editor_state.specs.Studios.{IsGiven, IsHeld, IsStudio, shown, studio_of}
 use Rattle.editor_state.specs.Took.{KeepsOneOf, Took, number_behind, with_sound}
+use Rattle.editor_state.specs.{Core.Core, Made.PiecesThere, Made.batch_of, Made.ids_from, Makes.AreSynced, Makes.Making}
+use Rattle.editor_state.specs.{Purges.Purges, Records.Records, Spent.NamesGiven, Spent.Needed}
 use Rattle.model_laws.proofs.Answered.{answered_same, done_stays}
-use Rattle.editor_state.proofs.Lists.{all_so}
-use Rattle.editor_blocks.proofs.BlocksWritten.{making_next}
-use Rattle.editor_blocks.proofs.BlocksLeft.{all_changed}
-use Rattle.editor_blocks.proofs.StudioBlocks.{IsNewId, are_made, keeps_outside, made_state, refs, refs_all, refs_ids}
-use Rattle.editor_state.proofs.Calls.CallPremises.{TookWhere}
 use Rattle.editor_state.proofs.Calls.FileRemovals.{PacksNone, RemovesNone, frees_none}
 use Rattle.editor_state.proofs.Refusals.EarlyRefusals.{HasMade, stopped_not}
-use Rattle.editor_state.specs.Records.{Records}
-use Rattle.editor_state.specs.Spent.{NamesGiven, Needed}
-use Rattle.std.specs.Prelude.{IfOk}
+use Rattle.editor_state.proofs.{Lists.all_so, Calls.CallPremises.TookWhere}
+use Rattle.editor_blocks.proofs.StudioBlocks.{IsNewId, are_made, keeps_outside, made_state, refs, refs_all, refs_ids}
+use Rattle.editor_blocks.proofs.{BlocksWritten.making_next, BlocksLeft.all_changed}
+use Rattle.pcm_base.specs.Studio as model
 
 on_err : {R E : Type 0} (result : Result R E) (P Q : Type 0) → (P → Q) → OnErr result P → OnErr result Q
 on_err (Ok r) P Q f h = tt

@@ -1,19 +1,14 @@
 -- Counts, files and room while blocks are made.
-use Rattle.std.proofs.Common.{◌≡◌, ◌≢◌, inl, inr, ⊎_elim, refl, sym, ap, ◌∙◌, subst, ℕ, ◌+◌, ◌*◌, ◌≤◌, ◌<◌}
-use Rattle.std.proofs.Common.{IsSome, Option, Some, None, List, [], ◌∷◌, length, Contains}
-use Rattle.std.proofs.Common.{arith}
-use Rattle.std.proofs.lemmas.Bool.Decides.{eqb_tells}
-use Rattle.std.proofs.lemmas.Bool.{cases_lt}
-use Rattle.disk_model.specs.Disk.{Files, SameElsewhere, StaysStep}
-use Rattle.disk_model.specs.Frames.{Kept, Changed}
-use Rattle.disk_model.specs.Room.{Room, IsWithin, together}
-use Rattle.disk_model.specs.declared.store.Store.{Ghosts}
+use Rattle.std.proofs.Common.{◌≡◌, ◌≢◌, inl, inr, ⊎_elim, refl, sym, ap, ◌∙◌, subst, ℕ, ◌+◌, ◌*◌, ◌≤◌, ◌<◌, IsSome}
+use Rattle.std.proofs.Common.{Option, Some, None, List, [], ◌∷◌, length, Contains, arith}
+use Rattle.std.proofs.{lemmas.Bool.Decides.eqb_tells, lemmas.Bool.cases_lt}
+use Rattle.disk_model.specs.{Disk.Files, Disk.SameElsewhere, Disk.StaysStep, Frames.Kept, Frames.Changed, Room.Room}
+use Rattle.disk_model.specs.{Room.IsWithin, Room.together, declared.store.Store.Ghosts}
 use Rattle.disk_model.proofs.Frames.{changed_kept, changed_then_stays}
 use Rattle.sample_block.specs.Spelling.{size_of}
 use Rattle.block_ledger.specs.Counts.{Counts, SetsCount, occurrences, one_more, one_less}
 use Rattle.edit_ops.specs.declared.types.NewBlock.{NewBlock}
-use Rattle.editor_state.specs.Made.{SameOutside}
-use Rattle.editor_state.specs.Makes.{AddsFree, made_room}
+use Rattle.editor_state.specs.{Made.SameOutside, Makes.AddsFree, Makes.made_room}
 
 -- ---- the ledger
 

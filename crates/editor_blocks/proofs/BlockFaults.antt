@@ -1,44 +1,31 @@
 -- A making of blocks that failed.
 use Rattle.std.proofs.Common.{ℤ, ◌≡◌, ◌⊎◌, ◌<◌, inl, inr, ⊎_elim, refl, sym, ap, ◌∙◌, subst, ℕ, ◌+◌, ◌^◌, ◌≤◌, IsTrue}
 use Rattle.std.proofs.Common.{None, List, length, Err, true, arith}
-use Rattle.pcm_base.specs.declared.command.Call.{Call}
-use Rattle.pcm_base.specs.declared.entry.SoundMove.{SoundMove}
-use Rattle.pcm_base.specs.declared.refusal.Refusal.{Refusal}
-use Rattle.pcm_base.specs.declared.refusal.Refusal.TheVariants as refusal
-use Rattle.pcm_base.specs.declared.wav.WavFault.TheVariants.{Truncated}
-use Rattle.pcm_base.specs.Counters.{Needs}
 use Rattle.pcm_base.specs.Run.{Answers, Leaves, may_change, outside}
-use Rattle.pcm_base.specs.declared.limits.TheConstants.{LONGEST_BODY}
-use Rattle.pcm_base.specs.Studio as model
-use Rattle.disk_model.specs.Disk.{StaysStep}
-use Rattle.disk_model.specs.Frames.{Changed}
-use Rattle.disk_model.specs.Room.{together}
-use Rattle.disk_model.specs.declared.store.Store.{Ghosts}
+use Rattle.pcm_base.specs.{declared.command.Call.Call, declared.entry.SoundMove.SoundMove}
+use Rattle.pcm_base.specs.{declared.refusal.Refusal.Refusal, declared.wav.WavFault.TheVariants.Truncated}
+use Rattle.pcm_base.specs.{Counters.Needs, declared.limits.TheConstants.LONGEST_BODY}
+use Rattle.disk_model.specs.{Disk.StaysStep, Frames.Changed, Room.together, declared.store.Store.Ghosts}
 use Rattle.sample_block.specs.Spelling.{size_of}
-use Rattle.edit_ops.specs.declared.types.NewBlock.{NewBlock}
-use Rattle.edit_ops.specs.Plans.{AllNewFrom, AreNew}
-use Rattle.editor_state.specs.Adding.{stopped_by}
-use Rattle.editor_state.specs.Core.{Core}
-use Rattle.editor_state.specs.Edits.{Serves}
-use Rattle.editor_state.specs.Exchanges.{may_have_begun, reads_sound}
-use Rattle.editor_state.specs.Left.{IsSoOf}
+use Rattle.edit_ops.specs.{declared.types.NewBlock.NewBlock, Plans.AllNewFrom, Plans.AreNew}
 use Rattle.editor_state.specs.Made.{PiecesThere, SameOutside, batch_of}
 use Rattle.editor_state.specs.Makes.{HasMissed, Making, Stuck, Unput, Unread, made_room, one_call, OrCut}
 use Rattle.editor_state.specs.Studios.{IsHeld, IsStudio, named_blocks, studio_of}
-use Rattle.editor_state.specs.Took.{Took, with_sound}
-use Rattle.editor_state.specs.Spent.{Needed}
-use Rattle.editor_state.proofs.Images.ImageProjects.{keeps_now}
+use Rattle.editor_state.specs.{Adding.stopped_by, Core.Core, Edits.Serves, Exchanges.may_have_begun}
+use Rattle.editor_state.specs.{Exchanges.reads_sound, Left.IsSoOf, Took.Took, Took.with_sound, Spent.Needed}
+use Rattle.editor_state.proofs.Refusals.PurgeNumbers.{begun_purges, other_purges}
+use Rattle.editor_state.proofs.Calls.FileRemovals.{RemovesNone, broken_begins, cut_begins, frees_refused, names_sound}
+use Rattle.editor_state.proofs.Calls.FileRemovals.{begun_untouched}
+use Rattle.editor_state.proofs.Refusals.EarlyRefusals.{some_none, stopped_not}
+use Rattle.editor_state.proofs.{Images.ImageProjects.keeps_now, Images.SameMeaning.same_studio}
 use Rattle.editor_blocks.proofs.BlocksWritten.{making_unread}
 use Rattle.editor_blocks.proofs.BlocksLeft.{damaged_so, missed_so, some_changed, some_ids, some_left, some_stop}
 use Rattle.editor_blocks.proofs.BlocksLeft.{unput_changed, unput_failed, unput_files, unput_here, unput_ids, unput_is}
 use Rattle.editor_blocks.proofs.BlocksLeft.{unput_left}
 use Rattle.editor_blocks.proofs.StudioBlocks.{below_same, keeps_outside, made_held, made_state, made_studio, with_held}
 use Rattle.editor_blocks.proofs.StudioBlocks.{with_store}
-use Rattle.editor_state.proofs.Images.SameMeaning.{same_studio}
-use Rattle.editor_state.proofs.Refusals.PurgeNumbers.{begun_purges, other_purges}
-use Rattle.editor_state.proofs.Calls.FileRemovals.{RemovesNone, broken_begins, cut_begins, frees_refused, names_sound}
-use Rattle.editor_state.proofs.Calls.FileRemovals.{begun_untouched}
-use Rattle.editor_state.proofs.Refusals.EarlyRefusals.{some_none, stopped_not}
+use Rattle.pcm_base.specs.declared.refusal.Refusal.TheVariants as refusal
+use Rattle.pcm_base.specs.Studio as model
 
 module _ {D : Type 0} (disk : Ghosts D) (s : Core D) (is : IsStudio disk s) (given : ℕ → ℤ) (makes : List NewBlock)
     (going : s.stopped ≡ None)

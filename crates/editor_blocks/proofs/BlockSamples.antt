@@ -1,16 +1,14 @@
 -- New blocks of which it is supposed that they are made: samples for their ids, as their pieces say.
 use Rattle.std.proofs.Common.{◌≡◌, refl, sym, ap, ap₂, ◌∙◌, ℕ, ◌+◌, ◌≤◌, ◌<◌, nat_lt, ◌==◌, Bool, false, if◌then◌else◌}
 use Rattle.std.proofs.Common.{ℤ, pos, List, [], ◌∷◌, ◌++◌, length, get_or, arith}
-use Rattle.std.specs.List.{AllByRecursion}
 use Rattle.std.proofs.lemmas.Bool.{eq-eqb, ne_eqb, lt-ltb, le-ltb}
-use Rattle.pcm_base.specs.declared.block.BlockRef.{BlockRef}
-use Rattle.pcm_base.specs.declared.piece.Piece.{Piece}
+use Rattle.std.specs.List.{AllByRecursion}
 use Rattle.pcm_base.specs.declared.piece.Piece.TheVariants.{Old, Scaled, Zero, Given}
 use Rattle.pcm_base.specs.Pieces.{Sources, stretch, samples_of, all_samples}
+use Rattle.pcm_base.specs.{declared.block.BlockRef.BlockRef, declared.piece.Piece.Piece}
 use Rattle.pcm_base.proofs.Pieces.{length-all_samples, stretch_list}
 use Rattle.block_sequence.specs.Origins.{AllFrom}
-use Rattle.edit_ops.specs.declared.types.NewBlock.{NewBlock}
-use Rattle.edit_ops.specs.Plans.{AreNew, AreWritten, AllNewFrom}
+use Rattle.edit_ops.specs.{declared.types.NewBlock.NewBlock, Plans.AreNew, Plans.AreWritten, Plans.AllNewFrom}
 use Rattle.editor_state.specs.Edits.{beside}
 use Rattle.editor_state.proofs.Blocks.BlockLists.{contained}
 

@@ -1,38 +1,25 @@
 -- What blocks that were made, and then a record or a fault, leave of other files and of a studio that refuses.
-use Rattle.std.proofs.Common.{ℤ, ◌≡◌, ◌⊎◌, inl, inr, ⊎_elim, refl, sym, ap, ◌∙◌, subst, ℕ, ◌+◌, ◌-◌, ◌^◌, ◌≤◌, ◌<◌, IsTrue}
-use Rattle.std.proofs.Common.{List, [], length, Result, Err, arith}
-use Rattle.pcm_base.specs.declared.block.BlockRef.{BlockRef}
-use Rattle.pcm_base.specs.declared.answer.Reply.{Reply}
-use Rattle.pcm_base.specs.declared.command.Call.{Call}
-use Rattle.pcm_base.specs.declared.entry.SoundMove.{SoundMove}
-use Rattle.pcm_base.specs.declared.refusal.Refusal.{Refusal}
-use Rattle.pcm_base.specs.declared.refusal.Refusal.TheVariants as refusal
-use Rattle.pcm_base.specs.Counters.{places_of}
-use Rattle.disk_model.specs.Disk.{Files, StaysStep}
-use Rattle.disk_model.specs.Frames.{Changed}
-use Rattle.disk_model.specs.Room.{files_made, together}
-use Rattle.disk_model.specs.declared.store.Store.{Ghosts}
+use Rattle.std.proofs.Common.{ℤ, ◌≡◌, ◌⊎◌, inl, inr, ⊎_elim, refl, sym, ap, ◌∙◌, subst, ℕ, ◌+◌, ◌-◌, ◌^◌, ◌≤◌, ◌<◌}
+use Rattle.std.proofs.Common.{IsTrue, List, [], length, Result, Err, arith}
+use Rattle.pcm_base.specs.{declared.block.BlockRef.BlockRef, declared.answer.Reply.Reply, declared.command.Call.Call}
+use Rattle.pcm_base.specs.{declared.entry.SoundMove.SoundMove, declared.refusal.Refusal.Refusal, Counters.places_of}
+use Rattle.disk_model.specs.{Disk.Files, Disk.StaysStep, Frames.Changed, Room.files_made, Room.together}
+use Rattle.disk_model.specs.{declared.store.Store.Ghosts}
 use Rattle.disk_model.proofs.Frames.{changed_then_stays, changed_turn, changed_wider}
 use Rattle.sample_block.specs.Spelling.{size_of}
 use Rattle.block_ledger.specs.Counts.{Counts}
 use Rattle.envelope_view.specs.Answers.{IsDamagedIn}
-use Rattle.edit_ops.specs.declared.types.NewBlock.{NewBlock}
-use Rattle.edit_ops.specs.Plans.{AllNewFrom}
-use Rattle.editor_state.specs.Adding.{HasFailed, stopped_by}
-use Rattle.editor_state.specs.Core.{Core}
-use Rattle.editor_state.specs.Left.{CountsIds, IsSoOf, Left, LeavesOthers, MayRemove}
-use Rattle.editor_state.specs.Made.{SameOutside, batch_of}
+use Rattle.edit_ops.specs.{declared.types.NewBlock.NewBlock, Plans.AllNewFrom}
 use Rattle.editor_state.specs.Makes.{HasMissed, Making, Stuck, Unput, made_room, one_call}
-use Rattle.editor_state.specs.Packing.{packed_by}
-use Rattle.editor_state.specs.Studios.{IsGiven, IsStudio, named_blocks}
-use Rattle.editor_state.specs.Took.{asks, with_sound}
-use Rattle.editor_state.proofs.Blocks.BlockLists.{contained}
-use Rattle.editor_blocks.proofs.DiskCalls.{changed_told, within_last, within_some, within_then}
-use Rattle.editor_blocks.proofs.BlocksWritten.{making_next, making_size}
-use Rattle.editor_blocks.proofs.BlockCounts.{outside_then}
+use Rattle.editor_state.specs.{Adding.HasFailed, Adding.stopped_by, Core.Core, Left.CountsIds, Left.IsSoOf, Left.Left}
+use Rattle.editor_state.specs.{Left.LeavesOthers, Left.MayRemove, Made.SameOutside, Made.batch_of, Packing.packed_by}
+use Rattle.editor_state.specs.{Studios.IsGiven, Studios.IsStudio, Studios.named_blocks, Took.asks, Took.with_sound}
 use Rattle.editor_state.proofs.Blocks.BlockDamage.{damage_named, from_at}
 use Rattle.editor_state.proofs.Calls.OtherFiles.{Leaving, NoneGoes, others_made, others_then, others_wider}
-use Rattle.editor_state.proofs.Calls.FileRemovals.{ids_made}
+use Rattle.editor_state.proofs.{Blocks.BlockLists.contained, Calls.FileRemovals.ids_made}
+use Rattle.editor_blocks.proofs.DiskCalls.{changed_told, within_last, within_some, within_then}
+use Rattle.editor_blocks.proofs.{BlocksWritten.making_next, BlocksWritten.making_size, BlockCounts.outside_then}
+use Rattle.pcm_base.specs.declared.refusal.Refusal.TheVariants as refusal
 
 module _ {D : Type 0} (disk : Ghosts D) (s : Core D) (given : ℕ → ℤ) (makes : List NewBlock)
     (most : s.next_block + length makes ≤ 2 ^ 62) (c : Call) (sound : SoundMove) where
@@ -93,8 +80,7 @@ module _ {D : Type 0} (disk : Ghosts D) (s : Core D) (given : ℕ → ℤ) (make
       → Stuck disk s (batch_of given makes) why new → IsTrue (disk.tells s.store)
       → IsDamagedIn (disk.reads s.store) (named_blocks s) why
   damaged_so count is origin why new stuck told =
-      damage_named (named_blocks s) count (disk.reads s.store)
-      (disk.reads stuck.mid.store) stuck.block.pieces why
+      damage_named (named_blocks s) count (disk.reads s.store) (disk.reads stuck.mid.store) stuck.block.pieces why
       (from_at (named_blocks s)
       count makes origin stuck.stands.0 stuck.block stuck.stands.1 stuck.stands.2)
       (λ b has. stuck.before.changed.reads told b.id
@@ -128,8 +114,7 @@ module _ {D : Type 0} (disk : Ghosts D) (s : Core D) (given : ℕ → ℤ) (make
         (unput_here.next_block - s.next_block) len (packed_by s c)) s.store new.store
     unput_changed len =
         let within = within_last c sound (disk.reads s.store s.file) s.block_size mid.block_size k len (packed_by s c)
-        (unput_here.next_block - s.next_block)
-        (making_size disk s given makes k mid was) (omega arith) in
+        (unput_here.next_block - s.next_block) (making_size disk s given makes k mid was) (omega arith) in
         ⊎_elim
         (λ less.
         changed_wider (λ d x w. others_made s.next_block (k + 1) (s.next_block + k) may_go d x (omega arith)

@@ -1,23 +1,18 @@
 -- Blocks that are put one after another change nothing of those that are there.
 use Rattle.std.proofs.Common.{◌≡◌, ◌≢◌, ℕ, zero, suc, ◌+◌, ◌≤◌, ◌<◌, ◌⊎◌, inl, inr, ⊎_elim, ℤ, pos, List, [], ◌∷◌, ◌++◌}
 use Rattle.std.proofs.Common.{length, get_or, take, map, Option, Some, None, refl, sym, ap, ap₂, subst, ◌∙◌, arith}
-use Rattle.std.specs.Prelude.{unwrap_or}
-use Rattle.std.specs.List.{AllByRecursion}
-use Rattle.std.proofs.lemmas.List.{take_more}
-use Rattle.std.proofs.lemmas.Bool.{cases_lt}
-use Rattle.pcm_base.specs.declared.block.BlockRef.{BlockRef}
-use Rattle.pcm_base.specs.declared.piece.Piece.{Piece}
+use Rattle.std.proofs.{lemmas.List.take_more, lemmas.Bool.cases_lt}
+use Rattle.std.specs.{Prelude.unwrap_or, List.AllByRecursion}
 use Rattle.pcm_base.specs.declared.piece.Piece.TheVariants.{Old, Scaled, Zero, Given}
 use Rattle.pcm_base.specs.Arithmetic.{scaled, clamped}
 use Rattle.pcm_base.specs.Pieces.{Sources, stretch, samples_of, all_samples, total}
+use Rattle.pcm_base.specs.{declared.block.BlockRef.BlockRef, declared.piece.Piece.Piece}
 use Rattle.pcm_base.proofs.Pieces.{length-all_samples, stretch_list}
 use Rattle.disk_model.specs.Disk.{Files, SameElsewhere}
-use Rattle.sample_block.specs.Blocks.{blocks}
-use Rattle.sample_block.specs.Sources.{samples_on, sources_with, IsWhole}
+use Rattle.sample_block.specs.{Blocks.blocks, Sources.samples_on, Sources.sources_with, Sources.IsWhole}
 use Rattle.sample_block.proofs.BlockLaws.{blocks_have}
-use Rattle.edit_ops.specs.declared.types.NewBlock.{NewBlock}
-use Rattle.edit_ops.specs.Plans.{AreWritten, AreNew, ref_of}
-use Rattle.piece_store.specs.Reading.{IsThere, AllThere}
+use Rattle.edit_ops.specs.{declared.types.NewBlock.NewBlock, Plans.AreWritten, Plans.AreNew, Plans.ref_of}
+use Rattle.block_writer.specs.Reading.{IsThere, AllThere}
 use Rattle.editor_state.specs.Made.{AreAbsent, AreMade, PiecesThere, SameOutside, batch_of, ids_from}
 use Rattle.editor_state.proofs.Blocks.BlockSounds.{same_whole}
 
@@ -155,8 +150,7 @@ module _ (next n : ℕ) (old new : Files) (same : SameOutside next n old new) (g
   outside_pieces (b ∷ bs) there = (outside_all b.pieces there.0, outside_pieces bs there.1)
 
 module _ (given : ℕ → ℤ) (m next n : ℕ) (bs : List NewBlock) (d : NewBlock) (old mid : Files)
-    (lt : n < length bs) (fresh : AreNew m next bs)
-    (gone : AreAbsent next (length bs) old) (there : PiecesThere old bs)
+    (lt : n < length bs) (fresh : AreNew m next bs) (gone : AreAbsent next (length bs) old) (there : PiecesThere old bs)
     (made : AreMade (batch_of given bs) (ids_from next n) old mid) where
   abbrev b : NewBlock
   b = get_or bs n d

@@ -1,28 +1,23 @@
 -- New blocks are written one after another, and then synced one after another.
-use Rattle.std.proofs.Common.{ℤ, ◌≡◌, inr, ⊎_elim, refl, sym, ap, ◌∙◌, subst, ℕ, ◌+◌, ◌≤◌, ◌<◌}
-use Rattle.std.proofs.Common.{IsTrue, Result, Ok, Err, List, length}
-use Rattle.std.proofs.Common.{get_or, arith}
+use Rattle.std.proofs.Common.{ℤ, ◌≡◌, inr, ⊎_elim, refl, sym, ap, ◌∙◌, subst, ℕ, ◌+◌, ◌≤◌, ◌<◌, IsTrue, Result, Ok, Err}
+use Rattle.std.proofs.Common.{List, length, get_or, arith}
 use Rattle.std.proofs.lemmas.Bool.{cases_lt}
 use Rattle.pcm_base.specs.declared.refusal.Refusal.{Refusal}
-use Rattle.pcm_base.specs.declared.refusal.Refusal.TheVariants as refusal
-use Rattle.disk_model.specs.MomentLaws.{upto_refl}
 use Rattle.disk_model.specs.Disk.{Files, StaysStep}
-use Rattle.disk_model.specs.Frames.{Changed}
-use Rattle.disk_model.specs.declared.store.Store.{Ghosts}
+use Rattle.disk_model.specs.{MomentLaws.upto_refl, Frames.Changed, declared.store.Store.Ghosts}
 use Rattle.disk_model.proofs.Frames.{Fewer, changed_none, changed_turn, changed_then_stays, changed_wider}
 use Rattle.sample_block.specs.Spelling.{size_of}
 use Rattle.block_ledger.specs.Counts.{Counts}
 use Rattle.project_journal.specs.Gate.{EachNow}
-use Rattle.edit_ops.specs.declared.types.NewBlock.{NewBlock}
-use Rattle.edit_ops.specs.Plans.{AreNew}
-use Rattle.editor_state.specs.Adding.{HasFailed, stopped_by}
-use Rattle.editor_state.specs.Core.{Core}
+use Rattle.edit_ops.specs.{declared.types.NewBlock.NewBlock, Plans.AreNew}
 use Rattle.editor_state.specs.Made.{AreMade, SameOutside, batch_of, ids_from}
 use Rattle.editor_state.specs.Makes.{AddsFree, AreSynced, IsDamageAmong, IsOfDevices, MadeOne, Makes, Making, NotMade}
 use Rattle.editor_state.specs.Makes.{Stuck, Synced, Syncs, Unread, Unsynced, Written, made_room, one_call}
+use Rattle.editor_state.specs.{Adding.HasFailed, Adding.stopped_by, Core.Core}
 use Rattle.editor_blocks.proofs.BlocksPut.{new_at, next_there, next_absent, made_more, made_none}
 use Rattle.editor_blocks.proofs.BlockCounts.{called, free_more, free_none, outside_more, outside_then, room_more}
 use Rattle.editor_blocks.proofs.BlockCounts.{size_most, some_block, then_kept}
+use Rattle.pcm_base.specs.declared.refusal.Refusal.TheVariants as refusal
 
 module _ {D : Type 0} (disk : Ghosts D) (s : Core D) (given : ℕ → ℤ) (bs : List NewBlock) where
   abbrev z : ℕ
@@ -124,11 +119,8 @@ module _ {D : Type 0} (disk : Ghosts D) (s : Core D) (given : ℕ → ℤ) (bs :
       → Synced disk mid (ids_from s.next_block k) new → Making disk s (batch_of given bs) n new
   synced_making n k mid new le was then =
       making_over n mid new was.making then.is then.reads
-      (changed_then_stays (record {
-        files = omega arith;
-        bytes = omega arith;
-        calls = omega (arith, le);
-      }) (called n was.calls was.making.changed) then.changed)
+      (changed_then_stays (record { files = omega arith; bytes = omega arith; calls = omega (arith, le) })
+      (called n was.calls was.making.changed) then.changed)
       then.change_faults
 
   makes_done : (mid new : Core D) → Written disk s (batch_of given bs) (length bs) mid
@@ -157,7 +149,7 @@ module _ {D : Type 0} (disk : Ghosts D) (s : Core D) (given : ℕ → ℤ) (bs :
     stands = (some_block bs (omega (arith, un.some_left))).1;
     damaged = λ told. subst
         (IsDamageAmong (disk.reads un.mid.store) (some_block bs (omega (arith, un.some_left))).0.pieces) (sym un.is) tt;
-    sound = λ told there gone. subst IsOfDevices (sym un.is) tt;
+    valid = λ told there gone. subst IsOfDevices (sym un.is) tt;
   }
 
   pub makes_both : (result : Result (Unit {0}) Refusal) (mid new : Core D)
@@ -200,11 +192,8 @@ module _ {D : Type 0} (disk : Ghosts D) (s : Core D) (first : ℕ) where
           let at : first + n ≡ f = omega (arith, after, high) in
           subst (λ (k : ℕ). c k ≡ disk.reads new.store k) at (durable c now))
           (cases_lt f (first + n));
-      changed = changed_then_stays (record {
-        files = omega arith;
-        bytes = omega arith;
-        calls = omega arith;
-      }) was.changed changed;
+      changed = changed_then_stays (record { files = omega arith; bytes = omega arith; calls = omega arith })
+          was.changed changed;
       read_faults = read_faults ∙ was.read_faults;
       change_faults = change_faults ∙ was.change_faults;
     }

@@ -1,28 +1,20 @@
 -- The samples of new blocks that are made one after another, of which it may not be known before they are read which come.
 use Rattle.std.proofs.Common.{◌≡◌, ◌⊎◌, inl, inr, ⊎_elim, ◌≤◌, ◌<◌, ℕ, ◌+◌, ℤ, Bool, true, false, IsTrue, List, [], ◌∷◌}
 use Rattle.std.proofs.Common.{length, take, drop, get_or, Option, Some, None, refl, sym, ap, subst, ◌∙◌, arith}
-use Rattle.std.proofs.lemmas.Bool.{true≢false, cases_eq}
-use Rattle.std.proofs.lemmas.List.{drop_more, take_more}
-use Rattle.std.proofs.lemmas.Option.{same_Some}
-use Rattle.disk_model.specs.Disk.{Files}
-use Rattle.disk_model.specs.declared.store.Store.{Ghosts}
+use Rattle.std.proofs.{lemmas.Bool.true≢false, lemmas.Bool.cases_eq, lemmas.List.drop_more, lemmas.List.take_more}
+use Rattle.std.proofs.{lemmas.Option.same_Some}
+use Rattle.disk_model.specs.{Disk.Files, declared.store.Store.Ghosts}
 use Rattle.disk_model.proofs.Frames.{Fewer}
-use Rattle.pcm_base.specs.Pieces.{all_samples}
-use Rattle.pcm_base.specs.declared.piece.Piece.{Piece}
 use Rattle.pcm_base.specs.declared.piece.Piece.TheVariants.{Old, Scaled, Zero, Given}
-use Rattle.sample_block.specs.Blocks.{blocks}
-use Rattle.sample_block.specs.Sources.{sources_with}
-use Rattle.edit_ops.specs.declared.types.NewBlock.{NewBlock}
-use Rattle.edit_ops.specs.Plans.{AreNew, AreWritten}
-use Rattle.piece_store.specs.Brought.{Brought, MayBring, AreInOrder}
-use Rattle.piece_store.specs.Making.{IsFilled}
-use Rattle.piece_store.specs.Reading.{AllThere, IsThere}
-use Rattle.piece_store.proofs.BringLaws.{any_brought, glue, glue_fits, glue_front, glue_rest, order_le, order_wider, parts_same}
-use Rattle.editor_state.specs.Core.{Core}
-use Rattle.editor_state.specs.Made.{AllInOrder, batch_of}
-use Rattle.editor_state.specs.Makes.{MadeOne, Making, Written}
-use Rattle.editor_blocks.proofs.BlocksWritten.{written_more, written_none}
-use Rattle.editor_blocks.proofs.PieceOrder.{order_append}
+use Rattle.pcm_base.specs.{Pieces.all_samples, declared.piece.Piece.Piece}
+use Rattle.sample_block.specs.{Blocks.blocks, Sources.sources_with}
+use Rattle.edit_ops.specs.{declared.types.NewBlock.NewBlock, Plans.AreNew, Plans.AreWritten}
+use Rattle.block_writer.specs.Brought.{Brought, MayBring, AreInOrder}
+use Rattle.block_writer.specs.{Making.IsFilled, Reading.AllThere, Reading.IsThere}
+use Rattle.block_writer.proofs.BringLaws.{any_brought, glue, glue_fits, glue_front, glue_rest, order_le, order_wider}
+use Rattle.block_writer.proofs.BringLaws.{parts_same}
+use Rattle.editor_state.specs.{Core.Core, Made.AllInOrder, Made.batch_of, Makes.MadeOne, Makes.Making, Makes.Written}
+use Rattle.editor_blocks.proofs.{BlocksWritten.written_more, BlocksWritten.written_none, PieceOrder.order_append}
 
 -- ---- one block
 

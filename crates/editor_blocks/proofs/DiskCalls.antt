@@ -1,15 +1,11 @@
 -- What blocks that are made and a record after them ask of the disk.
 use Rattle.std.proofs.Common.{◌≡◌, sym, subst, ℕ, ◌+◌, ◌*◌, ◌≤◌, IsTrue, List, Option, Err, arith}
-use Rattle.pcm_base.specs.declared.command.Call.{Call}
-use Rattle.pcm_base.specs.declared.entry.SoundMove.{SoundMove}
-use Rattle.pcm_base.specs.declared.refusal.Refusal.TheVariants as refusal
-use Rattle.disk_model.specs.Disk.{Files}
-use Rattle.disk_model.specs.Frames.{Changed}
+use Rattle.pcm_base.specs.{declared.command.Call.Call, declared.entry.SoundMove.SoundMove}
 use Rattle.disk_model.specs.Room.{IsWithin, Room, together}
-use Rattle.disk_model.specs.declared.store.Store.{Ghosts}
+use Rattle.disk_model.specs.{Disk.Files, Frames.Changed, declared.store.Store.Ghosts}
 use Rattle.sample_block.specs.Spelling.{size_of}
-use Rattle.editor_state.specs.Makes.{made_room}
-use Rattle.editor_state.specs.Took.{Exchange, asks, with_sound}
+use Rattle.editor_state.specs.{Makes.made_room, Took.Exchange, Took.asks, Took.with_sound}
+use Rattle.pcm_base.specs.declared.refusal.Refusal.TheVariants as refusal
 
 -- (the bytes over plain numbers, since the terms are long)
 bytes_then : (z n p v : ℕ) → n * z + (p + (0 + v) * z) ≤ p + (n + v) * z

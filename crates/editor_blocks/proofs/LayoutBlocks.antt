@@ -1,23 +1,16 @@
 -- The blocks of a layout: what they mean, and which of them are new.
-use Rattle.std.proofs.Common.{◌≡◌, ◌⊎◌, ⊎_elim, refl, sym, ap, ◌∙◌, subst, ℕ, ℤ, Some}
-use Rattle.std.proofs.Common.{List, [], ◌∷◌, true, eqb, if◌then◌else◌}
+use Rattle.std.proofs.Common.{◌≡◌, ◌⊎◌, ⊎_elim, refl, sym, ap, ◌∙◌, subst, ℕ, ℤ, Some, List, [], ◌∷◌, true, eqb}
+use Rattle.std.proofs.Common.{if◌then◌else◌}
+use Rattle.std.proofs.{lemmas.Bool.eq-eqb, lemmas.Bool.Decides.eqb_tells, lemmas.Option.none-some}
 use Rattle.std.specs.List.{AllByRecursion}
-use Rattle.std.proofs.lemmas.Bool.{eq-eqb}
-use Rattle.std.proofs.lemmas.Bool.Decides.{eqb_tells}
-use Rattle.std.proofs.lemmas.Option.{none-some}
-use Rattle.pcm_base.specs.declared.block.BlockRef.{BlockRef}
-use Rattle.pcm_base.specs.Cells.{cells_of_first}
+use Rattle.pcm_base.specs.{declared.block.BlockRef.BlockRef, Cells.cells_of_first}
 use Rattle.clip_track.specs.Clips.{layout_blocks, layout_cells}
-use Rattle.edit_ops.specs.declared.types.NewBlock.{NewBlock}
-use Rattle.edit_ops.specs.Plans.{AreOldOrNew}
-use Rattle.project_state.specs.declared.track.Track.{Track}
-use Rattle.project_state.specs.Meaning.{point_blocks}
-use Rattle.project_state.specs.Tracks.{track_of}
-use Rattle.editor_state.specs.Edits.{alone, beside}
-use Rattle.editor_state.specs.Points.{put_in, put_one}
+use Rattle.edit_ops.specs.{declared.types.NewBlock.NewBlock, Plans.AreOldOrNew}
+use Rattle.project_state.specs.{declared.track.Track.Track, Meaning.point_blocks, Tracks.track_of}
+use Rattle.editor_state.specs.{Edits.alone, Edits.beside, Points.put_in, Points.put_one}
 use Rattle.editor_state.proofs.Lists.{all_left, all_right}
-use Rattle.editor_blocks.proofs.StudioBlocks.{refs}
 use Rattle.editor_state.proofs.Blocks.BlockSounds.{SameSound, same_point}
+use Rattle.editor_blocks.proofs.StudioBlocks.{refs}
 
 -- what a command brings changes no block
 pub layout_given : (block : ℕ → ℕ → ℤ) (given : ℕ → ℤ) (t : Track)

@@ -1,19 +1,15 @@
 -- The next block of some that are made.
-use Rattle.std.proofs.Common.{ℤ, ◌≡◌, inl, ⊎_elim, refl, sym, ◌∙◌, subst, ℕ, ◌+◌, ◌^◌, ◌≤◌, ◌<◌}
-use Rattle.std.proofs.Common.{IsTrue, IsSome, Option, Some, None, List, length}
-use Rattle.std.proofs.Common.{get_or, slice_get, arith}
+use Rattle.std.proofs.Common.{ℤ, ◌≡◌, inl, ⊎_elim, refl, sym, ◌∙◌, subst, ℕ, ◌+◌, ◌^◌, ◌≤◌, ◌<◌, IsTrue, IsSome, Option}
+use Rattle.std.proofs.Common.{Some, None, List, length, get_or, slice_get, arith}
 use Rattle.std.proofs.lemmas.Option.{slice_get-get_or, same_Some}
-use Rattle.pcm_base.specs.Pieces.{total}
-use Rattle.pcm_base.specs.declared.refusal.Refusal.{Refusal}
+use Rattle.pcm_base.specs.{Pieces.total, declared.refusal.Refusal.Refusal}
 use Rattle.disk_model.specs.declared.store.Store.{Ghosts}
 use Rattle.sample_block.specs.Spelling.{IsBlock}
 use Rattle.block_ledger.specs.Counts.{Counts}
-use Rattle.edit_ops.specs.declared.types.NewBlock.{NewBlock}
-use Rattle.edit_ops.specs.Plans.{AreNew}
-use Rattle.piece_store.specs.Reading.{AllThere}
-use Rattle.editor_state.specs.Core.{Core}
-use Rattle.editor_state.specs.Made.{AreAbsent, PiecesThere, batch_of}
+use Rattle.edit_ops.specs.{declared.types.NewBlock.NewBlock, Plans.AreNew}
+use Rattle.block_writer.specs.Reading.{AllThere}
 use Rattle.editor_state.specs.Makes.{AddsFree, IsDamageAmong, IsOfDevices, Making, NotMade, Stuck}
+use Rattle.editor_state.specs.{Core.Core, Made.AreAbsent, Made.PiecesThere, Made.batch_of}
 use Rattle.editor_blocks.proofs.BlocksPut.{new_at, next_there}
 
 -- ---- the next block of some
@@ -74,7 +70,7 @@ module _ {D : Type 0} (disk : Ghosts D) (s : Core D) (given : ℕ → ℤ) (bs :
       → (IsTrue (disk.tells mid.store) → AllThere (disk.reads mid.store) b.pieces → IsOfDevices why)
       → (IsTrue (disk.tells mid.store) → IsDamageAmong (disk.reads mid.store) b.pieces why)
       → Stuck disk s (batch_of given bs) why new
-  stuck_here why new reads by sound damaged = record {
+  stuck_here why new reads by valid damaged = record {
     made = n;
     few = omega (arith, lt);
     mid = mid;
@@ -85,5 +81,5 @@ module _ {D : Type 0} (disk : Ghosts D) (s : Core D) (given : ℕ → ℤ) (bs :
     block = b;
     stands = (n, lt, item bs n b b lt here);
     damaged = damaged;
-    sound = λ told there gone. sound (subst IsTrue (sym was.changed.tells) told) (pieces_still told there gone);
+    valid = λ told there gone. valid (subst IsTrue (sym was.changed.tells) told) (pieces_still told there gone);
   }

@@ -1,21 +1,15 @@
 -- An edit that is carried out finds no damaged file, where the disk holds the studio and has the blocks that are read.
-use Rattle.std.proofs.Common.{◌≡◌, ⊎_elim, sym, subst, ℕ, nat_lt, not, ◌+◌, ◌^◌}
-use Rattle.std.proofs.Common.{None, length, Err}
-use Rattle.pcm_base.specs.declared.refusal.Refusal.{Refusal}
-use Rattle.pcm_base.specs.declared.refusal.Refusal.TheVariants as refusal
-use Rattle.pcm_base.specs.declared.wav.WavFault.TheVariants.{Truncated}
-use Rattle.pcm_base.specs.Counters.{no_room}
-use Rattle.pcm_base.specs.Refusals.{◌otherwise◌}
+use Rattle.std.proofs.Common.{◌≡◌, ⊎_elim, sym, subst, ℕ, nat_lt, not, ◌+◌, ◌^◌, None, length, Err}
+use Rattle.pcm_base.specs.{declared.refusal.Refusal.Refusal, declared.wav.WavFault.TheVariants.Truncated}
+use Rattle.pcm_base.specs.{Counters.no_room, Refusals.◌otherwise◌}
 use Rattle.disk_model.specs.declared.store.Store.{Ghosts}
 use Rattle.envelope_view.specs.Answers.{IsUndamaged}
 use Rattle.project_journal.specs.Journal.{rows_length}
-use Rattle.editor_state.specs.Core.{Core}
 use Rattle.editor_state.specs.Edits.{Carried, NotPrepared, BlockCommit}
-use Rattle.editor_state.specs.Made.{PiecesThere}
-use Rattle.editor_state.specs.Makes.{IsOfDevices}
-use Rattle.editor_state.specs.Studios.{IsHeld, IsStudio}
+use Rattle.editor_state.specs.{Core.Core, Made.PiecesThere, Makes.IsOfDevices, Studios.IsHeld, Studios.IsStudio}
 use Rattle.editor_blocks.proofs.StudioBlocks.{absent}
 use Rattle.editor_state.proofs.Refusals.DamageTests.{spent_tells, either_tells, tests_tell, outgrowing}
+use Rattle.pcm_base.specs.declared.refusal.Refusal.TheVariants as refusal
 
 -- a device's fault is no damage
 device_undamaged : (why : Refusal) → IsOfDevices why → IsUndamaged why
@@ -52,6 +46,6 @@ module _ {D : Type 0} (disk : Ghosts D) (s : Core D) (is : IsStudio disk s) (goi
   no_damage new held there carried = ⊎_elim
       (λ not. unprepared not.1)
       (⊎_elim
-      (λ some. device_undamaged why (some.1.sound held.tells there (absent disk s is n going held some.0.blocks)))
+      (λ some. device_undamaged why (some.1.valid held.tells there (absent disk s is n going held some.0.blocks)))
       (λ last. subst IsUndamaged (sym last.0) tt))
       carried

@@ -1,21 +1,18 @@
 -- Pieces of blocks that are there, and ids that are counted.
-use Rattle.std.proofs.Common.{⊎_elim, refl, ap, subst, ℕ, ◌<◌, if◌then◌else◌, IsSome, Option, Some, None, List, []}
-use Rattle.std.proofs.Common.{◌∷◌, arith}
-use Rattle.std.specs.List.{AllByRecursion}
+use Rattle.std.proofs.Common.{⊎_elim, refl, ap, subst, ℕ, ◌<◌, if◌then◌else◌, IsSome, Option, Some, None, List, [], ◌∷◌}
+use Rattle.std.proofs.Common.{arith}
 use Rattle.std.proofs.lemmas.Bool.Decides.{eqb_tells}
-use Rattle.pcm_base.specs.declared.block.BlockRef.{BlockRef}
-use Rattle.pcm_base.specs.declared.piece.Piece.{Piece}
+use Rattle.std.specs.List.{AllByRecursion}
 use Rattle.pcm_base.specs.declared.piece.Piece.TheVariants.{Old, Scaled, Zero, Given}
+use Rattle.pcm_base.specs.{declared.block.BlockRef.BlockRef, declared.piece.Piece.Piece}
 use Rattle.disk_model.specs.Disk.{Files}
 use Rattle.sample_block.specs.Sources.{IsWhole, AllWhole}
 use Rattle.block_sequence.specs.Origins.{AllFrom}
 use Rattle.block_ledger.specs.Counts.{Counts, occurrences}
-use Rattle.edit_ops.specs.declared.types.NewBlock.{NewBlock}
-use Rattle.edit_ops.specs.Plans.{AllNewFrom}
-use Rattle.piece_store.specs.Reading.{AllThere}
-use Rattle.editor_state.specs.Made.{PiecesThere}
-use Rattle.editor_state.specs.Occurrences.{HasIds, times_named}
-use Rattle.editor_state.proofs.Blocks.BlockLists.{contained}
+use Rattle.edit_ops.specs.{declared.types.NewBlock.NewBlock, Plans.AllNewFrom}
+use Rattle.block_writer.specs.Reading.{AllThere}
+use Rattle.editor_state.specs.{Made.PiecesThere, Occurrences.HasIds, Occurrences.times_named}
+use Rattle.editor_state.proofs.{Blocks.BlockLists.contained, Blocks.BlockNumbers.some_count}
 
 pieces_all : (files : Files) (xs : List BlockRef) (n : ℕ) (ps : List Piece) → AllWhole files xs → AllFrom xs n ps
     → AllThere files ps
@@ -32,10 +29,6 @@ pub makes_all : (files : Files) (xs : List BlockRef) (n : ℕ) (bs : List NewBlo
 makes_all files xs n [] whole from = tt
 makes_all files xs n (b ∷ bs) whole from =
     (pieces_all files xs n b.pieces whole from.0, makes_all files xs n bs whole from.1)
-
-some_count : (o : Option ℕ) → 0 < occurrences o → IsSome o
-some_count None h = absurd (omega (arith, h))
-some_count (Some n) h = refl
 
 abbrev pub IsCounted : Counts → BlockRef → Type 0
 IsCounted counts b = IsSome (counts b.id)

@@ -1,10 +1,9 @@
 -- Blocks whose pieces come in order, after others that do.
-use Rattle.std.proofs.Common.{◌≤◌, ℕ, ◌+◌, List, [], ◌∷◌, ◌++◌}
-use Rattle.std.proofs.Common.{arith}
+use Rattle.std.proofs.Common.{◌≤◌, ℕ, ◌+◌, List, [], ◌∷◌, ◌++◌, arith}
 use Rattle.pcm_base.specs.declared.piece.Piece.{Piece}
 use Rattle.pcm_base.specs.declared.piece.Piece.TheVariants.{Old, Scaled, Zero, Given}
 use Rattle.edit_ops.specs.declared.types.NewBlock.{NewBlock}
-use Rattle.piece_store.specs.Brought.{AreInOrder, LiesBetween}
+use Rattle.block_writer.specs.Brought.{AreInOrder, LiesBetween}
 use Rattle.editor_state.specs.Made.{AllInOrder}
 
 pub order_append : (low mid high : ℕ) (xs ys : List NewBlock) → AllInOrder low mid xs → AllInOrder mid high ys

@@ -1,24 +1,17 @@
 -- The blocks of plans: which a layout names, and which pieces are read.
 use Rattle.std.proofs.Common.{⊎_elim, sym, subst, ℕ, ◌+◌, List, [], ◌∷◌, Contains}
 use Rattle.std.specs.List.{AllByRecursion}
-use Rattle.pcm_base.specs.declared.block.BlockRef.{BlockRef}
-use Rattle.pcm_base.specs.declared.piece.Piece.{Piece}
 use Rattle.pcm_base.specs.declared.piece.Piece.TheVariants.{Old, Scaled, Zero, Given}
-use Rattle.pcm_base.specs.Pieces.{AllValid}
+use Rattle.pcm_base.specs.{declared.block.BlockRef.BlockRef, declared.piece.Piece.Piece, Pieces.AllValid}
 use Rattle.block_sequence.specs.Origins.{AllFrom}
 use Rattle.sample_block.specs.Sources.{AllNamed, IsNamed}
-use Rattle.clip_track.specs.declared.clips.Clip.{Clip}
-use Rattle.clip_track.specs.Clips.{layout_blocks}
-use Rattle.edit_ops.specs.declared.types.NewBlock.{NewBlock}
-use Rattle.edit_ops.specs.Plans.{AreNew, AllNewFrom, AreOldOrNew}
-use Rattle.piece_store.specs.Reading.{AllReadable}
-use Rattle.record_body.specs.Sound.{AllGiven, AllClipsGiven}
-use Rattle.record_body.proofs.KeptBounds.{all_append}
-use Rattle.editor_state.specs.Edits.{AreAmong}
-use Rattle.editor_state.specs.Made.{PiecesReadable}
-use Rattle.editor_state.specs.Studios.{IsGiven}
-use Rattle.editor_state.proofs.Blocks.BlockLists.{contained}
-use Rattle.editor_state.proofs.Lists.{all_left, all_right}
+use Rattle.clip_track.specs.{declared.clips.Clip.Clip, Clips.layout_blocks}
+use Rattle.edit_ops.specs.{declared.types.NewBlock.NewBlock, Plans.AreNew, Plans.AllNewFrom, Plans.AreOldOrNew}
+use Rattle.block_writer.specs.Reading.{AllReadable}
+use Rattle.record_body.specs.Valid.{AllGiven, AllClipsGiven}
+use Rattle.record_body.proofs.SavedBounds.{all_append}
+use Rattle.editor_state.specs.{Edits.AreAmong, Made.PiecesReadable, Studios.IsGiven}
+use Rattle.editor_state.proofs.{Blocks.BlockLists.contained, Lists.all_left, Lists.all_right}
 use Rattle.editor_blocks.proofs.StudioBlocks.{refs}
 
 -- ---- their ids

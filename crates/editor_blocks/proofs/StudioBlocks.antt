@@ -1,36 +1,27 @@
 -- A studio whose new blocks are made is a studio, and what it stands for is as before.
 use Rattle.std.proofs.Common.{ℤ, ◌≡◌, inl, inr, ⊎_elim, refl, sym, ◌∙◌, subst, ℕ, zero, suc, ◌+◌, ◌^◌, ◌≤◌, ◌<◌, IsTrue}
 use Rattle.std.proofs.Common.{IsSome, Option, None, List, [], ◌∷◌, length, map, take, arith}
-use Rattle.std.specs.List.{AllByRecursion}
 use Rattle.std.proofs.lemmas.Bool.{cases_lt}
+use Rattle.std.specs.List.{AllByRecursion}
 use Rattle.pcm_base.specs.declared.block.BlockRef.{BlockRef}
-use Rattle.disk_model.specs.MomentLaws.{upto_refl}
-use Rattle.disk_model.specs.Disk.{Files, Follows}
-use Rattle.disk_model.specs.declared.store.Store.{Ghosts}
+use Rattle.disk_model.specs.{MomentLaws.upto_refl, Disk.Files, Disk.Follows, declared.store.Store.Ghosts}
 use Rattle.sample_block.specs.Sources.{sources_of, IsWhole}
 use Rattle.block_ledger.specs.Counts.{Counts}
-use Rattle.project_journal.specs.Gate.{EachNow, EachSince}
-use Rattle.project_journal.specs.Choice.{other_file}
+use Rattle.project_journal.specs.{Gate.EachNow, Gate.EachSince, Choice.other_file}
 use Rattle.project_journal.proofs.Kept.{SameJournals, each_since, is_at_still}
-use Rattle.edit_ops.specs.declared.types.NewBlock.{NewBlock}
-use Rattle.edit_ops.specs.Plans.{AreNew, ref_of}
-use Rattle.piece_store.proofs.MadeLaws.{file_of_block}
+use Rattle.edit_ops.specs.{declared.types.NewBlock.NewBlock, Plans.AreNew, Plans.ref_of}
+use Rattle.block_writer.proofs.MadeLaws.{file_of_block}
 use Rattle.project_state.specs.declared.track.Track.{Track}
-use Rattle.record_body.specs.Kept.{Keeps}
-use Rattle.record_body.specs.KeptSound.{IsSoundPoint, IsSoundTagged}
-use Rattle.record_body.proofs.KeptBounds.{tagged_more}
-use Rattle.editor_state.proofs.Blocks.CachePages.{pages_by_blocks}
-use Rattle.editor_state.specs.Core.{Core, form_at}
+use Rattle.record_body.specs.{Saved.Keeps, SavedValid.IsValidPoint, SavedValid.IsValidTagged}
+use Rattle.record_body.proofs.SavedBounds.{tagged_more}
+use Rattle.editor_state.proofs.Images.ImageProjects.{form_few, keeps_by, shown_is, covers_kept}
+use Rattle.editor_state.proofs.Blocks.BlockSounds.{all_whole, trans_same}
+use Rattle.editor_state.proofs.{Blocks.CachePages.pages_by_blocks, Lists.all_so, Images.SameMeaning.same_studio}
 use Rattle.editor_state.specs.Made.{AreAbsent, AreMade, PiecesThere, SameOutside, batch_of, ids_from}
-use Rattle.editor_state.specs.Makes.{AddsFree, Making}
 use Rattle.editor_state.specs.Studios.{IsGiven, SameBlocks, IsDurable, IsHeld, IsStudio, named_blocks, shown, studio_by}
 use Rattle.editor_state.specs.Studios.{studio_of}
-use Rattle.editor_state.specs.declared.pin.Pin.{Pin}
-use Rattle.editor_state.proofs.Images.ImageProjects.{form_few, keeps_by, shown_is, covers_kept}
-use Rattle.editor_state.proofs.Lists.{all_so}
+use Rattle.editor_state.specs.{Core.Core, Core.form_at, Makes.AddsFree, Makes.Making, declared.pin.Pin.Pin}
 use Rattle.editor_blocks.proofs.NextBlock.{none_where}
-use Rattle.editor_state.proofs.Images.SameMeaning.{same_studio}
-use Rattle.editor_state.proofs.Blocks.BlockSounds.{all_whole, trans_same}
 
 -- ---- the references to new blocks
 
@@ -77,7 +68,7 @@ made_there m next (suc n) (b ∷ bs) files few fresh whole id low high = ⊎_eli
 
 -- ids and points that were given stay given
 pub point_more : (m block track block' track' : ℕ) (p : List Track) → block ≤ block' → track ≤ track'
-    → IsSoundPoint m block track p → IsSoundPoint m block' track' p
+    → IsValidPoint m block track p → IsValidPoint m block' track' p
 point_more m block track block' track' p le le' h =
     (tagged_more m block track 0 block' track' 0 (p, 0) le le' (omega arith) (h, omega arith)).0
 
@@ -136,8 +127,8 @@ module _ {D : Type 0} (disk : Ghosts D) (s : Core D) (is : IsStudio disk s) wher
     with_store most free =
         let m = s.block_size in
         let next = s.next_block + n in
-        let Was : List Track × ℕ → Type 0 = IsSoundTagged m s.next_block s.next_track s.commit_number in
-        let Now : List Track × ℕ → Type 0 = IsSoundTagged m next s.next_track s.commit_number in record {
+        let Was : List Track × ℕ → Type 0 = IsValidTagged m s.next_block s.next_track s.commit_number in
+        let Now : List Track × ℕ → Type 0 = IsValidTagged m next s.next_track s.commit_number in record {
           format = is.format;
           counters = record {
             block_least = omega (arith, is.counters.block_least);
@@ -156,8 +147,8 @@ module _ {D : Type 0} (disk : Ghosts D) (s : Core D) (is : IsStudio disk s) wher
           points = all_so Was Now
               (λ p h. tagged_more m s.next_block s.next_track s.commit_number next s.next_track s.commit_number p
               (omega arith) (omega arith) (omega arith) h) s.history.points is.points;
-          pins = all_so (λ (p : Pin). IsSoundPoint m s.next_block s.next_track p.point)
-              (λ (p : Pin). IsSoundPoint m next s.next_track p.point)
+          pins = all_so (λ (p : Pin). IsValidPoint m s.next_block s.next_track p.point)
+              (λ (p : Pin). IsValidPoint m next s.next_track p.point)
               (λ p h. point_more m s.next_block s.next_track next s.next_track p.point (omega arith) (omega arith) h)
               s.pins is.pins;
           numbers = is.numbers;
@@ -192,8 +183,7 @@ module _ {D : Type 0} (disk : Ghosts D) (s : Core D) (is : IsStudio disk s) wher
         }
 
   module _ (given : ℕ → ℤ) (makes : List NewBlock) (n : ℕ) (mid : Core D)
-      (making : Making disk s (batch_of given makes) n mid)
-      (going : s.stopped ≡ None)
+      (making : Making disk s (batch_of given makes) n mid) (going : s.stopped ≡ None)
       (few : n ≤ length makes) (fresh : AreNew s.block_size s.next_block makes)
       (most : s.next_block + length makes ≤ 2 ^ 62)
       (there : IsHeld disk s → PiecesThere (disk.reads s.store) makes) where

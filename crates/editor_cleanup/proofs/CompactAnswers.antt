@@ -1,47 +1,34 @@
 -- What a `compact` answers.
-use Rattle.std.proofs.Common.{◌≡◌, inl, inr, refl, sym, ap, ◌∙◌, subst, ℕ, ◌+◌, ◌^◌, ◌≤◌, ◌<◌}
-use Rattle.std.proofs.Common.{Bool, IsTrue, List, ◌∷◌, length, Option, Some, None, Result, Ok, Err, OnOk, arith}
-use Rattle.pcm_base.specs.declared.answer.Reply.TheVariants.{Packed}
-use Rattle.pcm_base.specs.declared.command.Call.{Call}
-use Rattle.pcm_base.specs.declared.command.Call.TheVariants.{Line}
-use Rattle.pcm_base.specs.declared.command.Command.TheVariants.{Compact}
-use Rattle.pcm_base.specs.declared.refusal.Refusal.{Refusal}
-use Rattle.pcm_base.specs.declared.refusal.Refusal.TheVariants as refusal
-use Rattle.pcm_base.specs.Causes.{HasCause, Rose}
-use Rattle.pcm_base.specs.History.{IsHistory}
-use Rattle.pcm_base.specs.Run.{packed, stop_of}
-use Rattle.pcm_base.specs.Studio as model
-use Rattle.disk_model.specs.Disk.{Files}
-use Rattle.disk_model.specs.Frames.{Changed, Kept}
-use Rattle.disk_model.specs.Room.{Room}
-use Rattle.disk_model.specs.declared.store.Store.{Ghosts}
-use Rattle.disk_model.proofs.Frames.{Fewer, changed_kept, changed_turn, changed_wider}
+use Rattle.std.proofs.Common.{◌≡◌, inl, inr, refl, sym, ap, ◌∙◌, subst, ℕ, ◌+◌, ◌^◌, ◌≤◌, ◌<◌, Bool, IsTrue, List, ◌∷◌}
+use Rattle.std.proofs.Common.{length, Some, None, Result, Ok, Err, OnOk, arith}
+use Rattle.pcm_base.specs.{declared.answer.Reply.TheVariants.Packed, declared.command.Call.Call}
+use Rattle.pcm_base.specs.{declared.command.Call.TheVariants.Line, declared.command.Command.TheVariants.Compact}
+use Rattle.pcm_base.specs.{declared.refusal.Refusal.Refusal, Causes.HasCause, Causes.Rose, History.IsHistory}
+use Rattle.pcm_base.specs.{Run.packed, Run.stop_of}
+use Rattle.disk_model.specs.{Disk.Files, Frames.Changed, Frames.Kept, Room.Room, declared.store.Store.Ghosts}
+use Rattle.disk_model.proofs.Frames.{tells_back, tells_on, Fewer, changed_kept, changed_turn, changed_wider}
 use Rattle.disk_model.proofs.Moments.{each_on}
 use Rattle.sample_block.specs.Sources.{sources_of}
-use Rattle.project_journal.specs.Choice.{other_file}
-use Rattle.project_journal.specs.Gate.{EachNow, EachSince}
-use Rattle.project_journal.specs.Header.{Form, form_3}
-use Rattle.project_journal.specs.Journal.{IsAt, Log}
 use Rattle.project_journal.specs.Packing.{AreShort, HasEither, MayPack, OnlyJournals, Tells, pack_room}
-use Rattle.record_body.specs.Kept.{Keeps}
-use Rattle.editor_state.specs.Adding.{HasFailed}
-use Rattle.editor_cleanup.specs.Compacts.{Compacts}
-use Rattle.editor_state.specs.Core.{Core, form_at}
-use Rattle.editor_state.specs.Left.{LeavesOthers, MayRemove}
+use Rattle.project_journal.specs.{Choice.other_file, Gate.EachNow, Gate.EachSince, Header.Form, Header.form_3}
+use Rattle.project_journal.specs.{Journal.IsAt, Journal.Log}
+use Rattle.record_body.specs.Saved.{Keeps}
 use Rattle.editor_state.specs.Packing.{packed_core, packed_log, packed_size, packed_text, points_in}
-use Rattle.editor_state.specs.Removals.{PacksJournal}
 use Rattle.editor_state.specs.Studios.{IsHeld, IsStudio, shown, studio_by, studio_of}
-use Rattle.editor_state.specs.Took.{Took, quietly}
-use Rattle.editor_state.proofs.Images.ImageProjects.{keeps_now}
+use Rattle.editor_state.specs.{Adding.HasFailed, Core.Core, Core.form_at, Left.LeavesOthers, Left.MayRemove}
+use Rattle.editor_state.specs.{Removals.PacksJournal, Took.Took, Took.quietly}
+use Rattle.editor_cleanup.specs.Compacts.{Compacts}
 use Rattle.editor_state.proofs.Calls.LookCalls.{keeps_still, looked, looked_failed, looked_held, looked_studio}
-use Rattle.editor_cleanup.proofs.HeaderJournal.{halted_held, halted_studio, keeps_packing, may_pack, packed_held}
-use Rattle.editor_cleanup.proofs.HeaderJournal.{packed_state, packed_studio, size_least, still_means, text_size}
 use Rattle.editor_state.proofs.Calls.QuietCalls.{IsQuiet, quiet_follows, refused_by, refused_stopped, refused_wanting}
 use Rattle.editor_state.proofs.Calls.QuietCalls.{room_of, tests_then}
 use Rattle.editor_state.proofs.Calls.FileRemovals.{ids_same, no_record, none_given, off_untouched, packs_refused}
-use Rattle.editor_state.proofs.Refusals.CommitTests.{fits, spends}
-use Rattle.editor_state.proofs.Refusals.EarlyRefusals.{stopped_not}
-use Rattle.editor_state.proofs.Blocks.CachePages.{reads_none}
+use Rattle.editor_state.proofs.{Images.ImageProjects.keeps_now, Refusals.CommitTests.fits, Refusals.CommitTests.spends}
+use Rattle.editor_state.proofs.{Refusals.EarlyRefusals.stopped_not, Blocks.CachePages.reads_none}
+use Rattle.editor_cleanup.proofs.HeaderJournal.{halted_held, halted_studio, keeps_packing, may_pack, packed_held}
+use Rattle.editor_cleanup.proofs.HeaderJournal.{packed_state, packed_studio, size_least, still_means, text_size}
+use Rattle.editor_cleanup.proofs.ReclaimAnswers.{some_none}
+use Rattle.pcm_base.specs.declared.refusal.Refusal.TheVariants as refusal
+use Rattle.pcm_base.specs.Studio as model
 use Rattle.block_store.specs.declared.fault.BlockFault.TheVariants as fault
 
 abbrev pub call : Call
@@ -55,10 +42,6 @@ quiet = record {
   no_layout = λ t. refl;
   quiet = λ t. refl;
 }
-
-some_none : {A : Type 0} (o : Option A) (x : A) → o ≡ Some x → o ≡ None → ⊥
-some_none None x e f = absurd (cc e)
-some_none (Some y) x e f = absurd (cc f)
 
 -- What the journal's own call does with this text, over these stores: its clauses.
 pub record Packs {D T E : Type 0} (disk : Ghosts D) (file : ℕ) (there : Bool) (old new : D) (text : List ℕ)
@@ -151,8 +134,7 @@ module _ {D : Type 0} (disk : Ghosts D) (old : Core D) (is : IsStudio disk old) 
         changed = packs.changed
 
         other_mid : IsTrue (disk.tells store) → Tells there (other_file old.file) (disk.reads store)
-        other_mid told = subst (Tells there (other_file old.file)) (sym kept.same_reads)
-            (other (subst IsTrue kept.same_tells told))
+        other_mid told = subst (Tells there (other_file old.file)) (sym kept.same_reads) (other (tells_back kept told))
 
         mid_shown : shown (studio_of disk mid) ≡ shown t
         mid_shown = λ i. shown (studio_by (sources_of (kept.same_reads i)) disk old)
@@ -280,7 +262,7 @@ module _ {D : Type 0} (disk : Ghosts D) (old : Core D) (is : IsStudio disk old) 
           after = packed_core old new
 
           still_told : IsTrue (disk.tells old.store) → IsTrue (disk.tells store)
-          still_told told = subst IsTrue (sym kept.same_tells) told
+          still_told told = tells_on kept told
 
           after_studio : IsStudio disk after
           after_studio =

@@ -1,6 +1,5 @@
 -- The first ids of count 0, before and after they were taken out of the counts.
-use Rattle.std.proofs.Common.{◌≡◌, inl, inr, sym, ◌∙◌, ℕ, ◌≤◌, List}
-use Rattle.std.proofs.Common.{length, Option, Some, None, arith}
+use Rattle.std.proofs.Common.{◌≡◌, inr, sym, ◌∙◌, ℕ, ◌≤◌, List, length, Option, Some, None, arith}
 use Rattle.std.specs.Prelude.{Contains}
 use Rattle.block_ledger.specs.Counts.{Counts, IsFirstFree, IsNextFree}
 use Rattle.editor_cleanup.specs.Passes.{AreFirst, AreNext, NoneFrom}
@@ -10,16 +9,6 @@ use Rattle.editor_cleanup.proofs.FreeIds.{next_below, next_past, next_same}
 none_some : (o : Option ℕ) → o ≡ None → o ≡ Some 0 → ⊥
 none_some None none some = absurd (cc some)
 none_some (Some n) none some = absurd (cc none)
-
--- as many as were asked for
-pub first_all : (counts : Counts) (most : ℕ) (ids : List ℕ) (end : ℕ) → AreNext counts 0 ids end → length ids ≡ most
-    → AreFirst counts most ids
-first_all counts most ids end next full = record {
-  end = end;
-  next = next;
-  few = omega (arith, full);
-  all = inl full;
-}
 
 -- or no more are left
 pub first_none : (counts : Counts) (most : ℕ) (ids : List ℕ) (end : ℕ) → AreNext counts 0 ids end → length ids ≤ most

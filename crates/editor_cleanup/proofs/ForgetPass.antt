@@ -1,12 +1,10 @@
 -- Blocks that nothing names are forgotten, one after another.
-use Rattle.std.proofs.Common.{◌≡◌, refl, sym, ap, subst, ℕ, ◌+◌, List, [], ◌∷◌, ◌++◌, length, None}
+use Rattle.std.proofs.Common.{◌≡◌, sym, ap, subst, ℕ, ◌+◌, List, [], ◌∷◌, ◌++◌, length, None}
 use Rattle.block_ledger.specs.Counts.{Counts, IsFirstFree, SetsCount}
-use Rattle.editor_state.specs.Core.{Core}
+use Rattle.editor_state.specs.{Core.Core, Removals.Forgets}
 use Rattle.editor_cleanup.specs.Passes.{AreFirst, AreNext, ForgetsFirst}
-use Rattle.editor_state.specs.Removals.{Forgets}
 use Rattle.editor_cleanup.proofs.FirstIds.{first_is_next, first_same}
-use Rattle.editor_cleanup.proofs.IdRemovals.{forgets_more, forgets_none}
-use Rattle.editor_cleanup.proofs.FreeIds.{next_more}
+use Rattle.editor_cleanup.proofs.{IdRemovals.forgets_more, FreeIds.next_more}
 
 -- these so far
 pub record Forgetting {D : Type 0} (old : Core D) (ids : List ℕ) (end : ℕ) (new : Core D) : Type 0 where
@@ -15,9 +13,6 @@ pub record Forgetting {D : Type 0} (old : Core D) (ids : List ℕ) (end : ℕ) (
   pub fields : new ≡ record old { counts = new.counts }
 
 module _ {D : Type 0} (old : Core D) where
-  pub forgetting_none : Forgetting old [] 0 old
-  forgetting_none = record { next = refl; forgets = forgets_none old.counts; fields = refl }
-
   pub forgetting_more : (ids : List ℕ) (end id : ℕ) (mid : Core D) (counts : Counts) → Forgetting old ids end mid
       → IsFirstFree mid.counts id → SetsCount mid.counts counts id None
       → Forgetting old (ids ++ id ∷ []) (id + 1) (record mid { counts = counts })

@@ -1,8 +1,7 @@
 -- Files of ids of count 0 go, one after another.
 use Rattle.std.proofs.Common.{◌≡◌, ◌≢◌, ◌⊎◌, inl, inr, ⊎_elim, refl, sym, ◌∙◌, subst, ℕ, Option, Some, None}
 use Rattle.std.proofs.lemmas.Bool.{cases_eq}
-use Rattle.pcm_base.specs.declared.command.Call.TheVariants.{Line}
-use Rattle.pcm_base.specs.declared.command.Command.TheVariants.{Reclaim}
+use Rattle.pcm_base.specs.{declared.command.Call.TheVariants.Line, declared.command.Command.TheVariants.Reclaim}
 use Rattle.disk_model.specs.Disk.{Files, RemoveStep}
 use Rattle.block_ledger.specs.Counts.{Counts}
 use Rattle.editor_state.specs.Left.{LeavesOthers, MayRemove}
@@ -15,8 +14,7 @@ module _ (counts : Counts) where
   pub freed_then : (d e c : Files) → FreesFiles counts d e → FreesFiles counts e c → FreesFiles counts d c
   freed_then d e c one two = λ file. ⊎_elim
       (λ same. ⊎_elim (λ before. inl (same ∙ before)) (λ gone. inr (gone.0, same ∙ gone.1)) (one file))
-      inr
-      (two file)
+      inr (two file)
 
   pub freed_one : (id : ℕ) → counts id ≡ Some 0 → (d c : Files) → RemoveStep id d c → FreesFiles counts d c
   freed_one id free d c step file = by (cases_eq file id)

@@ -1,9 +1,8 @@
 -- The ids of count 0 that follow one another.
-use Rattle.std.proofs.Common.{◌≡◌, ◌≢◌, ◌⊎◌, inl, inr, ⊎_elim, refl, subst, ℕ, zero, suc, ◌+◌, ◌≤◌, ◌<◌, List}
-use Rattle.std.proofs.Common.{[], ◌∷◌, ◌++◌, length, Some, arith}
-use Rattle.std.specs.Prelude.{Contains, slice_index}
-use Rattle.std.specs.List.Sorted.{IsStrictlyIncreasing}
+use Rattle.std.proofs.Common.{◌≡◌, ◌≢◌, ◌⊎◌, inl, inr, ⊎_elim, refl, subst, ℕ, ◌+◌, ◌≤◌, ◌<◌, List, [], ◌∷◌, ◌++◌}
+use Rattle.std.proofs.Common.{length, Some, arith}
 use Rattle.std.proofs.lemmas.Bool.{cases_eq, cases_lt}
+use Rattle.std.specs.Prelude.{Contains}
 use Rattle.block_ledger.specs.Counts.{Counts, IsNextFree}
 use Rattle.block_ledger.proofs.Listed.{contains_cases, contains_more}
 use Rattle.editor_cleanup.specs.Passes.{AreNext, NoneFrom}
@@ -69,16 +68,6 @@ module _ (counts : Counts) where
       by : (x < end) ⊎ (end ≤ x) → end ≤ x
       by (inl lt) = absurd (not (next_listed 0 ids end are x (omega arith) lt free))
       by (inr le) = le
-
-  pub next_rises : (from : ℕ) (ids : List ℕ) (end : ℕ) → AreNext counts from ids end → IsStrictlyIncreasing ids
-  next_rises from [] end are = λ k lt. absurd (omega (arith, lt))
-  next_rises from (x ∷ []) end are = λ k lt. absurd (omega (arith, lt))
-  next_rises from (x ∷ y ∷ ys) end are = rises (next_rises (x + 1) (y ∷ ys) end are.1)
-    where
-      rises : IsStrictlyIncreasing (y ∷ ys) → IsStrictlyIncreasing (x ∷ y ∷ ys)
-      rises rest zero lt = omega (arith, are.1.0.past)
-      rises rest (suc k) lt = subst (λ (n : ℕ). slice_index (x ∷ y ∷ ys) (suc k) < slice_index (x ∷ y ∷ ys) n)
-          (let e : suc (k + 1) ≡ suc k + 1 = omega arith in e) (rest k (omega (arith, lt)))
 
   -- as many of them are the same, and so are fewer where no more are left
   pub next_same : (from : ℕ) (xs ys : List ℕ) (x_end y_end : ℕ) → AreNext counts from xs x_end

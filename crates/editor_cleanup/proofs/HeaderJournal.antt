@@ -1,46 +1,35 @@
 -- The journal of a studio is put into one header: each image has the project still, and then the studio stands on it.
-use Rattle.std.proofs.Common.{◌≡◌, inr, ⊎_elim, ap₂, refl, sym, ◌∙◌, subst, ℕ, ◌+◌, ◌-◌, ◌^◌, ◌≤◌, ◌<◌}
-use Rattle.std.proofs.Common.{Bool, IsTrue, IsSome, List, [], ◌∷◌, ◌++◌, length, map, Some, None, arith, length-append}
+use Rattle.std.proofs.Common.{◌≡◌, inr, ⊎_elim, ap₂, refl, sym, ◌∙◌, subst, ℕ, ◌+◌, ◌-◌, ◌^◌, ◌≤◌, ◌<◌, Bool, IsTrue}
+use Rattle.std.proofs.Common.{IsSome, List, [], ◌∷◌, ◌++◌, length, map, Some, None, arith, length-append}
 use Rattle.std.proofs.lemmas.List.{length-map}
 use Rattle.std.specs.List.{AllByRecursion}
-use Rattle.pcm_base.specs.declared.block.BlockRef.{BlockRef}
-use Rattle.pcm_base.specs.History.{IsHistory}
-use Rattle.pcm_base.specs.Run.{packed}
-use Rattle.disk_model.specs.Disk.{Files}
-use Rattle.disk_model.specs.Frames.{Changed}
-use Rattle.disk_model.specs.MomentLaws.{upto_refl}
-use Rattle.disk_model.specs.declared.store.Store.{Ghosts}
+use Rattle.pcm_base.specs.{declared.block.BlockRef.BlockRef, History.IsHistory, Run.packed}
+use Rattle.disk_model.specs.{Disk.Files, Frames.Changed, MomentLaws.upto_refl, declared.store.Store.Ghosts}
 use Rattle.sample_block.specs.Sources.{sources_of, AllWhole, IsWhole}
-use Rattle.project_journal.specs.Choice.{other_file}
-use Rattle.project_journal.specs.Gate.{EachSince}
-use Rattle.project_journal.specs.Header.{IsBase, form_3}
 use Rattle.project_journal.specs.Journal.{HasLog, IsAt, Log, points_size}
 use Rattle.project_journal.specs.Packing.{AreShort, HasEither, IsText, MayPack, OnlyJournals, Tells, header_row}
 use Rattle.project_journal.specs.Packing.{pack_room}
-use Rattle.project_journal.proofs.Parses.{form_known}
-use Rattle.project_journal.proofs.Texts.{text_is}
-use Rattle.project_state.specs.declared.track.Track.{Track}
-use Rattle.record_body.specs.Kept.{Begins, BeginsBy, IsTold, Keeps, Kept, point_bytes}
-use Rattle.project_state.specs.Meaning.{history_blocks}
-use Rattle.record_body.specs.KeptSound.{IsSoundTagged}
+use Rattle.project_journal.specs.{Choice.other_file, Gate.EachSince, Header.IsBase, Header.form_3}
+use Rattle.project_journal.proofs.{Parses.form_known, Texts.text_is}
 use Rattle.project_state.specs.Numbers.{AreUnnumbered, unnumbered}
+use Rattle.project_state.specs.{declared.track.Track.Track, Meaning.history_blocks}
+use Rattle.record_body.specs.Saved.{Begins, BeginsBy, IsHeaderBase, Keeps, Saved, point_bytes}
+use Rattle.record_body.specs.SavedValid.{IsValidTagged}
 use Rattle.record_body.proofs.Unnumbered.{are_unnumbered, history_blocks_alike, history_meant_alike, point_alike}
-use Rattle.record_body.proofs.Unnumbered.{sound_alike}
-use Rattle.editor_state.specs.Core.{Core, form_at}
+use Rattle.record_body.proofs.Unnumbered.{valid_alike}
 use Rattle.editor_state.specs.Packing.{packed_base, packed_core, packed_log, packed_size, packed_text, points_in}
-use Rattle.editor_state.specs.Spent.{kept_of}
 use Rattle.editor_state.specs.Studios.{IsDurable, IsGiven, IsHeld, IsStudio, SameBlocks, clip_blocks, named_blocks}
 use Rattle.editor_state.specs.Studios.{pin_blocks, shown, studio_by, studio_of}
+use Rattle.editor_state.specs.{Core.Core, Core.form_at, Spent.saved_of}
 use Rattle.editor_state.proofs.Images.ImageProjects.{covers_kept, form_few, keeps_by, shown_is}
-use Rattle.editor_state.proofs.Lists.{all_both, all_left, all_so}
-use Rattle.editor_state.proofs.Images.SameMeaning.{same_studio}
+use Rattle.editor_state.proofs.{Lists.all_both, Lists.all_left, Lists.all_so, Images.SameMeaning.same_studio}
+use Rattle.editor_state.proofs.{Blocks.BlockSounds.all_whole, Blocks.BlockSounds.trans_same, SameStudios.studio_over}
 use Rattle.editor_cleanup.proofs.HeaderPoints.{length_rows}
-use Rattle.editor_state.proofs.Blocks.BlockSounds.{all_whole, trans_same}
 
 -- ---- the text
 
 -- a header's points, of which there is one at least, are told
-begins_by : (points : List (List ℕ)) (log : Log) (base : Kept) → 0 < length points → IsTold log base
+begins_by : (points : List (List ℕ)) (log : Log) (base : Saved) → 0 < length points → IsHeaderBase log base
     → BeginsBy points log base
 begins_by [] log base some told = absurd (omega (arith, some))
 begins_by (p ∷ ps) log base some told = told
@@ -53,12 +42,12 @@ points_alike [] = refl
 points_alike (p ∷ ps) =
     ap₂ (λ (bytes : List ℕ) (rest : List (List ℕ)). bytes ∷ rest) (sym (point_alike p.0 p.1)) (points_alike ps)
 
-points_sound : (m block track commit : ℕ) (ps : List (List Track × ℕ))
-    → AllByRecursion (IsSoundTagged m block track commit) ps
-    → AllByRecursion (IsSoundTagged m block track commit) (map plain_point ps)
-points_sound m block track commit [] all = tt
-points_sound m block track commit (p ∷ ps) all =
-    ((sound_alike m block track p.0 all.0.0, all.0.1), points_sound m block track commit ps all.1)
+points_valid : (m block track commit : ℕ) (ps : List (List Track × ℕ))
+    → AllByRecursion (IsValidTagged m block track commit) ps
+    → AllByRecursion (IsValidTagged m block track commit) (map plain_point ps)
+points_valid m block track commit [] all = tt
+points_valid m block track commit (p ∷ ps) all =
+    ((valid_alike m block track p.0 all.0.0, all.0.1), points_valid m block track commit ps all.1)
 
 points_plain : (ps : List (List Track × ℕ))
     → AllByRecursion (λ (p : List Track × ℕ). AreUnnumbered p.0) (map plain_point ps)
@@ -97,17 +86,17 @@ module _ {D : Type 0} (disk : Ghosts D) (s : Core D) (is : IsStudio disk s) (lat
       text_is (packed_log s) (packed_text s) refl refl is.format rate base_is
       (length-map s.history.points point_bytes) short
 
-  pub text_begins : Begins (packed_log s) (kept_of s)
+  pub text_begins : Begins (packed_log s) (saved_of s)
   text_begins =
       let many : length (points_in s.history) ≡ length s.history.points = length-map s.history.points point_bytes in
-      begins_by (points_in s.history) (packed_log s) (kept_of s) (omega (arith, many, some)) (record {
+      begins_by (points_in s.history) (packed_log s) (saved_of s) (omega (arith, many, some)) (record {
         points = points_alike s.history.points;
         cursor = refl;
         depth = refl;
         next_block = refl;
         next_track = refl;
         commit = refl;
-        sound = points_sound s.block_size s.next_block s.next_track s.commit_number s.history.points is.points;
+        valid = points_valid s.block_size s.next_block s.next_track s.commit_number s.history.points is.points;
         unnumbered = points_plain s.history.points;
       })
 
@@ -149,24 +138,7 @@ module _ {D : Type 0} (disk : Ghosts D) (s : Core D) (is : IsStudio disk s) (goi
   -- ---- it stops
 
   pub halted_studio : (faults : ℕ) → IsStudio disk (record s { store = store; stopped = Some faults })
-  halted_studio faults = record {
-    format = is.format;
-    counters = is.counters;
-    journal = is.journal;
-    few_points = is.few_points;
-    few_clips = is.few_clips;
-    points = is.points;
-    pins = is.pins;
-    numbers = is.numbers;
-    clipboard = is.clipboard;
-    ids = is.ids;
-    layouts = is.layouts;
-    numbered = is.numbered;
-    drawn = is.drawn;
-    counted = is.counted;
-    given = is.given;
-    pages = is.pages;
-  }
+  halted_studio faults = studio_over disk s is store (Some faults)
 
   pub halted_held : (faults : ℕ) → IsHeld disk s → IsHeld disk (record s { store = store; stopped = Some faults })
   halted_held faults held = record {
@@ -202,8 +174,7 @@ module _ {D : Type 0} (disk : Ghosts D) (s : Core D) (is : IsStudio disk s) (goi
         let d = held.durable going in
         let files = disk.reads s.store in
         let from = changed.images.from c since in
-        let same = trans_same files from.0 c (named_blocks s) (d.blocks from.0 from.1)
-        (blocks_same from.0 c from.2) in
+        let same = trans_same files from.0 c (named_blocks s) (d.blocks from.0 from.1) (blocks_same from.0 c from.2) in
         ⊎_elim
         (λ (has : HasLog (form_at s) d.log c).
         subst (Keeps c) (shown_is disk s d)
@@ -219,7 +190,7 @@ module _ {D : Type 0} (disk : Ghosts D) (s : Core D) (is : IsStudio disk s) (goi
           next_track = s.next_track;
           commit = s.commit_number;
         })
-        (keeps_by (form_3 (other_file s.file)) (packed_log s) (kept_of s) (kept_of s) files c
+        (keeps_by (form_3 (other_file s.file)) (packed_log s) (saved_of s) (saved_of s) files c
         (record { known = inr (inr refl); few = omega arith }) has (text_begins disk s is later history) refl
         (subst (AllByRecursion (λ (b : BlockRef). c b.id ≡ files b.id)) alike
         (all_left (λ b. c b.id ≡ files b.id) (history_blocks s.history) rest same))
@@ -275,8 +246,8 @@ module _ {D : Type 0} (disk : Ghosts D) (s : Core D) (is : IsStudio disk s) (goi
         let files = disk.reads s.store in
         let place : length (packed_text s) ≡ packed_size s - 1 = omega (arith, text_size s) in record {
           log = packed_log s;
-          base = kept_of s;
-          kept = kept_of s;
+          base = saved_of s;
+          kept = saved_of s;
           there = subst (λ (n : ℕ). IsAt (form_3 (other_file s.file)) disk store n (packed_log s)) place at;
           generation = refl;
           begins = text_begins disk s is later history;

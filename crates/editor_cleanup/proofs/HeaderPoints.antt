@@ -1,13 +1,11 @@
 -- The points of a history as a header has them, one after another.
 use Rattle.std.proofs.Common.{◌≡◌, ℕ, zero, suc, ◌+◌, ◌^◌, ◌<◌, List, [], ◌∷◌, ◌++◌, length, map, take, drop, slice_get}
 use Rattle.std.proofs.Common.{Some, refl, sym, ap, subst, arith, length-append}
-use Rattle.std.specs.Prelude.{slice_index}
-use Rattle.std.specs.List.{flat_map}
+use Rattle.std.specs.{Prelude.slice_index, List.flat_map}
 use Rattle.pcm_base.specs.History.{point_of, tag_of}
-use Rattle.project_journal.specs.Journal.{points_size}
-use Rattle.project_journal.specs.Packing.{AreShort, sized}
+use Rattle.project_journal.specs.{Journal.points_size, Packing.AreShort, Packing.sized}
 use Rattle.project_state.specs.declared.track.Track.{Track}
-use Rattle.record_body.specs.Kept.{point_bytes}
+use Rattle.record_body.specs.Saved.{point_bytes}
 
 -- a point and its tag, at a place
 pub tagged : {P : Type 0} (ps : List (P × ℕ)) (i : ℕ) (p : P) → slice_get (map point_of ps) i ≡ Some p

@@ -5,17 +5,14 @@ use Rattle.pcm_base.specs.Pieces.{Sources}
 use Rattle.disk_model.specs.declared.store.Store.{Ghosts}
 use Rattle.sample_block.specs.Sources.{sources_of}
 use Rattle.project_journal.specs.Journal.{points_size}
-use Rattle.project_state.specs.declared.track.Track.{Track}
-use Rattle.project_state.specs.Meaning.{meant}
-use Rattle.record_body.specs.Kept.{point_bytes}
-use Rattle.record_body.specs.KeptSound.{IsSoundTagged}
-use Rattle.editor_state.specs.Core.{Core}
+use Rattle.project_state.specs.{declared.track.Track.Track, Meaning.meant}
+use Rattle.record_body.specs.{Saved.point_bytes, SavedValid.IsValidTagged}
 use Rattle.editor_state.specs.Packing.{packed_most, packed_size, points_most}
-use Rattle.editor_state.specs.Studios.{IsStudio, studio_of}
+use Rattle.editor_state.specs.{Core.Core, Studios.IsStudio, Studios.studio_of}
 use Rattle.editor_state.proofs.Images.RecordLengths.{record_most}
 
 points_few : (src : Sources) (m next_block next_track commit : ℕ) (ps : List (List Track × ℕ)) → 0 < m
-    → AllByRecursion (IsSoundTagged m next_block next_track commit) ps
+    → AllByRecursion (IsValidTagged m next_block next_track commit) ps
     → points_size (map point_bytes ps) ≤ points_most m (map (λ (p : List Track × ℕ). (meant src p.0, p.1)) ps)
 points_few src m next_block next_track commit [] some all = omega arith
 points_few src m next_block next_track commit (p ∷ ps) some all =

@@ -1,11 +1,10 @@
 -- Ids that went, one after another.
 use Rattle.std.proofs.Common.{◌≡◌, ◌≢◌, ◌⊎◌, inl, inr, ⊎_elim, refl, sym, ap, ◌∙◌, subst, ℕ, zero, suc, ◌+◌, ◌<◌, List}
 use Rattle.std.proofs.Common.{[], ◌∷◌, ◌++◌, length, length-append, Option, Some, None, arith}
-use Rattle.std.specs.Prelude.{Contains, slice_index}
-use Rattle.std.specs.List.Sorted.{IsStrictlyIncreasing}
 use Rattle.std.proofs.lemmas.Bool.{cases_eq}
 use Rattle.std.proofs.lemmas.List.{get_or_append_left, get_or-append-add, get_or_default}
 use Rattle.std.proofs.lemmas.List.Elements.{Contains-append_left, Contains-append_right, Contains-append_cases}
+use Rattle.std.specs.{Prelude.Contains, Prelude.slice_index, List.Sorted.IsStrictlyIncreasing}
 use Rattle.disk_model.specs.Disk.{Files, RemoveStep}
 use Rattle.block_ledger.specs.Counts.{Counts, SetsCount, IsFirstFree}
 use Rattle.editor_state.specs.Removals.{AreGone, Forgets, Removes, RemovesPart}

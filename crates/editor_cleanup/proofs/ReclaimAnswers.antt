@@ -1,36 +1,26 @@
 -- What a reclaim answers where the disk did not fail, and of a studio that had stopped.
-use Rattle.std.proofs.Common.{◌≡◌, ◌⊎◌, inl, inr, ⊎_elim, refl, sym, ap, subst, ℕ, ◌≤◌, IsTrue, [], length, Option, Some, None}
-use Rattle.std.proofs.Common.{Result, Ok, Err, arith}
+use Rattle.std.proofs.Common.{◌≡◌, ◌⊎◌, inl, inr, ⊎_elim, refl, sym, ap, subst, ℕ, ◌≤◌, IsTrue, [], length, Option}
+use Rattle.std.proofs.Common.{Some, None, Result, Ok, Err, arith}
 use Rattle.std.specs.Prelude.{IfSome, unwrap_or, ◌-◌, ◌^◌}
-use Rattle.pcm_base.specs.declared.answer.Reply.{Reply}
-use Rattle.pcm_base.specs.declared.answer.Reply.TheVariants.{Freed}
-use Rattle.pcm_base.specs.declared.command.Call.{Call}
-use Rattle.pcm_base.specs.declared.command.Call.TheVariants.{Line}
-use Rattle.pcm_base.specs.declared.command.Command.TheVariants.{Reclaim}
-use Rattle.pcm_base.specs.declared.refusal.Refusal.{Refusal}
-use Rattle.pcm_base.specs.declared.refusal.Refusal.TheVariants as refusal
-use Rattle.pcm_base.specs.Run.{stop_of}
-use Rattle.pcm_base.specs.Step.{IsWithin}
+use Rattle.pcm_base.specs.{declared.answer.Reply.Reply, declared.answer.Reply.TheVariants.Freed}
+use Rattle.pcm_base.specs.{declared.command.Call.Call, declared.command.Call.TheVariants.Line}
+use Rattle.pcm_base.specs.{declared.command.Command.TheVariants.Reclaim, declared.refusal.Refusal.Refusal, Run.stop_of}
+use Rattle.pcm_base.specs.{Step.IsWithin}
 use Rattle.disk_model.specs.declared.store.Store.{Ghosts}
 use Rattle.disk_model.proofs.Frames.{Fewer, changed_wider}
 use Rattle.block_ledger.specs.Counts.{Counts}
-use Rattle.editor_state.specs.Core.{Core}
-use Rattle.editor_cleanup.specs.Frees.{Reclaims}
-use Rattle.editor_cleanup.specs.Passes.{DropsFirst}
-use Rattle.editor_state.specs.Removals.{Forgets, FreesUnnamed}
 use Rattle.editor_state.specs.Studios.{IsHeld, IsStudio, is_given, studio_of}
-use Rattle.editor_state.specs.Took.{silent}
-use Rattle.editor_cleanup.proofs.FirstIds.{none_left}
-use Rattle.editor_cleanup.proofs.FreeFiles.{freed_others}
+use Rattle.editor_state.specs.{Core.Core, Removals.Forgets, Removals.FreesUnnamed, Took.silent}
+use Rattle.editor_cleanup.specs.{Frees.Reclaims, Passes.DropsFirst}
 use Rattle.editor_cleanup.proofs.StudioFiles.{keeps_since, less, less_held, less_studio, same_meaning}
-use Rattle.editor_cleanup.proofs.IdRemovals.{forgets_none, part_none}
-use Rattle.editor_state.proofs.Images.ImageProjects.{keeps_now}
-use Rattle.editor_state.proofs.Calls.QuietCalls.{IsQuiet, carried, quiet_passes, room_of, stopped_first}
-use Rattle.editor_cleanup.proofs.ReclaimLimits.{all_of, within}
-use Rattle.editor_state.proofs.Calls.FileRemovals.{ids_freed, no_record, none_given}
-use Rattle.editor_state.proofs.Refusals.CommitTests.{fits}
-use Rattle.editor_state.proofs.Refusals.EarlyRefusals.{refuses, stopped_not}
 use Rattle.editor_cleanup.proofs.UnnamedFiles.{free_unnamed, only_named, spared, unnamed_free}
+use Rattle.editor_cleanup.proofs.{FirstIds.none_left, FreeFiles.freed_others, IdRemovals.forgets_none}
+use Rattle.editor_cleanup.proofs.{IdRemovals.part_none, ReclaimLimits.all_of, ReclaimLimits.within}
+use Rattle.editor_state.proofs.Calls.QuietCalls.{IsQuiet, carried, quiet_passes, room_of, stopped_first}
+use Rattle.editor_state.proofs.Calls.FileRemovals.{ids_freed, no_record, none_given}
+use Rattle.editor_state.proofs.Refusals.EarlyRefusals.{refuses, stopped_not}
+use Rattle.editor_state.proofs.{Images.ImageProjects.keeps_now, Refusals.CommitTests.fits}
+use Rattle.pcm_base.specs.declared.refusal.Refusal.TheVariants as refusal
 
 pub some_none : {A : Type 0} (o : Option A) (x : A) → o ≡ Some x → o ≡ None → ⊥
 some_none None x e f = absurd (cc e)

@@ -1,21 +1,17 @@
 -- Files of blocks are removed, one after another.
-use Rattle.std.proofs.Common.{◌≡◌, ◌⊎◌, inl, inr, ⊎_elim, refl, sym, ap, ◌∙◌, subst, ℕ, ◌+◌, ◌*◌, ◌≤◌, Bool, IsTrue, List}
-use Rattle.std.proofs.Common.{[], ◌∷◌, ◌++◌, length, None, Result, Ok, Err, arith}
-use Rattle.std.specs.Prelude.{Contains}
+use Rattle.std.proofs.Common.{◌≡◌, ◌⊎◌, inl, inr, ⊎_elim, refl, sym, ap, ◌∙◌, subst, ℕ, ◌+◌, ◌*◌, ◌≤◌, Bool, IsTrue}
+use Rattle.std.proofs.Common.{List, [], ◌∷◌, ◌++◌, length, None, Result, Ok, Err, arith}
 use Rattle.std.proofs.lemmas.Bool.{cases_eq}
-use Rattle.disk_model.specs.Disk.{RemoveStep}
-use Rattle.disk_model.specs.Frames.{Changed}
-use Rattle.disk_model.specs.declared.store.Store.{Ghosts}
+use Rattle.std.specs.Prelude.{Contains}
+use Rattle.disk_model.specs.{Disk.RemoveStep, Frames.Changed, declared.store.Store.Ghosts}
 use Rattle.disk_model.proofs.Frames.{Fewer, changed_none, changed_turn, changed_wider}
 use Rattle.block_cache.specs.Caches.{AllPass}
 use Rattle.block_cache.proofs.CarriedLaws.{pass_without}
 use Rattle.block_ledger.specs.Counts.{Counts, IsNextFree}
-use Rattle.editor_state.specs.Core.{Core}
+use Rattle.editor_state.specs.{Core.Core, Removals.Drops, Removals.Removes}
 use Rattle.editor_cleanup.specs.Passes.{AreNext, FreesFiles, NoneFrom, RemovesFirst, only_calls}
-use Rattle.editor_state.specs.Removals.{Drops, Removes}
-use Rattle.editor_cleanup.proofs.FreeFiles.{freed_none, freed_one, freed_then}
 use Rattle.editor_cleanup.proofs.IdRemovals.{gone_same, long, removes_more, removes_none}
-use Rattle.editor_cleanup.proofs.FreeIds.{next_more}
+use Rattle.editor_cleanup.proofs.{FreeFiles.freed_none, FreeFiles.freed_one, FreeFiles.freed_then, FreeIds.next_more}
 
 -- the files of these ids so far
 pub record Removing {D : Type 0} (disk : Ghosts D) (old : Core D) (ids : List ℕ) (end : ℕ) (new : Core D) : Type 0 where

@@ -1,17 +1,14 @@
 -- Files of blocks are removed and then synced.
-use Rattle.std.proofs.Common.{◌≡◌, ◌⊎◌, sym, ap, ◌∙◌, subst, ℕ, Bool, IsTrue, List, None, Result, Ok, Err}
-use Rattle.std.proofs.Common.{arith}
+use Rattle.std.proofs.Common.{◌≡◌, ◌⊎◌, sym, ap, ◌∙◌, subst, ℕ, Bool, IsTrue, List, None, Result, Ok, Err, arith}
 use Rattle.std.specs.Prelude.{Contains, OnErr, OnOk}
 use Rattle.pcm_base.specs.Causes.{HasCause, Rose}
-use Rattle.disk_model.specs.Disk.{Files}
-use Rattle.disk_model.specs.declared.store.Store.{Ghosts}
+use Rattle.disk_model.specs.{Disk.Files, declared.store.Store.Ghosts}
 use Rattle.disk_model.proofs.Frames.{changed_then_stays, changed_wider}
 use Rattle.project_journal.specs.Gate.{EachNow}
 use Rattle.block_cache.specs.Caches.{AllPass}
 use Rattle.block_ledger.specs.Counts.{Counts, IsNextFree}
-use Rattle.editor_state.specs.Core.{Core}
+use Rattle.editor_state.specs.{Core.Core, Removals.AreGone, Removals.Removes}
 use Rattle.editor_cleanup.specs.Passes.{AreFirst, AreSettled, DropsFirst, RemovesFirst, SyncsFirst}
-use Rattle.editor_state.specs.Removals.{AreGone, Removes}
 use Rattle.editor_cleanup.proofs.FirstIds.{first_same}
 
 on_any : {T E : Type 0} {P : Type 0} (r : Result T E) → P → OnOk r P
@@ -45,9 +42,6 @@ module _ {D : Type 0} (disk : Ghosts D) (old : Core D) (most count : ℕ) where
 
   -- all were removed
   module _ {T E : Type 0} (r : T) (mid new : Core D) (was : RemovesFirst {E = E} disk old 1 most count (Ok r) mid) where
-    to_mid : IsTrue (disk.tells old.store) → IsTrue (disk.tells mid.store)
-    to_mid told = subst IsTrue (sym was.changed.tells) told
-
     mid_counts : mid.counts ≡ old.counts
     mid_counts = ap (λ (z : Core D). z.counts) was.fields
 

@@ -1,35 +1,26 @@
 -- Files of blocks that nothing names go, and the studio stays what it was.
-use Rattle.std.proofs.Common.{◌≡◌, ◌⊎◌, ◌↔◌, inl, inr, ⊎_elim, refl, sym, ap, ◌∙◌, subst, ℕ, ◌<◌, IsTrue, IsSome, List, [], ◌∷◌}
-use Rattle.std.proofs.Common.{Option, Some, None, arith}
-use Rattle.std.specs.Prelude.{Contains}
+use Rattle.std.proofs.Common.{◌≡◌, ◌⊎◌, ◌↔◌, inl, inr, ⊎_elim, refl, sym, ap, ◌∙◌, subst, ℕ, ◌<◌, IsTrue, IsSome, List}
+use Rattle.std.proofs.Common.{[], ◌∷◌, Option, Some, None, arith}
 use Rattle.std.proofs.lemmas.Bool.{cases_eq}
+use Rattle.std.specs.Prelude.{Contains}
 use Rattle.pcm_base.specs.declared.block.BlockRef.{BlockRef}
-use Rattle.disk_model.specs.Disk.{Files}
-use Rattle.disk_model.specs.Frames.{Changed}
-use Rattle.disk_model.specs.MomentLaws.{upto_refl}
-use Rattle.disk_model.specs.Room.{Room}
-use Rattle.disk_model.specs.declared.store.Store.{Ghosts}
+use Rattle.disk_model.specs.{Disk.Files, Frames.Changed, MomentLaws.upto_refl, Room.Room, declared.store.Store.Ghosts}
 use Rattle.sample_block.specs.Sources.{sources_of, IsWhole, AllWhole}
 use Rattle.block_ledger.specs.Counts.{Counts, occurrences}
 use Rattle.block_ledger.proofs.Times.{times_here, times_other}
-use Rattle.project_journal.specs.Gate.{EachSince}
-use Rattle.project_journal.specs.Choice.{other_file}
-use Rattle.project_journal.specs.Journal.{HasLog}
+use Rattle.project_journal.specs.{Gate.EachSince, Choice.other_file, Journal.HasLog}
 use Rattle.project_journal.proofs.Kept.{SameJournals, is_at_still, each_since}
-use Rattle.record_body.specs.Kept.{Keeps}
+use Rattle.record_body.specs.Saved.{Keeps}
 use Rattle.block_cache.specs.Caches.{AllPass, Entries}
-use Rattle.editor_state.specs.Core.{Core, form_at}
-use Rattle.editor_state.specs.Occurrences.{times_named}
-use Rattle.editor_cleanup.specs.Passes.{FreesFiles}
-use Rattle.editor_state.specs.Removals.{Forgets, Removes}
+use Rattle.layout_uses.specs.Tallies.{AreCounts}
 use Rattle.editor_state.specs.Studios.{IsGiven, is_given, SameBlocks, IsDurable, IsHeld, IsStudio, ids_of, shown}
-use Rattle.editor_state.specs.Studios.{studio_by, studio_of, named_blocks}
+use Rattle.editor_state.specs.Studios.{studio_by, studio_of, named_blocks, clip_blocks, studio_tracks}
+use Rattle.editor_state.specs.{Core.Core, Core.form_at, Occurrences.times_named, Removals.Forgets, Removals.Removes}
+use Rattle.editor_cleanup.specs.Passes.{FreesFiles}
 use Rattle.editor_state.proofs.Images.ImageProjects.{form_few, keeps_by, shown_is, covers_kept}
-use Rattle.editor_state.proofs.Blocks.NamedBlocks.{free_named}
-use Rattle.editor_state.proofs.Lists.{all_both}
-use Rattle.editor_state.proofs.Images.SameMeaning.{same_studio}
+use Rattle.editor_state.proofs.{Blocks.NamedBlocks.free_named, Lists.all_both, Images.SameMeaning.same_studio}
+use Rattle.editor_state.proofs.{Blocks.BlockSounds.all_whole, Blocks.BlockSounds.trans_same, SameStudios.studio_with}
 use Rattle.editor_cleanup.proofs.FreeIds.{is_among}
-use Rattle.editor_state.proofs.Blocks.BlockSounds.{all_whole, trans_same}
 
 -- files of ids that come among blocks are the same
 same_named : (bs : List BlockRef) (files other : Files) → ((id : ℕ) → 0 < times_named id bs → other id ≡ files id)
@@ -114,6 +105,13 @@ module _ {D : Type 0} (disk : Ghosts D) (s : Core D) (is : IsStudio disk s) (muc
         (λ not. ap occurrences (gone.others x not))
         among
 
+    less_counts : AreCounts (studio_tracks s) (clip_blocks s.clipboard) s.uses counts
+    less_counts = record {
+      fresh_uses = is.counted.fresh_uses;
+      none_free = is.counted.none_free;
+      fresh_counts = λ x. less_counted x (is_among ids x) ∙ is.counted.fresh_counts x;
+    }
+
     less_given : (x : ℕ) → IsSome (counts x) → Contains ids x ⊎ (Contains ids x → ⊥) → IsGiven s.next_block x
     less_given x some among = ⊎_elim
         (λ has. absurd (none_some (counts x) (gone.gone x has) some))
@@ -125,28 +123,8 @@ module _ {D : Type 0} (disk : Ghosts D) (s : Core D) (is : IsStudio disk s) (muc
     less = record s { store = store; cache = cache; counts = counts }
 
     pub less_studio : AllPass (is_given s.next_block) cache → IsStudio disk less
-    less_studio pages = record {
-      format = is.format;
-      counters = is.counters;
-      journal = is.journal;
-      few_points = is.few_points;
-      few_clips = is.few_clips;
-      points = is.points;
-      pins = is.pins;
-      numbers = is.numbers;
-      clipboard = is.clipboard;
-      ids = is.ids;
-      layouts = is.layouts;
-      numbered = is.numbered;
-      drawn = is.drawn;
-      counted = record {
-        fresh_uses = is.counted.fresh_uses;
-        none_free = is.counted.none_free;
-        fresh_counts = λ x. less_counted x (is_among ids x) ∙ is.counted.fresh_counts x;
-      };
-      given = λ x some. less_given x some (is_among ids x);
-      pages = pages;
-    }
+    less_studio =
+        studio_with disk s is store cache counts s.stopped less_counts (λ x some. less_given x some (is_among ids x))
 
     less_durable : IsTrue (disk.tells s.store) → Removes (disk.reads s.store) (disk.reads store) ids → IsDurable disk s
         → IsDurable disk less
@@ -201,28 +179,9 @@ module _ {D : Type 0} (disk : Ghosts D) (s : Core D) (is : IsStudio disk s) (muc
     halted faults = record s { store = store; cache = cache; counts = counts; stopped = Some faults }
 
     pub halted_studio : AllPass (is_given s.next_block) cache → (faults : ℕ) → IsStudio disk (halted faults)
-    halted_studio pages faults = record {
-      format = is.format;
-      counters = is.counters;
-      journal = is.journal;
-      few_points = is.few_points;
-      few_clips = is.few_clips;
-      points = is.points;
-      pins = is.pins;
-      numbers = is.numbers;
-      clipboard = is.clipboard;
-      ids = is.ids;
-      layouts = is.layouts;
-      numbered = is.numbered;
-      drawn = is.drawn;
-      counted = record {
-        fresh_uses = is.counted.fresh_uses;
-        none_free = is.counted.none_free;
-        fresh_counts = λ x. less_counted x (is_among ids x) ∙ is.counted.fresh_counts x;
-      };
-      given = λ x some. less_given x some (is_among ids x);
-      pages = pages;
-    }
+    halted_studio pages faults =
+        studio_with disk s is store cache counts (Some faults) less_counts
+        (λ x some. less_given x some (is_among ids x)) pages
 
     pub halted_held : (faults : ℕ) → IsHeld disk s → IsHeld disk (halted faults)
     halted_held faults held = record {

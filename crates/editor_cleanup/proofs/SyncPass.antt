@@ -1,19 +1,16 @@
 -- Files of blocks are synced, one after another.
-use Rattle.std.proofs.Common.{◌≡◌, ⊎_elim, refl, sym, ap, ◌∙◌, subst, ℕ, ◌+◌, ◌≤◌, List, [], ◌∷◌, ◌++◌, length}
-use Rattle.std.proofs.Common.{Ok, Err, arith}
+use Rattle.std.proofs.Common.{◌≡◌, ⊎_elim, refl, sym, ap, ◌∙◌, subst, ℕ, ◌+◌, ◌≤◌, List, [], ◌∷◌, ◌++◌, length, Ok, Err}
+use Rattle.std.proofs.Common.{arith}
 use Rattle.std.specs.Prelude.{Contains}
 use Rattle.pcm_base.specs.Causes.{HasCause}
 use Rattle.disk_model.specs.Disk.{Files, StaysStep}
-use Rattle.disk_model.specs.Frames.{Changed}
-use Rattle.disk_model.specs.MomentLaws.{upto_refl}
-use Rattle.disk_model.specs.declared.store.Store.{Ghosts}
+use Rattle.disk_model.specs.{Frames.Changed, MomentLaws.upto_refl, declared.store.Store.Ghosts}
 use Rattle.disk_model.proofs.Frames.{Fewer, changed_none, changed_then_stays, changed_wider}
 use Rattle.block_ledger.specs.Counts.{Counts, IsNextFree}
 use Rattle.project_journal.specs.Gate.{EachNow}
 use Rattle.editor_state.specs.Core.{Core}
 use Rattle.editor_cleanup.specs.Passes.{AreFirst, AreNext, NoneFrom, SyncsFirst, only_calls}
-use Rattle.editor_cleanup.proofs.IdRemovals.{either, long}
-use Rattle.editor_cleanup.proofs.FreeIds.{next_more}
+use Rattle.editor_cleanup.proofs.{IdRemovals.either, IdRemovals.long, FreeIds.next_more}
 
 -- a disk has these files for good as they read
 abbrev pub Settled : {D : Type 0} → Ghosts D → List ℕ → D → Type 0

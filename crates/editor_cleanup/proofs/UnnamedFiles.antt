@@ -3,11 +3,9 @@ use Rattle.std.proofs.Common.{◌≡◌, ◌⊎◌, inl, inr, refl, sym, ap, ◌
 use Rattle.std.proofs.Common.{Some, None, arith}
 use Rattle.disk_model.specs.declared.store.Store.{Ghosts}
 use Rattle.block_ledger.specs.Counts.{occurrences}
-use Rattle.editor_state.specs.Core.{Core}
-use Rattle.editor_state.specs.Occurrences.{times_named}
-use Rattle.editor_cleanup.specs.Passes.{FreesFiles}
-use Rattle.editor_state.specs.Removals.{HasOnlyNamed, IsUnnamed}
 use Rattle.editor_state.specs.Studios.{IsDurable, IsStudio, named_blocks}
+use Rattle.editor_state.specs.{Core.Core, Occurrences.times_named, Removals.HasOnlyNamed, Removals.IsUnnamed}
+use Rattle.editor_cleanup.specs.Passes.{FreesFiles}
 use Rattle.editor_state.proofs.Blocks.NamedBlocks.{counted_most, free_named, named_counted}
 
 -- whatever the disk tells

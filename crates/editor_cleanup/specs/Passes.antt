@@ -2,15 +2,11 @@
 use Rattle.std.specs.Prelude.{◌≡◌, ◌⊎◌, ℕ, ◌+◌, ◌*◌, ◌≤◌, Bool, IsTrue, Some, None, List, [], ◌∷◌, length, Contains}
 use Rattle.std.specs.Prelude.{Result, OnOk}
 use Rattle.pcm_base.specs.Causes.{HasCause}
-use Rattle.disk_model.specs.Disk.{Files, StaysStep}
-use Rattle.disk_model.specs.Frames.{Changed}
-use Rattle.disk_model.specs.Room.{Room}
-use Rattle.disk_model.specs.declared.store.Store.{Ghosts}
+use Rattle.disk_model.specs.{Disk.Files, Disk.StaysStep, Frames.Changed, Room.Room, declared.store.Store.Ghosts}
 use Rattle.project_journal.specs.Gate.{EachNow}
 use Rattle.block_cache.specs.Caches.{AllPass}
 use Rattle.block_ledger.specs.Counts.{Counts, IsNextFree}
-use Rattle.editor_state.specs.Core.{Core}
-use Rattle.editor_state.specs.Removals.{AreGone, Forgets, Removes}
+use Rattle.editor_state.specs.{Core.Core, Removals.AreGone, Removals.Forgets, Removals.Removes}
 
 -- ---- which blocks
 

@@ -1,23 +1,17 @@
 -- Nothing was asked of the disk, or a record's append failed.
-use Rattle.std.proofs.Common.{◌≡◌, inl, inr, ⊎_elim, refl, sym, ap, ◌∙◌, subst, ℕ, ◌+◌, ◌≤◌, IsTrue, List}
-use Rattle.std.proofs.Common.{Ok, Err, Result, IfOk, OnOk, OnErr, IsErrOf, arith}
-use Rattle.pcm_base.specs.Causes.{Rose}
-use Rattle.pcm_base.specs.declared.limits.TheConstants.{LONGEST_BODY}
-use Rattle.pcm_base.specs.declared.refusal.Refusal.{Refusal}
-use Rattle.pcm_base.specs.declared.refusal.Refusal.TheVariants as refusal
-use Rattle.disk_model.specs.Disk.{SameElsewhere}
-use Rattle.disk_model.specs.Frames.{Changed}
-use Rattle.disk_model.specs.declared.store.Store.{Ghosts}
+use Rattle.std.proofs.Common.{◌≡◌, inl, inr, ⊎_elim, refl, sym, ap, ◌∙◌, subst, ℕ, ◌+◌, ◌≤◌, IsTrue, List, Ok, Err}
+use Rattle.std.proofs.Common.{Result, IfOk, OnOk, OnErr, IsErrOf, arith}
+use Rattle.pcm_base.specs.{Causes.Rose, declared.limits.TheConstants.LONGEST_BODY, declared.refusal.Refusal.Refusal}
+use Rattle.disk_model.specs.{Disk.SameElsewhere, Frames.Changed, declared.store.Store.Ghosts}
 use Rattle.disk_model.proofs.Frames.{Fewer, changed_none}
 use Rattle.project_journal.specs.Answer.{Appends, Causes, HasFault}
-use Rattle.project_journal.specs.Gate.{EachSince}
 use Rattle.project_journal.specs.Journal.{Log, IsAt, HasOneOf, rows_length, with_bodies}
-use Rattle.project_journal.specs.Rooms.{append_room}
-use Rattle.project_journal.specs.declared.fault.JournalFault.{JournalFault}
-use Rattle.project_journal.specs.declared.fault.JournalFault.TheVariants as journal
+use Rattle.project_journal.specs.{Gate.EachSince, Rooms.append_room, declared.fault.JournalFault.JournalFault}
 use Rattle.project_journal.proofs.Kept.{each_has}
 use Rattle.editor_state.specs.Adding.{Adds, ExceedsBy, Fields, HasFailed, Settles, stopped_by}
 use Rattle.editor_state.specs.Core.{Core, form_at}
+use Rattle.pcm_base.specs.declared.refusal.Refusal.TheVariants as refusal
+use Rattle.project_journal.specs.declared.fault.JournalFault.TheVariants as journal
 
 pub adds_nothing : {D R : Type 0} (disk : Ghosts D) (s : Core D) (bodies : List (List ℕ)) (count whole : ℕ) (why : Refusal)
     → Fewer disk s.store → Fields {R = R} disk s whole count (rows_length bodies) (Err why) s

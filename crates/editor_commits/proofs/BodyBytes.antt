@@ -1,31 +1,22 @@
 -- The bytes of a record's body, by the journal's version: how many they are, and that the record may come next.
-use Rattle.std.proofs.Common.{◌≡◌, inl, inr, ⊎_elim, refl, sym, ap, ◌∙◌, subst, ℕ, zero, suc, ◌+◌, ◌*◌, ◌^◌, ◌≤◌, ◌<◌, ◌==◌}
-use Rattle.std.proofs.Common.{true, false, List, ◌∷◌, length, map, Option, Some, None, add-mul, arith}
-use Rattle.std.specs.Option.{option_map}
+use Rattle.std.proofs.Common.{◌≡◌, inl, inr, ⊎_elim, refl, sym, ap, ◌∙◌, subst, ℕ, zero, suc, ◌+◌, ◌*◌, ◌^◌, ◌≤◌, ◌<◌}
+use Rattle.std.proofs.Common.{◌==◌, List, ◌∷◌, length, map, Option, Some, None, add-mul, arith}
 use Rattle.std.proofs.lemmas.Bool.{cases_Bool}
-use Rattle.pcm_base.specs.Pieces.{Sources}
-use Rattle.pcm_base.specs.Sizes.{project_body_most}
-use Rattle.project_journal.specs.Header.{form_of}
-use Rattle.project_journal.specs.Journal.{rows_length}
-use Rattle.record_body.specs.declared.body.Body.{Body}
+use Rattle.std.specs.Option.{option_map}
+use Rattle.pcm_base.specs.{Pieces.Sources, Sizes.project_body_most}
+use Rattle.project_journal.specs.{Header.form_of, Journal.rows_length}
 use Rattle.record_body.specs.declared.body.Body.TheVariants.{Edit, Undo, Redo, Purge}
-use Rattle.project_state.specs.declared.track.Track.{Track}
-use Rattle.record_body.specs.Batches.{with_point}
-use Rattle.record_body.specs.Changes.{delta_spelling, spelling_in}
-use Rattle.record_body.specs.Kept.{IsNextIn, Kept, MayFollow, before_of, current_tracks, version_of}
-use Rattle.project_state.specs.Meaning.{meant}
-use Rattle.record_body.specs.Laws.{EndsShort, HasShortEnds}
+use Rattle.record_body.specs.Saved.{IsNextIn, Saved, MayFollow, before_of, current_tracks, version_of}
+use Rattle.record_body.specs.{declared.body.Body.Body, Batches.with_point, Changes.spelling_in, Laws.EndsShort}
+use Rattle.record_body.specs.{Laws.HasShortEnds, Numbers.unnumbered_body, Valid.IsValidBody, Valid.IsValidPoint}
+use Rattle.record_body.specs.{Spelling.spelling}
 use Rattle.project_state.specs.Numbers.{unnumbered, unnumbered_history}
-use Rattle.record_body.specs.Numbers.{unnumbered_body}
-use Rattle.record_body.specs.Sound.{IsSound, IsSoundPoint}
-use Rattle.record_body.specs.Spelling.{spelling}
-use Rattle.project_state.specs.Tracks.{track_of}
+use Rattle.project_state.specs.{declared.track.Track.Track, Meaning.meant, Tracks.track_of}
 use Rattle.record_body.proofs.Batched.{next_in}
 use Rattle.record_body.proofs.Unnumbered.{current_alike, delta_spelled_alike, found_alike, spelled_alike}
 use Rattle.editor_state.specs.Bodies.{IsLength, bodies_by, body_bytes, bytes_by, single, whole_by}
-use Rattle.editor_state.specs.Core.{Core, form_at}
-use Rattle.editor_state.specs.Studios.{AreJournalNumbers}
-use Rattle.editor_state.proofs.Images.RecordLengths.{record_most, told_most}
+use Rattle.editor_state.specs.{Core.Core, Core.form_at, Studios.AreJournalNumbers}
+use Rattle.editor_state.proofs.Images.RecordLengths.{record_most, diff_most}
 
 pub version_at : (version file : ℕ) → 1 ≤ version → version ≤ 3 → version_of (form_of version file) ≡ version
 version_at zero file least most = absurd (omega (arith, least))
@@ -101,32 +92,19 @@ module _ {D : Type 0} (s : Core D) where
   bytes_in Redo = elim (cases_Bool (s.version == 1)) [ inl is ↦ rw is refl | inr not ↦ rw not refl ]
   bytes_in (Purge n) = elim (cases_Bool (s.version == 1)) [ inl is ↦ rw is refl | inr not ↦ rw not refl ]
 
-  pub bytes_whole : (s.version == 1) ≡ true → (body : Body) → body_bytes s body ≡ spelling body
-  bytes_whole is (Edit tag block track point) = rw is refl
-  bytes_whole is Undo = refl
-  bytes_whole is Redo = refl
-  bytes_whole is (Purge n) = refl
-
-  pub bytes_told : (s.version == 1) ≡ false → (body : Body)
-      → body_bytes s body ≡ delta_spelling (current_tracks s.history) body
-  bytes_told not (Edit tag block track point) = rw not refl
-  bytes_told not Undo = refl
-  bytes_told not Redo = refl
-  bytes_told not (Purge n) = refl
-
-  -- what the studio writes for a sound body may come next
-  pub next_so : (m : ℕ) (k : Kept) (body : Body) → AreJournalNumbers s.file s.version s.generation
+  -- what the studio writes for a valid body may come next
+  pub next_so : (m : ℕ) (k : Saved) (body : Body) → AreJournalNumbers s.file s.version s.generation
       → k.history ≡ unnumbered_history s.history → 4 ≤ m → m < 2 ^ 32 → k.commit < 2 ^ 62
-      → HasShortEnds (current_tracks s.history) → IsSound m (before_of k) (unnumbered_body body)
+      → HasShortEnds (current_tracks s.history) → IsValidBody m (before_of k) (unnumbered_body body)
       → MayFollow k.history (unnumbered_body body)
       → IsNextIn (version_of (form_at s)) m k (body_bytes s body) (unnumbered_body body)
-  next_so m k body journal same large small room short sound follows =
+  next_so m k body journal same large small room short valid follows =
       let plain = unnumbered_body body in
       let now = current_tracks s.history in
       let current : current_tracks k.history ≡ map unnumbered now = ap current_tracks same ∙ current_alike s.history in
       let short_there = subst HasShortEnds (sym current) (ends_alike now short) in
       let next : IsNextIn s.version m k (spelling_in s.version (current_tracks k.history) plain) plain =
-      next_in s.version m k plain journal.version_least journal.version_most large small room short_there sound
+      next_in s.version m k plain journal.version_least journal.version_most large small room short_there valid
       follows in
       let bytes : spelling_in s.version (current_tracks k.history) plain ≡ body_bytes s body =
       ap (λ (ts : List Track). spelling_in s.version ts plain) current ∙ spelled_in s.version now body
@@ -136,16 +114,16 @@ module _ {D : Type 0} (s : Core D) where
 
   -- they are as few as the project asks
   bytes_most : (next_block next_track : ℕ) (src : Sources) (m tag block track : ℕ) (ts : List Track) → 0 < m
-      → IsSoundPoint m next_block next_track ts
+      → IsValidPoint m next_block next_track ts
       → length (body_bytes s (Edit tag block track ts)) ≤ project_body_most m (meant src ts)
   bytes_most next_block next_track src m tag block track ts some is = elim (cases_Bool (s.version == 1)) [
     | inl whole ↦ rw whole (record_most m next_block next_track src tag block track ts some is)
-    | inr told ↦ rw told (told_most m next_block next_track src (current_tracks s.history) tag block track ts some is)
+    | inr told ↦ rw told (diff_most m next_block next_track src (current_tracks s.history) tag block track ts some is)
   ]
 
   -- so are those of records that come together, also written out whole
   pub lengths_all : (next_block next_track : ℕ) (src : Sources) (m tag block track : ℕ) (ts : List Track) → 0 < m
-      → IsSoundPoint m next_block next_track (current_tracks s.history) → IsSoundPoint m next_block next_track ts
+      → IsValidPoint m next_block next_track (current_tracks s.history) → IsValidPoint m next_block next_track ts
       → (more n : ℕ) → IsLength s (record { more = more; body = Edit tag block track ts }) n
       → (5 * more ≤ n) × (n ≤ more * (5 + project_body_most m (meant src (current_tracks s.history)))
       + project_body_most m (meant src ts))
@@ -166,7 +144,7 @@ module _ {D : Type 0} (s : Core D) where
 
   -- of one record
   pub lengths_most : (next_block next_track : ℕ) (src : Sources) (m tag block track : ℕ) (ts : List Track) → 0 < m
-      → IsSoundPoint m next_block next_track ts → (n : ℕ) → IsLength s (single (Edit tag block track ts)) n
+      → IsValidPoint m next_block next_track ts → (n : ℕ) → IsLength s (single (Edit tag block track ts)) n
       → n ≤ project_body_most m (meant src ts)
   lengths_most next_block next_track src m tag block track ts some is n one = ⊎_elim
       (λ whole. omega (arith, whole, record_most m next_block next_track src tag block track ts some is))

@@ -1,22 +1,18 @@
 -- What reads no block tells of no damaged file.
 use Rattle.std.proofs.Common.{◌≡◌, ◌⊎◌, ⊎_elim, sym, subst, ℕ, ◌+◌, nat_lt, List, take, length, Some, Err}
-use Rattle.pcm_base.specs.Refusals.{bad_range, too_narrow}
-use Rattle.pcm_base.specs.declared.refusal.Refusal.{Refusal}
-use Rattle.pcm_base.specs.declared.refusal.Refusal.TheVariants as refusal
+use Rattle.pcm_base.specs.{Refusals.bad_range, Refusals.too_narrow, declared.refusal.Refusal.Refusal}
 use Rattle.disk_model.specs.declared.store.Store.{Ghosts}
 use Rattle.clip_track.specs.declared.clips.Clip.{Clip}
 use Rattle.edit_ops.specs.Runs.{copy_tests, longest_of}
 use Rattle.envelope_view.specs.Answers.{IsUndamaged}
-use Rattle.project_state.specs.Tracks.{track_of}
-use Rattle.project_state.specs.declared.track.Track.{Track}
+use Rattle.project_state.specs.{Tracks.track_of, declared.track.Track.Track}
 use Rattle.project_journal.specs.Journal.{rows_length}
-use Rattle.editor_state.specs.Adding.{Adds, Fields}
-use Rattle.editor_state.specs.Core.{Core}
-use Rattle.editor_commits.specs.Plain.{refusal_by}
-use Rattle.editor_commits.specs.declared.plain_edit.PlainEdit.{PlainEdit}
-use Rattle.editor_commits.specs.declared.plain_edit.PlainEdit.TheVariants as edit
+use Rattle.editor_state.specs.{Adding.Adds, Adding.Fields, Core.Core}
+use Rattle.editor_commits.specs.{Plain.refusal_by, declared.plain_edit.PlainEdit.PlainEdit}
 use Rattle.editor_state.proofs.Refusals.DamageTests.{TellsNone, either_tells, lacks_tells, one_tells, range_tells}
 use Rattle.editor_state.proofs.Refusals.DamageTests.{tests_tell}
+use Rattle.pcm_base.specs.declared.refusal.Refusal.TheVariants as refusal
+use Rattle.editor_commits.specs.declared.plain_edit.PlainEdit.TheVariants as edit
 
 -- want of memory
 memory_tells : (why : Refusal) → why ≡ refusal.NoMemory → IsUndamaged why

@@ -1,48 +1,35 @@
 -- A commit whose records are not added: the journal is full, the record too long, memory is short, or the disk fails.
 use Rattle.std.proofs.Common.{◌≡◌, inl, inr, ⊎_elim, refl, sym, ap, subst, ℕ, ◌+◌, ◌-◌, ◌^◌, ◌≤◌, ◌<◌, IsTrue, List}
-use Rattle.std.proofs.Common.{Option, None, Err, false}
-use Rattle.std.proofs.Common.{◌∙◌, arith}
+use Rattle.std.proofs.Common.{Option, None, Err, false, ◌∙◌, arith}
 use Rattle.std.proofs.lemmas.Bool.{true≢false}
-use Rattle.pcm_base.specs.declared.answer.Reply.TheVariants.{Done}
-use Rattle.pcm_base.specs.declared.block.BlockRef.{BlockRef}
-use Rattle.pcm_base.specs.declared.command.Call.{Call}
-use Rattle.pcm_base.specs.declared.entry.SoundMove.{SoundMove}
-use Rattle.pcm_base.specs.declared.refusal.Refusal.{Refusal}
-use Rattle.pcm_base.specs.declared.refusal.Refusal.TheVariants as refusal
-use Rattle.pcm_base.specs.Counters.{layouts_of, record_test}
-use Rattle.pcm_base.specs.History.{History}
-use Rattle.pcm_base.specs.Refusals.{◌otherwise◌, call_tests}
-use Rattle.pcm_base.specs.Run.{outside}
-use Rattle.pcm_base.specs.State.{State}
+use Rattle.pcm_base.specs.{declared.answer.Reply.TheVariants.Done, declared.block.BlockRef.BlockRef}
+use Rattle.pcm_base.specs.{declared.command.Call.Call, declared.entry.SoundMove.SoundMove}
+use Rattle.pcm_base.specs.{declared.refusal.Refusal.Refusal, Counters.layouts_of, Counters.record_test, History.History}
+use Rattle.pcm_base.specs.{Refusals.◌otherwise◌, Refusals.call_tests, Run.outside, State.State}
 use Rattle.disk_model.specs.declared.store.Store.{Ghosts}
 use Rattle.disk_model.proofs.Frames.{Fewer, changed_wider}
 use Rattle.sample_block.specs.Sources.{IsWhole}
 use Rattle.clip_track.specs.declared.items.Item.{Item}
 use Rattle.project_state.specs.declared.track.Track.{Track}
-use Rattle.record_body.specs.Kept.{Kept}
+use Rattle.record_body.specs.Saved.{Saved}
 use Rattle.editor_state.specs.Adding.{AddsBody, ExceedsBy, Outgrows, Undrawn, stopped_by}
 use Rattle.editor_state.specs.Bodies.{IsLength, Writing, all_len, whole_len}
-use Rattle.editor_state.specs.Core.{Core}
-use Rattle.editor_state.specs.Exchanges.{may_begin}
-use Rattle.editor_state.specs.Spent.{WouldMake, kept_of}
-use Rattle.editor_state.specs.Packing.{packed_by}
 use Rattle.editor_state.specs.Studios.{IsHeld, IsStudio, named_blocks, studio_by, studio_of}
-use Rattle.editor_state.specs.Took.{Took, with_sound}
+use Rattle.editor_state.specs.{Core.Core, Exchanges.may_begin, Spent.WouldMake, Spent.saved_of, Packing.packed_by}
+use Rattle.editor_state.specs.{Took.Took, Took.with_sound}
 use Rattle.editor_state.proofs.Refusals.VaultRefusals.{inside_begins_none, outgrowing_asks}
-use Rattle.editor_commits.proofs.CommitImages.{IsCommit, IsTested, flight, whole_still}
-use Rattle.editor_commits.proofs.CommitStudios.{stopped_studio}
-use Rattle.editor_state.proofs.Lists.{all_left}
-use Rattle.editor_state.proofs.Refusals.RefusalEffects.{left_stopped}
 use Rattle.editor_state.proofs.Calls.OtherFiles.{NoneGoes, others_record}
 use Rattle.editor_state.proofs.Calls.CallPremises.{TookWhere, took_so}
-use Rattle.editor_state.proofs.Refusals.CallTests.{outgrowing_plain}
-use Rattle.editor_state.proofs.Refusals.PurgeNumbers.{other_purges}
 use Rattle.editor_state.proofs.Calls.FileRemovals.{commit_frees, commit_leaves_journal, commit_removes_none, ids_same}
 use Rattle.editor_state.proofs.Calls.FileRemovals.{begun_untouched, broken_begins}
-use Rattle.editor_state.proofs.Blocks.BlockSounds.{sources_elsewhere}
 use Rattle.editor_state.proofs.Refusals.CommitTests.{exceeded, outgrows}
-use Rattle.editor_state.proofs.Refusals.CounterNumbers.{outgrowing_needed}
 use Rattle.editor_state.proofs.Refusals.EarlyRefusals.{HasMade, record_within, refuses, some_none, stopped_not, wants}
+use Rattle.editor_state.proofs.{Lists.all_left, Refusals.RefusalEffects.left_stopped}
+use Rattle.editor_state.proofs.{Refusals.CallTests.outgrowing_plain, Refusals.PurgeNumbers.other_purges}
+use Rattle.editor_state.proofs.{Blocks.BlockSounds.sources_elsewhere, Refusals.CounterNumbers.outgrowing_needed}
+use Rattle.editor_commits.proofs.CommitImages.{IsCommit, IsTested, flight, whole_still}
+use Rattle.editor_commits.proofs.CommitStudios.{stopped_studio}
+use Rattle.pcm_base.specs.declared.refusal.Refusal.TheVariants as refusal
 
 module _ {D : Type 0} {Has : Type 0} {disk : Ghosts D} {s : Core D} {made : List BlockRef} {c : Call}
     {sound : SoundMove} {tracks : ℕ} {w : Writing} {h : History (List Track)} {clip : Option (List (List Item))}
@@ -138,7 +125,7 @@ module _ {D : Type 0} (disk : Ghosts D) (s : Core D) (made : List BlockRef) (c :
         history = h;
         next_track = track_then;
         says = move.says;
-        leads = ap (λ (k : Kept). k.history) (move.leads s.block_size (kept_of s) (record {
+        leads = ap (λ (k : Saved). k.history) (move.leads s.block_size (saved_of s) (record {
           block_size = refl;
           history = refl;
           next_block = omega arith;

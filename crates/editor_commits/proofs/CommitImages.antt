@@ -1,50 +1,34 @@
 -- A commit: the call, what it writes, and what it leads to; and what an image has while its records are added.
-use Rattle.std.proofs.Common.{◌≡◌, inl, inr, ⊎_elim, refl, sym, ◌∙◌, subst, ℕ, suc, ◌+◌, ◌^◌, ◌≤◌, ◌<◌, List, ◌++◌, length}
-use Rattle.std.proofs.Common.{Option, None, Result, arith}
+use Rattle.std.proofs.Common.{◌≡◌, inl, inr, ⊎_elim, refl, sym, ◌∙◌, subst, ℕ, suc, ◌+◌, ◌^◌, ◌≤◌, ◌<◌, List, ◌++◌}
+use Rattle.std.proofs.Common.{length, Option, None, Result, arith}
 use Rattle.std.specs.List.{AllByRecursion}
-use Rattle.pcm_base.specs.declared.answer.Reply.TheVariants.{Done}
-use Rattle.pcm_base.specs.declared.block.BlockRef.{BlockRef}
-use Rattle.pcm_base.specs.declared.command.Call.{Call}
-use Rattle.pcm_base.specs.declared.entry.SoundMove.{SoundMove}
-use Rattle.pcm_base.specs.declared.refusal.Refusal.{Refusal}
-use Rattle.pcm_base.specs.Counters.{Needs, layouts_of}
-use Rattle.pcm_base.specs.History.{History}
-use Rattle.pcm_base.specs.Outside.{Outside}
-use Rattle.pcm_base.specs.Refusals.{call_tests}
 use Rattle.pcm_base.specs.Run.{CarriesOut, followed, outside, refusal_of}
-use Rattle.pcm_base.specs.declared.limits.TheConstants.{LONGEST_BODY}
-use Rattle.pcm_base.specs.Step.{after}
-use Rattle.pcm_base.specs.Studio as model
-use Rattle.disk_model.specs.MomentLaws.{upto_refl}
-use Rattle.disk_model.specs.declared.store.Store.{Ghosts}
+use Rattle.pcm_base.specs.{declared.answer.Reply.TheVariants.Done, declared.block.BlockRef.BlockRef}
+use Rattle.pcm_base.specs.{declared.command.Call.Call, declared.entry.SoundMove.SoundMove}
+use Rattle.pcm_base.specs.{declared.refusal.Refusal.Refusal, Counters.Needs, Counters.layouts_of, History.History}
+use Rattle.pcm_base.specs.{Outside.Outside, Refusals.call_tests, declared.limits.TheConstants.LONGEST_BODY, Step.after}
+use Rattle.disk_model.specs.{MomentLaws.upto_refl, declared.store.Store.Ghosts}
 use Rattle.sample_block.specs.Sources.{sources_of, IsWhole, AllWhole}
 use Rattle.clip_track.specs.declared.items.Item.{Item}
 use Rattle.project_journal.specs.Gate.{EachNow, EachSince}
-use Rattle.project_state.specs.declared.track.Track.{Track}
-use Rattle.record_body.specs.Batches.{after_bodies}
-use Rattle.record_body.specs.Kept.{Kept, LeadIn, Keeps, version_of}
 use Rattle.project_state.specs.Meaning.{meant_history, history_blocks}
-use Rattle.record_body.specs.KeptSound.{IsSoundTagged}
-use Rattle.record_body.specs.Numbers.{unnumbered_body}
-use Rattle.project_state.specs.Numbers.{unnumbered_history}
-use Rattle.record_body.proofs.Unnumbered.{history_blocks_alike, history_meant_alike}
-use Rattle.record_body.proofs.KeptBounds.{all_append}
-use Rattle.editor_state.specs.Adding.{AddsBody}
+use Rattle.project_state.specs.{declared.track.Track.Track, Numbers.unnumbered_history}
+use Rattle.record_body.specs.Saved.{Saved, LeadIn, Keeps, version_of}
+use Rattle.record_body.specs.{Batches.after_bodies, SavedValid.IsValidTagged, Numbers.unnumbered_body}
+use Rattle.record_body.proofs.{Unnumbered.history_blocks_alike, Unnumbered.history_meant_alike, SavedBounds.all_append}
 use Rattle.editor_state.specs.Bodies.{IsLength, Writing, all_bytes, all_len}
-use Rattle.editor_state.specs.Core.{Core, form_at}
-use Rattle.editor_state.specs.Records.{Says}
 use Rattle.editor_state.specs.Studios.{IsGiven, IsDurable, IsHeld, IsStudio, MayPaste, SameBlocks, clip_blocks}
 use Rattle.editor_state.specs.Studios.{clip_cells, named_blocks, pin_blocks, shown, studio_of}
-use Rattle.editor_state.specs.Took.{KeepsOneOf}
+use Rattle.editor_state.specs.{Adding.AddsBody, Core.Core, Core.form_at, Records.Says, Took.KeepsOneOf}
 use Rattle.editor_state.proofs.Images.ImageProjects.{opened_by, Covers, form_few, one_of, same_since, shown_is}
 use Rattle.editor_state.proofs.Images.ImageProjects.{covers_kept}
-use Rattle.editor_state.proofs.Lists.{all_left, all_right, all_both}
-use Rattle.editor_state.proofs.Blocks.BlockSounds.{blocks_same, all_whole}
-use Rattle.editor_state.proofs.Refusals.CommitTests.{IsCommitCall, nothing}
-use Rattle.editor_state.proofs.Refusals.EarlyRefusals.{HasMade}
+use Rattle.editor_state.proofs.{Lists.all_left, Lists.all_right, Lists.all_both, Blocks.BlockSounds.blocks_same}
+use Rattle.editor_state.proofs.{Blocks.BlockSounds.all_whole, Refusals.CommitTests.IsCommitCall}
+use Rattle.editor_state.proofs.{Refusals.CommitTests.nothing, Refusals.EarlyRefusals.HasMade}
+use Rattle.pcm_base.specs.Studio as model
 
 -- the studio's numbers and history are those of the records
-pub record Matches {D : Type 0} (s : Core D) (m : ℕ) (k : Kept) : Type 0 where
+pub record Matches {D : Type 0} (s : Core D) (m : ℕ) (k : Saved) : Type 0 where
   pub block_size : m ≡ s.block_size
   pub history : k.history ≡ unnumbered_history s.history
   pub next_block : k.next_block ≤ s.next_block
@@ -61,9 +45,9 @@ pub record IsCommit {D : Type 0} (Has : Type 0) (disk : Ghosts D) (s : Core D) (
   -- what the records say of the next block
   pub block_then : ℕ → ℕ
   pub block_most : (n : ℕ) → n ≤ s.next_block → block_then n ≤ s.next_block
-  pub tells : (m : ℕ) (k : Kept) → Matches s m k → s.commit_number + w.more < 2 ^ 62
+  pub tells : (m : ℕ) (k : Saved) → Matches s m k → s.commit_number + w.more < 2 ^ 62
       → LeadIn (version_of (form_at s)) m k (all_bytes s w) (after_bodies k w.more (unnumbered_body w.body))
-  pub leads : (m : ℕ) (k : Kept) → Matches s m k → after_bodies k w.more (unnumbered_body w.body) ≡ record k {
+  pub leads : (m : ℕ) (k : Saved) → Matches s m k → after_bodies k w.more (unnumbered_body w.body) ≡ record k {
     history = unnumbered_history h;
     next_block = block_then k.next_block;
     next_track = track_then;
@@ -74,7 +58,7 @@ pub record IsCommit {D : Type 0} (Has : Type 0) (disk : Ghosts D) (s : Core D) (
       → AllByRecursion P (clip_blocks clip)
   pub clip_few : length (clip_blocks clip) ≤ 2 ^ 71
   pub clip_fits : MayPaste s.block_size clip
-  pub points : AllByRecursion (IsSoundTagged s.block_size s.next_block track_then (s.commit_number + suc w.more)) h.points
+  pub points : AllByRecursion (IsValidTagged s.block_size s.next_block track_then (s.commit_number + suc w.more)) h.points
   pub depth : h.depth ≡ s.history.depth
   pub few : length h.points ≤ h.depth
   pub says : Says s.next_block track_then h w.body
@@ -151,7 +135,7 @@ module _ {D : Type 0} {Has : Type 0} {disk : Ghosts D} {s : Core D} {made : List
 
   covers_after : (d : IsDurable disk s) → Covers every (after_bodies d.kept w.more (unnumbered_body w.body)).history
   covers_after d P all =
-      subst (λ (z : Kept). AllByRecursion P (history_blocks z.history))
+      subst (λ (z : Saved). AllByRecursion P (history_blocks z.history))
       (sym (t.move.leads d.log.block_size d.kept (matches d)))
       (subst (AllByRecursion P) (sym (history_blocks_alike h)) (t.move.covers P all))
 
@@ -161,7 +145,7 @@ module _ {D : Type 0} {Has : Type 0} {disk : Ghosts D} {s : Core D} {made : List
       ≡ shown (followed out before c 0 len before.next_layout)
   shown_then d has =
       let src = sources_of (disk.reads s.store) in
-      let k : Kept = record d.kept {
+      let k : Saved = record d.kept {
         history = unnumbered_history h;
         next_block = t.move.block_then d.kept.next_block;
         next_track = track_then;
@@ -239,8 +223,7 @@ module _ {D : Type 0} {Has : Type 0} {disk : Ghosts D} {s : Core D} {made : List
     pub reads_still : SameBlocks (named_blocks s ++ made) (disk.reads s.store) (disk.reads mid.store)
     reads_still =
         blocks_same s.file (disk.reads s.store) (disk.reads mid.store) s.next_block every t.is.journal.among
-        (adds.changed.reads (t.holds has).tells)
-        every_ids
+        (adds.changed.reads (t.holds has).tells) every_ids
 
     pub whole_still : AllWhole (disk.reads mid.store) (named_blocks s ++ made)
     whole_still = all_whole (disk.reads s.store) (disk.reads mid.store) every reads_still (every_whole has)
@@ -253,8 +236,7 @@ module _ {D : Type 0} {Has : Type 0} {disk : Ghosts D} {s : Core D} {made : List
         let images = adds.changed.images in
         let since =
         same_since disk s.store mid.store (form_at s) d.log d.base d.kept every s.next_block
-        (form_few s t.is.journal.among) d.begins d.told every_ids (every_whole has)
-        (every_same has) images x
+        (form_few s t.is.journal.among) d.begins d.told every_ids (every_whole has) (every_same has) images x
         (images.fewer (disk.clock s.store) (disk.clock mid.store) x images.later (upto_refl (disk.clock mid.store)) now)
         in
         all_both (λ b. x b.id ≡ reads b.id) (λ b. disk.reads mid.store b.id ≡ reads b.id)

@@ -2,48 +2,32 @@
 use Rattle.std.proofs.Common.{◌≡◌, inl, inr, refl, sym, ap, ◌∙◌, subst, ℕ, suc, ◌+◌, ◌-◌, ◌^◌, ◌≤◌, ◌<◌, IsTrue, List}
 use Rattle.std.proofs.Common.{◌++◌, Option, None, IsSome, Ok, arith}
 use Rattle.std.specs.List.{AllByRecursion}
-use Rattle.pcm_base.specs.declared.answer.Reply.TheVariants.{Done}
-use Rattle.pcm_base.specs.declared.block.BlockRef.{BlockRef}
-use Rattle.pcm_base.specs.declared.command.Call.{Call}
-use Rattle.pcm_base.specs.declared.entry.SoundMove.{SoundMove}
 use Rattle.pcm_base.specs.Counters.{MayDraw, layouts_of, record_bytes}
-use Rattle.pcm_base.specs.History.{History}
-use Rattle.pcm_base.specs.Outside.{Outside}
-use Rattle.pcm_base.specs.Refusals.{call_tests}
-use Rattle.pcm_base.specs.Run.{followed, outside}
-use Rattle.pcm_base.specs.Step.{after}
-use Rattle.pcm_base.specs.Studio as model
+use Rattle.pcm_base.specs.{declared.answer.Reply.TheVariants.Done, declared.block.BlockRef.BlockRef}
+use Rattle.pcm_base.specs.{declared.command.Call.Call, declared.entry.SoundMove.SoundMove, History.History}
+use Rattle.pcm_base.specs.{Outside.Outside, Refusals.call_tests, Run.followed, Run.outside, Step.after}
 use Rattle.disk_model.specs.declared.store.Store.{Ghosts}
 use Rattle.disk_model.proofs.Frames.{changed_wider}
 use Rattle.sample_block.specs.Sources.{IsWhole}
 use Rattle.block_ledger.specs.Counts.{Counts}
 use Rattle.clip_track.specs.declared.items.Item.{Item}
 use Rattle.project_journal.specs.Journal.{IsAt, with_bodies}
-use Rattle.record_body.specs.Batches.{after_bodies}
-use Rattle.project_state.specs.declared.track.Track.{Track}
-use Rattle.record_body.specs.Kept.{Kept, LeadIn, version_of}
-use Rattle.project_state.specs.Meaning.{meant_history}
-use Rattle.editor_state.specs.Adding.{AddsBody}
-use Rattle.editor_state.specs.Bodies.{Writing, all_bytes, all_len}
-use Rattle.editor_state.specs.Core.{Core, form_at}
-use Rattle.editor_state.specs.Records.{Says}
-use Rattle.editor_state.specs.Packing.{packed_by}
-use Rattle.editor_state.specs.Studios.{IsDurable, IsHeld, IsStudio, clip_blocks, clip_cells, named_blocks, pin_blocks}
-use Rattle.editor_state.specs.Studios.{studio_by, studio_of}
-use Rattle.editor_state.specs.Took.{Took, with_sound}
+use Rattle.record_body.specs.Saved.{Saved, LeadIn, version_of}
+use Rattle.record_body.specs.{Batches.after_bodies, Numbers.unnumbered_body}
+use Rattle.project_state.specs.{declared.track.Track.Track, Meaning.meant_history, Numbers.unnumbered_history}
+use Rattle.editor_state.specs.Studios.{IsDurable, IsHeld, IsStudio, clip_cells, named_blocks, studio_by, studio_of}
+use Rattle.editor_state.specs.{Adding.AddsBody, Bodies.Writing, Bodies.all_bytes, Bodies.all_len, Core.Core}
+use Rattle.editor_state.specs.{Core.form_at, Records.Says, Packing.packed_by, Took.Took, Took.with_sound}
 use Rattle.editor_commits.proofs.CommitImages.{IsCommit, IsTested, flight, images_still, matches, passes, whole_still}
-use Rattle.record_body.specs.Numbers.{unnumbered_body}
-use Rattle.project_state.specs.Numbers.{unnumbered_history}
 use Rattle.editor_commits.proofs.CommitStudios.{CountsAfter, LeadsOn, led_studio, named_led}
-use Rattle.editor_state.proofs.Images.ImageProjects.{keeps_now}
 use Rattle.editor_state.proofs.Images.JournalLeads.{begins_more, lead_all}
 use Rattle.editor_state.proofs.Calls.OtherFiles.{NoneGoes, others_record}
 use Rattle.editor_state.proofs.Calls.CallPremises.{TookWhere, took_so}
-use Rattle.editor_state.proofs.Refusals.PurgeNumbers.{done_purges}
 use Rattle.editor_state.proofs.Calls.FileRemovals.{commit_leaves_journal, commit_removes_none, ids_still, none_given}
-use Rattle.editor_state.proofs.Blocks.BlockSounds.{sources_elsewhere}
-use Rattle.editor_state.proofs.Refusals.CommitTests.{commit_bytes}
 use Rattle.editor_state.proofs.Refusals.EarlyRefusals.{HasMade, record_within, stopped_not}
+use Rattle.editor_state.proofs.{Images.ImageProjects.keeps_now, Refusals.PurgeNumbers.done_purges}
+use Rattle.editor_state.proofs.{Blocks.BlockSounds.sources_elsewhere, Refusals.CommitTests.commit_bytes}
+use Rattle.pcm_base.specs.Studio as model
 
 module _ {D : Type 0} {Has : Type 0} {disk : Ghosts D} {s : Core D} {made : List BlockRef} {c : Call}
     {sound : SoundMove} {tracks : ℕ} {w : Writing} {h : History (List Track)} {clip : Option (List (List Item))}
@@ -56,10 +40,6 @@ module _ {D : Type 0} {Has : Type 0} {disk : Ghosts D} {s : Core D} {made : List
 
   abbrev len : ℕ
   len = all_len s w
-
-  -- the pins and the clipboard after it
-  abbrev rest_then : List BlockRef
-  rest_then = pin_blocks s.pins ++ clip_blocks clip
 
   on : LeadsOn s made h clip track_then (suc w.more)
   on = record {
@@ -78,8 +58,7 @@ module _ {D : Type 0} {Has : Type 0} {disk : Ghosts D} {s : Core D} {made : List
 
   module _ {Q : Type 0} (q : Q) (mid : Core D) (adds : AddsBody disk s w (Ok q) mid)
       (h' : History (List Track)) (uses counts : Counts) (next_track next_layout : ℕ) (moved : h' ≡ h)
-      (tracked : next_track ≡ track_then)
-      (counted : CountsAfter s.pins h clip next_layout s.counts uses counts) where
+      (tracked : next_track ≡ track_then) (counted : CountsAfter s.pins h clip next_layout s.counts uses counts) where
     abbrev pub grown : Core D
     grown = record s {
       store = mid.store;
@@ -100,8 +79,7 @@ module _ {D : Type 0} {Has : Type 0} {disk : Ghosts D} {s : Core D} {made : List
         → AllByRecursion P (named_blocks grown)
     grown_named =
         named_led disk s t.is made h clip track_then on mid.store
-        (s.journal_end + 5 + len) end_then (omega arith) h' uses counts next_track next_layout moved
-        tracked counted
+        (s.journal_end + 5 + len) end_then (omega arith) h' uses counts next_track next_layout moved tracked counted
 
     grown_end : mid.journal_end ≡ s.journal_end + 5 + len
     grown_end = ap (λ (z : Core D). z.journal_end) adds.fields.0
@@ -110,7 +88,7 @@ module _ {D : Type 0} {Has : Type 0} {disk : Ghosts D} {s : Core D} {made : List
     grown_durable has =
         let d = (t.holds has).durable t.going in
         let m = d.log.block_size in
-        let k : Kept = record d.kept {
+        let k : Saved = record d.kept {
           history = unnumbered_history h;
           next_block = t.move.block_then d.kept.next_block;
           next_track = track_then;
@@ -120,8 +98,7 @@ module _ {D : Type 0} {Has : Type 0} {disk : Ghosts D} {s : Core D} {made : List
         let version = version_of (form_at s) in
         let led =
         lead_all version m d.base d.kept (after_bodies d.kept w.more (unnumbered_body w.body)) d.log.bodies
-        (all_bytes s w) d.told
-        (t.move.tells m d.kept (matches t d) t.number) in
+        (all_bytes s w) d.told (t.move.tells m d.kept (matches t d) t.number) in
         let reads = disk.reads s.store in record {
           log = log;
           base = d.base;
@@ -131,7 +108,7 @@ module _ {D : Type 0} {Has : Type 0} {disk : Ghosts D} {s : Core D} {made : List
               (adds.done d.log (t.holds has).tells d.there);
           generation = d.generation;
           begins = begins_more d.log (all_bytes s w) d.base d.begins;
-          told = subst (λ (z : Kept). LeadIn version m d.base (d.log.bodies ++ all_bytes s w) z)
+          told = subst (λ (z : Saved). LeadIn version m d.base (d.log.bodies ++ all_bytes s w) z)
               (t.move.leads m d.kept (matches t d)) led;
           rate = d.rate;
           block_size = d.block_size;
@@ -140,8 +117,7 @@ module _ {D : Type 0} {Has : Type 0} {disk : Ghosts D} {s : Core D} {made : List
           next_track = sym tracked;
           commit = ap (λ (n : ℕ). n + suc w.more) d.commit;
           blocks = λ x now.
-              grown_named (λ b. x b.id ≡ disk.reads mid.store b.id)
-              (images_still t (Ok q) mid adds has x now);
+              grown_named (λ b. x b.id ≡ disk.reads mid.store b.id) (images_still t (Ok q) mid adds has x now);
           files = λ id least most.
               let was = d.files id least most in
               let same : disk.reads mid.store id ≡ reads id =
@@ -161,8 +137,7 @@ module _ {D : Type 0} {Has : Type 0} {disk : Ghosts D} {s : Core D} {made : List
     grown_studio : IsStudio disk grown
     grown_studio =
         led_studio disk s t.is made h clip track_then on mid.store
-        (s.journal_end + 5 + len) end_then (omega arith) h' uses counts next_track next_layout moved
-        tracked counted
+        (s.journal_end + 5 + len) end_then (omega arith) h' uses counts next_track next_layout moved tracked counted
 
     pub grown_state : Has → studio_of disk grown ≡ followed out before c 0 len next_layout
     grown_state has =
@@ -246,8 +221,7 @@ module _ {D : Type 0} (disk : Ghosts D) (s : Core D) (made : List BlockRef) (c :
 
   module _ {Q : Type 0} (q : Q) (mid : Core D) (adds : AddsBody disk s w (Ok q) mid)
       (h' : History (List Track)) (uses counts : Counts) (next_track next_layout : ℕ) (moved : h' ≡ h)
-      (tracked : next_track ≡ track_then)
-      (counted : CountsAfter s.pins h clip next_layout s.counts uses counts) where
+      (tracked : next_track ≡ track_then) (counted : CountsAfter s.pins h clip next_layout s.counts uses counts) where
     abbrev Leaves : Core D → Type 0
     Leaves z =
         Took disk s (with_sound c sound (Ok Done))

@@ -1,26 +1,20 @@
 -- The studio that a commit leads to is one, whatever the disk tells; and so is one that a failed change has stopped.
-use Rattle.std.proofs.Common.{◌≡◌, ◌↔◌, sym, ap, ◌∙◌, subst, ℕ, ◌+◌, ◌^◌, ◌≤◌, List, ◌++◌, length, Option}
-use Rattle.std.proofs.Common.{IsSome}
+use Rattle.std.proofs.Common.{◌≡◌, ◌↔◌, sym, ap, ◌∙◌, subst, ℕ, ◌+◌, ◌^◌, ◌≤◌, List, ◌++◌, length, Option, IsSome}
 use Rattle.std.proofs.Common.{arith}
 use Rattle.std.specs.List.{AllByRecursion}
-use Rattle.pcm_base.specs.declared.block.BlockRef.{BlockRef}
-use Rattle.pcm_base.specs.History.{History}
+use Rattle.pcm_base.specs.{declared.block.BlockRef.BlockRef, History.History}
 use Rattle.disk_model.specs.declared.store.Store.{Ghosts}
 use Rattle.block_ledger.specs.Counts.{Counts}
 use Rattle.clip_track.specs.declared.items.Item.{Item}
 use Rattle.project_journal.specs.Header.{IsFormat}
-use Rattle.project_state.specs.declared.track.Track.{Track}
-use Rattle.project_state.specs.Meaning.{history_blocks}
-use Rattle.record_body.specs.KeptSound.{IsSoundPoint, IsSoundTagged}
-use Rattle.record_body.proofs.KeptBounds.{all_append, tagged_more}
-use Rattle.editor_state.specs.Adding.{stopped_by}
-use Rattle.editor_state.specs.Core.{Core}
-use Rattle.layout_uses.specs.Layouts.{AreDrawn, AreNumbered, history_tracks}
-use Rattle.layout_uses.specs.Tallies.{AreCounts}
+use Rattle.project_state.specs.{declared.track.Track.Track, Meaning.history_blocks}
+use Rattle.record_body.specs.SavedValid.{IsValidPoint, IsValidTagged}
+use Rattle.record_body.proofs.SavedBounds.{all_append, tagged_more}
 use Rattle.editor_state.specs.Studios.{IsGiven, IsStudio, MayPaste, clip_blocks, named_blocks, pin_blocks, pin_tracks}
-use Rattle.editor_state.specs.declared.pin.Pin.{Pin}
-use Rattle.editor_state.proofs.Images.ImageProjects.{Covers}
+use Rattle.editor_state.specs.{Adding.stopped_by, Core.Core, declared.pin.Pin.Pin}
+use Rattle.layout_uses.specs.{Layouts.AreDrawn, Layouts.AreNumbered, Layouts.history_tracks, Tallies.AreCounts}
 use Rattle.editor_state.proofs.Lists.{all_left, all_right, all_so}
+use Rattle.editor_state.proofs.{Images.ImageProjects.Covers, SameStudios.studio_over}
 
 -- The uses of layouts and the counts of blocks for this history and clipboard beside these pins, and the number of the
 -- next layout, where the ids are those of these counts.
@@ -46,31 +40,14 @@ pub record LeadsOn {D : Type 0} (s : Core D) (made : List BlockRef) (h : History
       → AllByRecursion P (clip_blocks clip)
   pub clip_few : length (clip_blocks clip) ≤ 2 ^ 71
   pub clip_fits : MayPaste s.block_size clip
-  pub points : AllByRecursion (IsSoundTagged s.block_size s.next_block track_then (s.commit_number + count)) h.points
+  pub points : AllByRecursion (IsValidTagged s.block_size s.next_block track_then (s.commit_number + count)) h.points
   pub depth : h.depth ≡ s.history.depth
   pub few : length h.points ≤ h.depth
 
 module _ {D : Type 0} (disk : Ghosts D) (s : Core D) (is : IsStudio disk s) where
   -- one that is stopped
   pub stopped_studio : (store : D) → IsStudio disk (stopped_by disk s store)
-  stopped_studio store = record {
-    format = is.format;
-    counters = is.counters;
-    journal = is.journal;
-    few_points = is.few_points;
-    few_clips = is.few_clips;
-    points = is.points;
-    pins = is.pins;
-    numbers = is.numbers;
-    clipboard = is.clipboard;
-    ids = is.ids;
-    layouts = is.layouts;
-    numbered = is.numbered;
-    drawn = is.drawn;
-    counted = is.counted;
-    given = is.given;
-    pages = is.pages;
-  }
+  stopped_studio store = studio_over disk s is store (stopped_by disk s store).stopped
 
   module _ (made : List BlockRef) (h : History (List Track)) (clip : Option (List (List Item))) (track_then : ℕ)
       {count : ℕ} (on : LeadsOn s made h clip track_then count) where
@@ -90,8 +67,7 @@ module _ {D : Type 0} (disk : Ghosts D) (s : Core D) (is : IsStudio disk s) wher
 
     module _ (store : D) (end : ℕ) (end_most : end ≤ 2 ^ 62) (end_later : s.journal_end ≤ end) (h' : History
         (List Track))
-        (uses counts : Counts) (next_track next_layout : ℕ)
-        (moved : h' ≡ h) (tracked : next_track ≡ track_then)
+        (uses counts : Counts) (next_track next_layout : ℕ) (moved : h' ≡ h) (tracked : next_track ≡ track_then)
         (after : CountsAfter s.pins h clip next_layout s.counts uses counts) where
       abbrev pub led : Core D
       led = record s {
@@ -112,21 +88,21 @@ module _ {D : Type 0} (disk : Ghosts D) (s : Core D) (is : IsStudio disk s) wher
           subst (λ (z : History (List Track)). AllByRecursion P (history_blocks z ++ rest_then)) (sym moved)
           (named_too P all)
 
-      led_points : AllByRecursion (IsSoundTagged s.block_size s.next_block next_track (s.commit_number + count)) h'.points
+      led_points : AllByRecursion (IsValidTagged s.block_size s.next_block next_track (s.commit_number + count)) h'.points
       led_points =
-          subst (λ (n : ℕ). AllByRecursion (IsSoundTagged s.block_size s.next_block n (s.commit_number + count)) h'.points)
+          subst (λ (n : ℕ). AllByRecursion (IsValidTagged s.block_size s.next_block n (s.commit_number + count)) h'.points)
           (sym tracked)
           (subst
           (λ (z : History (List Track)). AllByRecursion
-          (IsSoundTagged s.block_size s.next_block track_then (s.commit_number + count)) z.points)
+          (IsValidTagged s.block_size s.next_block track_then (s.commit_number + count)) z.points)
           (sym moved) on.points)
 
       -- tracks that pins have were given before
-      pin_later : (p : Pin) → IsSoundPoint s.block_size s.next_block s.next_track p.point
-          → IsSoundPoint s.block_size s.next_block next_track p.point
-      pin_later p sound =
+      pin_later : (p : Pin) → IsValidPoint s.block_size s.next_block s.next_track p.point
+          → IsValidPoint s.block_size s.next_block next_track p.point
+      pin_later p valid =
           (tagged_more s.block_size s.next_block s.next_track 0 s.next_block next_track 0 (p.point, 0) (omega arith)
-          (omega (arith, tracked, on.later)) (omega arith) (sound, omega arith)).0
+          (omega (arith, tracked, on.later)) (omega arith) (valid, omega arith)).0
 
       pub led_studio : IsStudio disk led
       led_studio = record {
@@ -147,8 +123,8 @@ module _ {D : Type 0} (disk : Ghosts D) (s : Core D) (is : IsStudio disk s) wher
         few_points = subst (λ (z : History (List Track)). length z.points ≤ z.depth) (sym moved) on.few;
         few_clips = on.clip_few;
         points = led_points;
-        pins = all_so (λ (p : Pin). IsSoundPoint s.block_size s.next_block s.next_track p.point)
-            (λ (p : Pin). IsSoundPoint s.block_size s.next_block next_track p.point) pin_later s.pins is.pins;
+        pins = all_so (λ (p : Pin). IsValidPoint s.block_size s.next_block s.next_track p.point)
+            (λ (p : Pin). IsValidPoint s.block_size s.next_block next_track p.point) pin_later s.pins is.pins;
         numbers = is.numbers;
         clipboard = on.clip_fits;
         ids = named_led (λ (b : BlockRef). IsGiven s.next_block b.id)

@@ -1,66 +1,45 @@
 -- What any edit stands on: the current project, and a new point after it.
 use Rattle.std.proofs.Common.{◌≡◌, refl, sym, ap, ap₂, ◌∙◌, ℕ, zero, suc, ◌+◌, ◌^◌, ◌≤◌, ◌<◌, List, [], ◌∷◌, ◌++◌}
-use Rattle.std.proofs.Common.{length, map}
-use Rattle.std.proofs.Common.{Option, subst, arith}
+use Rattle.std.proofs.Common.{length, map, Option, subst, arith}
 use Rattle.std.specs.List.{AllByRecursion}
-use Rattle.pcm_base.specs.declared.block.BlockRef.{BlockRef}
-use Rattle.pcm_base.specs.declared.command.Call.{Call}
-use Rattle.pcm_base.specs.declared.entry.SoundMove.{SoundMove}
-use Rattle.pcm_base.specs.declared.refusal.Refusal.TheVariants.{NoTrack}
-use Rattle.pcm_base.specs.Cells.{Project, tracks_from}
-use Rattle.pcm_base.specs.Counters.{Needs}
 use Rattle.pcm_base.specs.History.{History, edited, kept}
-use Rattle.pcm_base.specs.Pieces.{Sources}
-use Rattle.pcm_base.specs.Refusals.{is_empty, refused_if}
-use Rattle.pcm_base.specs.Run.{outside}
-use Rattle.pcm_base.specs.State.{State, current}
-use Rattle.pcm_base.specs.Step.{after}
+use Rattle.pcm_base.specs.{declared.block.BlockRef.BlockRef, declared.command.Call.Call}
+use Rattle.pcm_base.specs.{declared.entry.SoundMove.SoundMove, declared.refusal.Refusal.TheVariants.NoTrack}
+use Rattle.pcm_base.specs.{Cells.Project, Cells.tracks_from, Counters.Needs, Pieces.Sources, Refusals.is_empty}
+use Rattle.pcm_base.specs.{Refusals.refused_if, Run.outside, State.State, State.current, Step.after}
 use Rattle.disk_model.specs.declared.store.Store.{Ghosts}
 use Rattle.sample_block.specs.Sources.{sources_of}
 use Rattle.block_ledger.specs.Entries.{count_of}
 use Rattle.clip_track.specs.declared.items.Item.{Item}
-use Rattle.record_body.specs.declared.body.Body.{Body}
-use Rattle.record_body.specs.declared.body.Body.TheVariants.{Edit}
-use Rattle.project_state.specs.declared.track.Track.{Track}
-use Rattle.record_body.specs.Batches.{after_bodies, bodies_in}
-use Rattle.record_body.specs.Kept.{current_tracks, Kept, IsNextIn, LeadIn, MayFollow, before_of, version_of}
+use Rattle.record_body.specs.Saved.{current_tracks, Saved, IsNextIn, LeadIn, MayFollow, before_of, version_of}
+use Rattle.record_body.specs.{declared.body.Body.Body, declared.body.Body.TheVariants.Edit, Batches.after_bodies}
+use Rattle.record_body.specs.{Batches.bodies_in, SavedValid.IsValidPoint, SavedValid.IsValidTagged}
+use Rattle.record_body.specs.{Valid.AllValidTracks, Valid.IsValidBody, Numbers.unnumbered_body}
 use Rattle.project_state.specs.Meaning.{meant, meant_history, point_blocks, history_blocks}
-use Rattle.record_body.specs.KeptSound.{IsSoundPoint, IsSoundTagged}
-use Rattle.record_body.specs.Sound.{AllSoundTracks, IsSound}
-use Rattle.project_state.specs.Tracks.{AllBelow, track_of}
-use Rattle.record_body.proofs.Batched.{leads}
-use Rattle.record_body.proofs.KeptBounds.{tagged_more}
+use Rattle.project_state.specs.{declared.track.Track.Track, Tracks.AllBelow, Tracks.track_of, Numbers.AgreeById}
+use Rattle.project_state.specs.{Numbers.unnumbered}
+use Rattle.record_body.proofs.Unnumbered.{are_unnumbered, current_alike, edited_alike, valid_alike}
+use Rattle.record_body.proofs.{Batched.leads, SavedBounds.tagged_more, ShortEnds.valid_ends}
 use Rattle.project_state.proofs.MeantHistories.{meant_edited}
-use Rattle.record_body.proofs.ShortEnds.{sound_ends}
-use Rattle.project_state.specs.Numbers.{AgreeById, unnumbered}
-use Rattle.record_body.specs.Numbers.{unnumbered_body}
-use Rattle.record_body.proofs.Unnumbered.{are_unnumbered, current_alike, edited_alike, sound_alike}
-use Rattle.layout_uses.specs.declared.tally.Tally.{Tally}
-use Rattle.layout_uses.specs.Drawing.{HasNumbers}
-use Rattle.layout_uses.specs.Layouts.{AreDrawn, AreNumbered, history_tracks}
-use Rattle.layout_uses.specs.Tallies.{AreCounts, Becomes, MayBecome}
-use Rattle.layout_uses.proofs.Numbers.{agree_by_id}
-use Rattle.layout_uses.proofs.Putting.{same_numbers}
+use Rattle.layout_uses.specs.{declared.tally.Tally.Tally, Drawing.HasNumbers, Layouts.AreDrawn, Layouts.AreNumbered}
+use Rattle.layout_uses.specs.{Layouts.history_tracks, Tallies.AreCounts, Tallies.Becomes, Tallies.MayBecome}
+use Rattle.layout_uses.proofs.{Numbers.agree_by_id, Putting.same_numbers}
 use Rattle.editor_state.specs.Bodies.{IsLength, all_bytes, bodies_by, body_bytes, bytes_by, single}
-use Rattle.editor_state.specs.Core.{Core, form_at}
-use Rattle.editor_state.specs.Points.{lacks}
 use Rattle.editor_state.specs.Studios.{IsHeld, IsStudio, MayPaste, clip_blocks, clip_cells, named_blocks, pin_blocks}
 use Rattle.editor_state.specs.Studios.{pin_tracks, studio_of, studio_tracks}
+use Rattle.editor_state.specs.{Core.Core, Core.form_at, Points.lacks}
 use Rattle.editor_commits.proofs.BodyBytes.{ends_alike, next_so, spelled_in, version_is}
-use Rattle.editor_commits.proofs.CommitImages.{IsCommit, Matches}
-use Rattle.editor_commits.proofs.CommitStudios.{CountsAfter}
-use Rattle.editor_state.proofs.Blocks.NamedBlocks.{current_among, tracks_few}
 use Rattle.editor_commits.proofs.HistoryPoints.{all_edited, blocks_edited, current_all, current_blocks, ending_current}
 use Rattle.editor_commits.proofs.HistoryPoints.{ending_few}
-use Rattle.editor_state.proofs.Lists.{all_left, all_so}
-use Rattle.editor_state.proofs.Refusals.CommitTests.{IsCommitCall}
-use Rattle.editor_commits.proofs.TrackChanges.{current_is, lacks_is}
-use Rattle.editor_commits.proofs.TrackLists.{given_below}
+use Rattle.editor_commits.proofs.{CommitImages.IsCommit, CommitImages.Matches, CommitStudios.CountsAfter}
+use Rattle.editor_commits.proofs.{TrackChanges.current_is, TrackChanges.lacks_is, TrackLists.given_below}
+use Rattle.editor_state.proofs.{Blocks.NamedBlocks.current_among, Blocks.NamedBlocks.tracks_few, Lists.all_left}
+use Rattle.editor_state.proofs.{Lists.all_so, Refusals.CommitTests.IsCommitCall}
 
--- a sound project is one still where later tracks have ids
-pub sound_later : (m next_block next_track later : ℕ) (ts : List Track) → next_track ≤ later
-    → IsSoundPoint m next_block next_track ts → IsSoundPoint m next_block later ts
-sound_later m next_block next_track later ts h is =
+-- a valid project is one still where later tracks have ids
+pub valid_later : (m next_block next_track later : ℕ) (ts : List Track) → next_track ≤ later
+    → IsValidPoint m next_block next_track ts → IsValidPoint m next_block later ts
+valid_later m next_block next_track later ts h is =
     (tagged_more m next_block next_track 0 next_block later 0 (ts, 0) (omega arith) h (omega arith) (is, omega arith)).0
 
 -- the bodies of an edit, as the journal's writer spells them
@@ -93,19 +72,19 @@ module _ {D : Type 0} (disk : Ghosts D) (s : Core D) (is : IsStudio disk s) wher
   abbrev pub src : Sources
   src = sources_of (disk.reads s.store)
 
-  pub current_sound : IsSoundPoint s.block_size s.next_block s.next_track old
-  current_sound =
-      let points = all_so (IsSoundTagged s.block_size s.next_block s.next_track s.commit_number)
-      (λ (p : List Track × ℕ). IsSoundPoint s.block_size s.next_block s.next_track p.0)
+  pub current_valid : IsValidPoint s.block_size s.next_block s.next_track old
+  current_valid =
+      let points = all_so (IsValidTagged s.block_size s.next_block s.next_track s.commit_number)
+      (λ (p : List Track × ℕ). IsValidPoint s.block_size s.next_block s.next_track p.0)
       (λ p h. h.0) s.history.points is.points in
-      current_all (IsSoundPoint s.block_size s.next_block s.next_track) (record {
+      current_all (IsValidPoint s.block_size s.next_block s.next_track) (record {
         few = omega arith;
         rising = tt;
-        sound = tt;
+        valid = tt;
       }) s.history points
 
   pub current_below : AllBelow s.next_track old
-  current_below = given_below s.block_size s.next_block s.next_track old current_sound.sound
+  current_below = given_below s.block_size s.next_block s.next_track old current_valid.valid
 
   pub current_meant : current now ≡ meant src old
   current_meant = current_is src s.history
@@ -163,20 +142,20 @@ module _ {D : Type 0} (disk : Ghosts D) (s : Core D) (is : IsStudio disk s) wher
   then_current p = current_is src (edited s.history p 0)
       ∙ ap (meant src) (ending_current s.history (kept s.history) p 0 is.format.depth_least)
 
-  -- the record of a sound body may come next
-  pub may_come : (m : ℕ) (k : Kept) (body : Body) → Matches s m k → s.commit_number < 2 ^ 62
-      → IsSound m (before_of k) (unnumbered_body body) → MayFollow k.history (unnumbered_body body)
+  -- the record of a valid body may come next
+  pub may_come : (m : ℕ) (k : Saved) (body : Body) → Matches s m k → s.commit_number < 2 ^ 62
+      → IsValidBody m (before_of k) (unnumbered_body body) → MayFollow k.history (unnumbered_body body)
       → IsNextIn (version_of (form_at s)) m k (body_bytes s body) (unnumbered_body body)
-  may_come m k body e room sound follows =
+  may_come m k body e room valid follows =
       next_so s m k body is.journal e.history (omega (arith, e.block_size, is.format.block_least))
       (omega (arith, e.block_size, is.format.block_most)) (omega (arith, e.commit, room))
-      (sound_ends s.block_size s.next_block s.next_track old is.format.block_least current_sound) sound follows
+      (valid_ends s.block_size s.next_block s.next_track old is.format.block_least current_valid) valid follows
 
   -- and the records of a batch may: those that say the current point, and then the last
-  pub may_all : (m : ℕ) (k : Kept) (tag next_block next_track : ℕ) (point : List Track) (more : ℕ) → Matches s m k
+  pub may_all : (m : ℕ) (k : Saved) (tag next_block next_track : ℕ) (point : List Track) (more : ℕ) → Matches s m k
       → s.commit_number + more < 2 ^ 62 → (0 < more → 1 ≤ tag)
-      → IsSound m (before_of k) (Edit tag next_block next_track (map unnumbered old))
-      → IsSound m (before_of k) (Edit tag next_block next_track (map unnumbered point))
+      → IsValidBody m (before_of k) (Edit tag next_block next_track (map unnumbered old))
+      → IsValidBody m (before_of k) (Edit tag next_block next_track (map unnumbered point))
       → LeadIn (version_of (form_at s)) m k (all_bytes s (record {
         more = more;
         body = Edit tag next_block next_track point;
@@ -194,9 +173,8 @@ module _ {D : Type 0} (disk : Ghosts D) (s : Core D) (is : IsStudio disk s) wher
       (map unnumbered point) is.journal.version_least is.journal.version_most
       (omega (arith, e.block_size, is.format.block_least)) (omega (arith, e.block_size, is.format.block_most))
       (numbered (omega arith))
-      (ends_alike old (sound_ends s.block_size s.next_block s.next_track old is.format.block_least current_sound))
-      (suc more) k here
-      (subst (λ (h : History (List Track)). 1 ≤ h.depth) (sym e.history) is.format.depth_least)
+      (ends_alike old (valid_ends s.block_size s.next_block s.next_track old is.format.block_least current_valid))
+      (suc more) k here (subst (λ (h : History (List Track)). 1 ≤ h.depth) (sym e.history) is.format.depth_least)
       (omega (arith, e.commit, room)) one end in
       subst (λ (v : ℕ). LeadIn v m k (bodies_by s.version old (suc more) last) (after_bodies k (suc more) plain))
       (sym (version_is s is.journal))
@@ -252,21 +230,21 @@ module _ {D : Type 0} (disk : Ghosts D) (s : Core D) (is : IsStudio disk s) wher
   }
 
   module _ (track_then : ℕ) (later : s.next_track ≤ track_then) (most : track_then ≤ 2 ^ 62) (p : List Track)
-      (sound : IsSoundPoint s.block_size s.next_block track_then p) where
-    -- the points after it are sound
-    points_then : AllByRecursion (IsSoundTagged s.block_size s.next_block track_then (s.commit_number + 1))
+      (valid : IsValidPoint s.block_size s.next_block track_then p) where
+    -- the points after it are valid
+    points_then : AllByRecursion (IsValidTagged s.block_size s.next_block track_then (s.commit_number + 1))
         (edited s.history p 0).points
     points_then =
-        let here = IsSoundTagged s.block_size s.next_block track_then (s.commit_number + 1) in
+        let here = IsValidTagged s.block_size s.next_block track_then (s.commit_number + 1) in
         all_edited here s.history p 0
-        (all_so (IsSoundTagged s.block_size s.next_block s.next_track s.commit_number) here
+        (all_so (IsValidTagged s.block_size s.next_block s.next_track s.commit_number) here
         (λ q h. tagged_more s.block_size s.next_block s.next_track s.commit_number s.next_block track_then
         (s.commit_number + 1) q (omega arith) later (omega arith) h) s.history.points is.points)
-        (sound, omega arith)
+        (valid, omega arith)
 
-    sound_then : (m : ℕ) (k : Kept) → Matches s m k → IsSound m (before_of k) (Edit 0 s.next_block track_then
+    valid_then : (m : ℕ) (k : Saved) → Matches s m k → IsValidBody m (before_of k) (Edit 0 s.next_block track_then
         (map unnumbered p))
-    sound_then m k k_is = record {
+    valid_then m k k_is = record {
       tag_number = omega arith;
       tag_given = omega arith;
       block_least = is.counters.block_least;
@@ -277,13 +255,13 @@ module _ {D : Type 0} (disk : Ghosts D) (s : Core D) (is : IsStudio disk s) wher
       track_later = omega (arith, k_is.next_track, later);
       few = plain.few;
       rising = plain.rising;
-      sound = subst (λ (n : ℕ). AllSoundTracks n s.next_block track_then (map unnumbered p)) (sym k_is.block_size)
-          plain.sound;
+      valid = subst (λ (n : ℕ). AllValidTracks n s.next_block track_then (map unnumbered p)) (sym k_is.block_size)
+          plain.valid;
       unnumbered = are_unnumbered p;
     }
       where
-        plain : IsSoundPoint s.block_size s.next_block track_then (map unnumbered p)
-        plain = sound_alike s.block_size s.next_block track_then p sound
+        plain : IsValidPoint s.block_size s.next_block track_then (map unnumbered p)
+        plain = valid_alike s.block_size s.next_block track_then p valid
 
     -- A call whose record tells a new point is a commit.
     pub point_commit : (made : List BlockRef) (c : Call) (call_sound : SoundMove) (tracks : ℕ)
@@ -310,7 +288,7 @@ module _ {D : Type 0} (disk : Ghosts D) (s : Core D) (is : IsStudio disk s) wher
       block_most = λ n h. omega arith;
       tells = λ m k k_is room.
           let body = Edit 0 s.next_block track_then p in
-          (unnumbered_body body, may_come m k body k_is (omega (arith, room)) (sound_then m k k_is) tt, refl);
+          (unnumbered_body body, may_come m k body k_is (omega (arith, room)) (valid_then m k k_is) tt, refl);
       leads = λ m k k_is. λ i. record {
         history = (ap (λ (h : History (List Track)). edited h (map unnumbered p) 0) k_is.history
             ∙ sym (edited_alike s.history p 0)) i;

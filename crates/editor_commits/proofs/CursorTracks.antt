@@ -1,48 +1,32 @@
 -- The point at the cursor, and its tracks.
-use Rattle.std.proofs.Common.{◌≡◌, ⊎_elim, refl, sym, ap, ◌∙◌, ℕ, zero, suc, ◌^◌, ◌≤◌, if◌then◌else◌, List, [], ◌∷◌}
-use Rattle.std.proofs.Common.{map, drop, slice_get, subst, None, Some, Contains, arith}
-use Rattle.std.proofs.lemmas.Bool.{eq-eqb, ne_eqb}
-use Rattle.std.proofs.lemmas.Bool.Decides.{eqb_tells}
-use Rattle.std.proofs.lemmas.List.Elements.{All-from_recursion, recursion_from_All}
-use Rattle.std.proofs.lemmas.Option.{none-some, same_Some}
+use Rattle.std.proofs.Common.{◌≡◌, ⊎_elim, refl, sym, ap, ◌∙◌, ℕ, ◌^◌, ◌≤◌, if◌then◌else◌, List, [], ◌∷◌, subst, None}
+use Rattle.std.proofs.Common.{Some, Contains, arith}
+use Rattle.std.proofs.{lemmas.Bool.eq-eqb, lemmas.Bool.ne_eqb, lemmas.Bool.Decides.eqb_tells}
+use Rattle.std.proofs.{lemmas.List.Elements.All-from_recursion, lemmas.List.Elements.recursion_from_All}
+use Rattle.std.proofs.{lemmas.Option.none-some, lemmas.Option.same_Some}
 use Rattle.std.specs.List.{All}
 use Rattle.pcm_base.specs.Cells.{cells_at, cells_of_first, tracks_from}
-use Rattle.pcm_base.specs.History.{history_of_one, point_of}
-use Rattle.pcm_base.specs.Pieces.{Sources}
+use Rattle.pcm_base.specs.{History.history_of_one, Pieces.Sources}
 use Rattle.sample_block.specs.Sources.{IsNamed, IsWhole, AllNamed, AllWhole}
-use Rattle.clip_track.specs.declared.clips.Clip.{Clip}
-use Rattle.clip_track.specs.Clips.{IsLayout, layout_blocks, layout_cells}
+use Rattle.clip_track.specs.{declared.clips.Clip.Clip, Clips.IsLayout, Clips.layout_blocks, Clips.layout_cells}
 use Rattle.disk_model.specs.declared.store.Store.{Ghosts}
-use Rattle.project_state.specs.declared.track.Track.{Track}
-use Rattle.record_body.specs.Kept.{first_tracks, current_tracks, Kept}
-use Rattle.project_state.specs.Meaning.{meant, point_blocks}
-use Rattle.record_body.specs.KeptSound.{IsSoundPoint, IsSoundTagged}
-use Rattle.project_state.specs.Tracks.{track_of}
-use Rattle.record_body.proofs.KeptBounds.{IsBlockRef, sound_blocks}
-use Rattle.editor_state.specs.Core.{Core}
-use Rattle.editor_state.specs.Edits.{AreAmong}
-use Rattle.editor_state.specs.Points.{lacks}
-use Rattle.editor_state.specs.Reads.{HasLayout}
+use Rattle.project_state.specs.{declared.track.Track.Track, Meaning.meant, Meaning.point_blocks, Tracks.track_of}
+use Rattle.record_body.specs.{Saved.current_tracks, Saved.Saved, SavedValid.IsValidPoint, SavedValid.IsValidTagged}
+use Rattle.record_body.proofs.SavedBounds.{IsBlockRef, valid_blocks}
 use Rattle.editor_state.specs.Studios.{IsHeld, IsStudio, named_blocks}
+use Rattle.editor_state.specs.{Core.Core, Edits.AreAmong, Points.lacks, Reads.HasLayout}
 use Rattle.editor_state.proofs.Blocks.BlockLists.{among_itself}
-use Rattle.editor_commits.proofs.CurrentProject.{current_sound, old_names}
-use Rattle.editor_commits.proofs.TrackChanges.{layout_of, sound_of}
+use Rattle.editor_commits.proofs.CurrentProject.{current_valid, old_names}
+use Rattle.editor_commits.proofs.TrackChanges.{layout_of, valid_of}
 
-pub at_cursor : (i : ℕ) (ps : List (List Track × ℕ)) (x : List Track) → slice_get (map point_of ps) i ≡ Some x
-    → x ≡ first_tracks (drop i ps)
-at_cursor zero [] x h = absurd (none-some x h)
-at_cursor (suc i) [] x h = absurd (none-some x h)
-at_cursor zero (p ∷ ps) x h = sym (same_Some p.0 x h)
-at_cursor (suc i) (p ∷ ps) x h = at_cursor i ps x h
-
--- the blocks of a sound project are blocks that a disk may have
-pub named_sound : (m next next_track : ℕ) (ts : List Track) → m ≤ 262144 → 16 ≤ next → next ≤ 2 ^ 62 → 1 ≤ next_track
+-- the blocks of a valid project are blocks that a disk may have
+pub named_valid : (m next next_track : ℕ) (ts : List Track) → m ≤ 262144 → 16 ≤ next → next ≤ 2 ^ 62 → 1 ≤ next_track
     → next_track ≤ 2 ^ 62
-    → IsSoundPoint m next next_track ts → AllNamed (point_blocks ts)
-named_sound m next next_track ts few least most track_least track_most is =
-    let k : Kept = record { history = history_of_one ts 0 1; next_block = next; next_track = next_track; commit = 0 } in
-    let points = All-from_recursion (IsSoundTagged m next next_track 0) ((ts, 0) ∷ []) ((is, omega arith), tt) in
-    let all = sound_blocks m 1 0 k few (record {
+    → IsValidPoint m next next_track ts → AllNamed (point_blocks ts)
+named_valid m next next_track ts few least most track_least track_most is =
+    let k : Saved = record { history = history_of_one ts 0 1; next_block = next; next_track = next_track; commit = 0 } in
+    let points = All-from_recursion (IsValidTagged m next next_track 0) ((ts, 0) ∷ []) ((is, omega arith), tt) in
+    let all = valid_blocks m 1 0 k few (record {
       points = points;
       depth_is = refl;
       commit_is = refl;
@@ -74,18 +58,18 @@ cells_meant src id (x ∷ xs) t found = ⊎_elim
     (eqb_tells id x.id)
 
 module _ {D : Type 0} (disk : Ghosts D) (s : Core D) (is : IsStudio disk s) where
-  -- any project of it that is sound may be read
-  pub may_read : (ts : List Track) → IsSoundPoint s.block_size s.next_block s.next_track ts → AllNamed (point_blocks ts)
-  may_read ts sound =
+  -- any project of it that is valid may be read
+  pub may_read : (ts : List Track) → IsValidPoint s.block_size s.next_block s.next_track ts → AllNamed (point_blocks ts)
+  may_read ts valid =
       let c = is.counters in
-      named_sound s.block_size s.next_block s.next_track ts is.format.block_most c.block_least c.block_most
-      c.track_least c.track_most sound
+      named_valid s.block_size s.next_block s.next_track ts is.format.block_most c.block_least c.block_most
+      c.track_least c.track_most valid
 
   abbrev ts : List Track
   ts = current_tracks s.history
 
   pub current_may_read : AllNamed (point_blocks ts)
-  current_may_read = may_read ts (current_sound disk s is)
+  current_may_read = may_read ts (current_valid disk s is)
 
   pub current_whole : IsHeld disk s → AllWhole (disk.reads s.store) (point_blocks ts)
   current_whole held = old_names disk s is (IsWhole (disk.reads s.store)) held.whole
@@ -113,10 +97,10 @@ module _ {D : Type 0} (disk : Ghosts D) (s : Core D) (is : IsStudio disk s) wher
         subst (λ (z : List Clip). AreAmong (named_blocks s) (layout_blocks z)) (sym has.is)
         (layout_of (Contains (named_blocks s)) id ts has.track has.found current_named)
 
-    pub layout_sound : IsLayout layout
-    layout_sound =
-        subst IsLayout (sym has.is) (sound_of s.block_size s.next_block s.next_track id ts has.track has.found
-        (current_sound disk s is).sound).layout
+    pub layout_valid : IsLayout layout
+    layout_valid =
+        subst IsLayout (sym has.is) (valid_of s.block_size s.next_block s.next_track id ts has.track has.found
+        (current_valid disk s is).valid).layout
 
     pub layout_meant : (src : Sources) → cells_at id (meant src ts) ≡ layout_cells src layout
     layout_meant src = cells_meant src id ts has.track has.found ∙ ap (layout_cells src) (sym has.is)

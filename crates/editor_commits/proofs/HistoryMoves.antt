@@ -2,24 +2,18 @@
 use Rattle.std.proofs.Common.{◌≡◌, ◌⊎◌, sym, ap, ◌∙◌, refl, ℕ, zero, suc, ◌+◌, ◌-◌, ◌≤◌, ◌<◌, ◌==◌, nat_lt, nat_le}
 use Rattle.std.proofs.Common.{◌&&◌, not, Bool, true, false, length, ⊎_elim, Option, None, Ok, Err, Result, OnOk, IfErr}
 use Rattle.std.proofs.Common.{arith}
-use Rattle.std.proofs.lemmas.Bool.Decides.{eqb_tells}
 use Rattle.std.proofs.lemmas.Bool.{leb-true, ltb-true}
-use Rattle.std.proofs.lemmas.List.{length-map}
-use Rattle.std.proofs.lemmas.Option.{none-some}
-use Rattle.pcm_base.specs.declared.command.Call.TheVariants.{Line}
-use Rattle.pcm_base.specs.declared.command.Command.TheVariants as command
-use Rattle.pcm_base.specs.declared.refusal.Refusal.{Refusal}
+use Rattle.std.proofs.{lemmas.Bool.Decides.eqb_tells, lemmas.List.length-map, lemmas.Option.none-some}
 use Rattle.pcm_base.specs.declared.refusal.Refusal.TheVariants.{NothingToUndo, NothingToRedo, BadRange}
 use Rattle.pcm_base.specs.History.{History, IsHistory, at_cursor, purged}
 use Rattle.pcm_base.specs.Refusals.{bad_range, call_tests, refused_if}
-use Rattle.pcm_base.specs.Run.{outside}
+use Rattle.pcm_base.specs.{declared.command.Call.TheVariants.Line, declared.refusal.Refusal.Refusal, Run.outside}
 use Rattle.disk_model.specs.declared.store.Store.{Ghosts}
 use Rattle.sample_block.specs.Sources.{sources_of}
 use Rattle.undo_history.specs.Stored.{Stored}
 use Rattle.project_state.specs.Meaning.{meant}
-use Rattle.editor_state.specs.Core.{Core}
-use Rattle.editor_state.specs.Studios.{studio_of}
-use Rattle.editor_state.specs.Took.{silent}
+use Rattle.editor_state.specs.{Core.Core, Studios.studio_of, Took.silent}
+use Rattle.pcm_base.specs.declared.command.Command.TheVariants as command
 
 -- the cursor is not at the first point
 pub positive : (n : ℕ) (r : Refusal) → refused_if (n == 0) r ≡ None → 0 < n

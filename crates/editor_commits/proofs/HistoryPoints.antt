@@ -5,10 +5,9 @@ use Rattle.std.proofs.lemmas.List.{drop-append-le, length-drop}
 use Rattle.std.specs.List.{AllByRecursion}
 use Rattle.pcm_base.specs.declared.block.BlockRef.{BlockRef}
 use Rattle.pcm_base.specs.History.{History, kept, edited, ending_with}
-use Rattle.project_state.specs.declared.track.Track.{Track}
-use Rattle.record_body.specs.Kept.{first_tracks, current_tracks}
-use Rattle.project_state.specs.Meaning.{point_blocks, history_blocks}
-use Rattle.record_body.proofs.KeptBounds.{all_append}
+use Rattle.project_state.specs.{declared.track.Track.Track, Meaning.point_blocks, Meaning.history_blocks}
+use Rattle.record_body.specs.Saved.{first_tracks, current_tracks}
+use Rattle.record_body.proofs.SavedBounds.{all_append}
 use Rattle.editor_state.proofs.Lists.{all_take, all_drop, all_each, all_joined}
 
 -- a point with its tag

@@ -1,57 +1,41 @@
 -- Undo, redo and purge: their records, and what they leave.
 use Rattle.std.proofs.Common.{◌≡◌, ◌↔◌, ⊎_elim, refl, sym, ap, ◌∙◌, subst, ℕ, ◌+◌, ◌-◌, ◌^◌, ◌≤◌, ◌<◌, nat_lt, Bool}
-use Rattle.std.proofs.Common.{true}
-use Rattle.std.proofs.Common.{false, List, [], ◌++◌, drop, map, length, IsSome, Option, Some, None, Ok, Err}
+use Rattle.std.proofs.Common.{true, false, List, [], ◌++◌, drop, map, length, IsSome, Option, Some, None, Ok, Err}
 use Rattle.std.proofs.Common.{arith}
 use Rattle.std.proofs.lemmas.List.{length-drop, length-map}
 use Rattle.std.proofs.lemmas.Option.{none-some, same_Some}
 use Rattle.std.specs.List.{AllByRecursion}
-use Rattle.pcm_base.specs.declared.answer.Reply.TheVariants.{Done}
-use Rattle.pcm_base.specs.declared.block.BlockRef.{BlockRef}
-use Rattle.pcm_base.specs.declared.command.Call.{Call}
-use Rattle.pcm_base.specs.declared.command.Call.TheVariants.{Line}
-use Rattle.pcm_base.specs.declared.command.Command.TheVariants as command
-use Rattle.pcm_base.specs.declared.refusal.Refusal.{Refusal}
-use Rattle.pcm_base.specs.declared.refusal.Refusal.TheVariants as refusal
-use Rattle.pcm_base.specs.declared.limits.TheConstants.{LONGEST_BODY}
-use Rattle.pcm_base.specs.Counters.{Needs, layouts_of, no_room}
-use Rattle.pcm_base.specs.History.{History, at_cursor, purged}
-use Rattle.pcm_base.specs.Refusals.{◌otherwise◌, call_tests, refused_if}
-use Rattle.pcm_base.specs.Run.{outside, stop_of}
+use Rattle.pcm_base.specs.{declared.answer.Reply.TheVariants.Done, declared.block.BlockRef.BlockRef}
+use Rattle.pcm_base.specs.{declared.command.Call.Call, declared.command.Call.TheVariants.Line}
+use Rattle.pcm_base.specs.{declared.refusal.Refusal.Refusal, declared.limits.TheConstants.LONGEST_BODY, Counters.Needs}
+use Rattle.pcm_base.specs.{Counters.layouts_of, Counters.no_room, History.History, History.at_cursor, History.purged}
+use Rattle.pcm_base.specs.{Refusals.◌otherwise◌, Refusals.call_tests, Refusals.refused_if, Run.outside, Run.stop_of}
 use Rattle.disk_model.specs.declared.store.Store.{Ghosts}
 use Rattle.disk_model.proofs.Frames.{Fewer}
 use Rattle.sample_block.specs.Sources.{sources_of}
-use Rattle.block_ledger.specs.Counts.{Counts}
-use Rattle.block_ledger.specs.Entries.{count_of}
+use Rattle.block_ledger.specs.{Counts.Counts, Entries.count_of}
 use Rattle.clip_track.specs.declared.items.Item.{Item}
-use Rattle.record_body.specs.declared.body.Body.{Body}
 use Rattle.record_body.specs.declared.body.Body.TheVariants.{Undo, Redo, Purge}
-use Rattle.project_state.specs.declared.track.Track.{Track}
+use Rattle.record_body.specs.{declared.body.Body.Body, SavedValid.IsValidTagged}
 use Rattle.project_state.specs.Meaning.{history_blocks, point_blocks}
-use Rattle.record_body.specs.KeptSound.{IsSoundTagged}
+use Rattle.project_state.specs.{declared.track.Track.Track, Numbers.unnumbered}
 use Rattle.project_state.proofs.MeantHistories.{meant_purged}
-use Rattle.project_state.specs.Numbers.{unnumbered}
 use Rattle.record_body.proofs.Unnumbered.{purged_alike}
-use Rattle.layout_uses.specs.declared.tally.Tally.{Tally}
 use Rattle.layout_uses.specs.Layouts.{AreDrawn, AreNumbered, history_tracks, points_tracks}
-use Rattle.layout_uses.specs.Tallies.{AreCounts, Becomes, MayBecome}
-use Rattle.editor_state.specs.Adding.{Adds, AddsBody, IsNoWant}
-use Rattle.editor_state.specs.Bodies.{single}
-use Rattle.editor_state.specs.Core.{Core}
+use Rattle.layout_uses.specs.{declared.tally.Tally.Tally, Tallies.AreCounts, Tallies.Becomes, Tallies.MayBecome}
 use Rattle.editor_state.specs.Studios.{IsHeld, IsStudio, clip_blocks, named_blocks, pin_blocks, pin_tracks, studio_of}
 use Rattle.editor_state.specs.Studios.{studio_tracks}
-use Rattle.editor_state.specs.Took.{Took, quietly, silent}
+use Rattle.editor_state.specs.{Adding.Adds, Adding.AddsBody, Adding.IsNoWant, Bodies.single, Core.Core, Took.Took}
+use Rattle.editor_state.specs.{Took.quietly, Took.silent}
 use Rattle.editor_commits.proofs.CommitImages.{IsCommit, clip_stays}
-use Rattle.editor_commits.proofs.CurrentProject.{may_come}
-use Rattle.editor_commits.proofs.CommitStudios.{CountsAfter}
-use Rattle.editor_commits.proofs.CommitSteps.{grows_so}
-use Rattle.editor_state.proofs.Images.ImageProjects.{Covers}
-use Rattle.editor_state.proofs.Blocks.NamedBlocks.{tracks_few}
+use Rattle.editor_commits.proofs.{CurrentProject.may_come, CommitStudios.CountsAfter, CommitSteps.grows_so}
 use Rattle.editor_state.proofs.Lists.{all_left, all_drop, all_each, all_joined, all_so}
 use Rattle.editor_state.proofs.Refusals.CommitTests.{IsCommitCall, tested}
-use Rattle.editor_state.proofs.Calls.FileRemovals.{commit_frees}
 use Rattle.editor_state.proofs.Refusals.EarlyRefusals.{none_made, refuses}
-use Rattle.editor_state.proofs.Refusals.CounterNumbers.{tested_needed}
+use Rattle.editor_state.proofs.{Images.ImageProjects.Covers, Blocks.NamedBlocks.tracks_few}
+use Rattle.editor_state.proofs.{Calls.FileRemovals.commit_frees, Refusals.CounterNumbers.tested_needed}
+use Rattle.pcm_base.specs.declared.command.Command.TheVariants as command
+use Rattle.pcm_base.specs.declared.refusal.Refusal.TheVariants as refusal
 
 pub undo_call : IsCommitCall (Line command.Undo) silent 0 0
 undo_call = record {
@@ -104,10 +88,10 @@ module _ {D : Type 0} (disk : Ghosts D) (s : Core D) (is : IsStudio disk s) wher
 
   -- tags that were given stay given
   points_later : AllByRecursion
-      (IsSoundTagged s.block_size s.next_block s.next_track (s.commit_number + 1)) s.history.points
+      (IsValidTagged s.block_size s.next_block s.next_track (s.commit_number + 1)) s.history.points
   points_later =
-      all_so (IsSoundTagged s.block_size s.next_block s.next_track s.commit_number)
-      (IsSoundTagged s.block_size s.next_block s.next_track (s.commit_number + 1))
+      all_so (IsValidTagged s.block_size s.next_block s.next_track s.commit_number)
+      (IsValidTagged s.block_size s.next_block s.next_track (s.commit_number + 1))
       (λ p h. (h.0, omega (arith, h.1))) s.history.points is.points
 
   pub undoes : 0 < s.history.cursor → Move (Line command.Undo) Undo (at_cursor s.history (s.history.cursor - 1))
@@ -206,7 +190,7 @@ module _ {D : Type 0} (disk : Ghosts D) (s : Core D) (is : IsStudio disk s) wher
     clip_few = is.few_clips;
     clip_fits = is.clipboard;
     points = all_drop
-        (IsSoundTagged s.block_size s.next_block s.next_track (s.commit_number + 1)) n s.history.points points_later;
+        (IsValidTagged s.block_size s.next_block s.next_track (s.commit_number + 1)) n s.history.points points_later;
     depth = refl;
     few = omega (arith, is.few_points, length-drop n s.history.points);
     says = tt;

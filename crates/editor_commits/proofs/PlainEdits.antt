@@ -1,67 +1,48 @@
 -- An edit that makes no blocks: the project that it makes, and its commit.
 use Rattle.std.proofs.Common.{◌≡◌, nat_lt, refl, sym, ap, ◌∙◌, subst, ℕ, ◌+◌, ◌^◌, ◌≤◌, ◌<◌, List, [], ◌∷◌, ◌++◌}
 use Rattle.std.proofs.Common.{length, length-append, arith, ⊎_elim, inr, None, Ok, Err}
-use Rattle.std.proofs.lemmas.Bool.Decides.{leb_tells}
 use Rattle.std.proofs.lemmas.List.{length-map, map-append}
-use Rattle.std.proofs.lemmas.Option.{none-some}
+use Rattle.std.proofs.{lemmas.Bool.Decides.leb_tells, lemmas.Option.none-some}
 use Rattle.std.specs.List.{AllByRecursion}
-use Rattle.pcm_base.specs.declared.answer.Reply.TheVariants.{Done}
-use Rattle.pcm_base.specs.declared.block.BlockRef.{BlockRef}
-use Rattle.pcm_base.specs.declared.command.Call.TheVariants.{Line}
-use Rattle.pcm_base.specs.declared.refusal.Refusal.{Refusal}
-use Rattle.pcm_base.specs.declared.refusal.Refusal.TheVariants.{TrackLimit}
 use Rattle.pcm_base.specs.Cells.{Project, changed_at, dropped}
-use Rattle.pcm_base.specs.Cells as cells
-use Rattle.pcm_base.specs.Counters.{LineNeeds, layouts_of}
-use Rattle.pcm_base.specs.History.{History, edited}
-use Rattle.pcm_base.specs.Refusals.{call_tests, refused_if}
-use Rattle.pcm_base.specs.Run.{outside}
-use Rattle.pcm_base.specs.Sizes.{project_body_most}
-use Rattle.pcm_base.specs.State.{current}
-use Rattle.pcm_base.specs.Step.{after_line, new_track}
+use Rattle.pcm_base.specs.{declared.answer.Reply.TheVariants.Done, declared.block.BlockRef.BlockRef}
+use Rattle.pcm_base.specs.{declared.command.Call.TheVariants.Line, declared.refusal.Refusal.Refusal}
+use Rattle.pcm_base.specs.{declared.refusal.Refusal.TheVariants.TrackLimit, Counters.LineNeeds, Counters.layouts_of}
+use Rattle.pcm_base.specs.{History.History, History.edited, Refusals.call_tests, Refusals.refused_if, Run.outside}
+use Rattle.pcm_base.specs.{Sizes.project_body_most, State.current, Step.after_line, Step.new_track, Pieces.Sources}
 use Rattle.disk_model.specs.declared.store.Store.{Ghosts}
 use Rattle.disk_model.proofs.Frames.{Fewer}
-use Rattle.block_ledger.specs.Counts.{Counts}
-use Rattle.block_ledger.specs.Entries.{count_of}
-use Rattle.clip_track.specs.declared.clips.Clip.{Clip}
-use Rattle.clip_track.specs.Clips.{IsLayout, AllHalfFull, layout_blocks}
-use Rattle.record_body.specs.declared.body.Body.TheVariants.{Edit}
-use Rattle.project_state.specs.declared.track.Track.{Track}
+use Rattle.block_ledger.specs.{Counts.Counts, Entries.count_of}
+use Rattle.clip_track.specs.{declared.clips.Clip.Clip, Clips.IsLayout, Clips.AllHalfFull, Clips.layout_blocks}
+use Rattle.record_body.specs.Valid.{IsValidTrack, AllClipsGiven}
+use Rattle.record_body.specs.{declared.body.Body.TheVariants.Edit, SavedValid.IsValidPoint}
 use Rattle.project_state.specs.Meaning.{meant, meant_track, meant_history, point_blocks}
-use Rattle.record_body.specs.KeptSound.{IsSoundPoint}
-use Rattle.record_body.specs.Sound.{IsSoundTrack, AllClipsGiven}
-use Rattle.pcm_base.specs.Pieces.{Sources}
-use Rattle.layout_uses.specs.declared.tally.Tally.{Tally}
-use Rattle.project_state.specs.Numbers.{AgreeById}
-use Rattle.layout_uses.specs.Drawing.{HasNumbers}
-use Rattle.layout_uses.specs.Layouts.{history_tracks}
+use Rattle.project_state.specs.{declared.track.Track.Track, Numbers.AgreeById}
 use Rattle.layout_uses.specs.Tallies.{AreCounts, Becomes, MayBecome}
+use Rattle.layout_uses.specs.{declared.tally.Tally.Tally, Drawing.HasNumbers, Layouts.history_tracks}
 use Rattle.layout_uses.proofs.Draws.{found_among, numbers_more}
 use Rattle.layout_uses.proofs.Putting.{IsLike, same_numbers, set_numbers, without_numbers}
-use Rattle.editor_state.specs.Adding.{AddsBody, AddsDrawn, Undrawn}
 use Rattle.editor_state.specs.Bodies.{IsLength, Writing, single, whole_len}
-use Rattle.editor_state.specs.Core.{Core}
+use Rattle.editor_state.specs.Studios.{IsHeld, IsStudio, clip_blocks, named_blocks, studio_of, studio_tracks}
+use Rattle.editor_state.specs.{Adding.AddsBody, Adding.AddsDrawn, Adding.Undrawn, Core.Core, Points.put_in}
+use Rattle.editor_state.specs.{Points.put_one, Took.Took, Took.quietly, Took.silent}
 use Rattle.editor_commits.specs.Plain.{line_of, IsGood, layouts_by, tracks_by, refusal_by, set_by, IsSet, IsEdited}
 use Rattle.editor_commits.specs.Plain.{empty_track, without}
-use Rattle.editor_state.specs.Points.{put_in, put_one}
-use Rattle.editor_state.specs.Studios.{IsHeld, IsStudio, clip_blocks, named_blocks, studio_of, studio_tracks}
-use Rattle.editor_state.specs.Took.{Took, quietly, silent}
 use Rattle.editor_commits.specs.declared.plain_edit.PlainEdit.{PlainEdit}
-use Rattle.editor_commits.specs.declared.plain_edit.PlainEdit.TheVariants as edit
 use Rattle.editor_commits.proofs.CommitImages.{IsCommit, clip_stays}
 use Rattle.editor_commits.proofs.CommitFailures.{fails, undrawn}
-use Rattle.editor_commits.proofs.CurrentProject.{old, now, src, current_sound, current_below, current_meant, track_is}
+use Rattle.editor_commits.proofs.CurrentProject.{old, now, src, current_valid, current_below, current_meant, track_is}
 use Rattle.editor_commits.proofs.CurrentProject.{old_names, counts_then, may_become, pointed, pointed_so, then_current}
-use Rattle.editor_commits.proofs.CurrentProject.{point_commit, came_agrees, sound_later}
-use Rattle.editor_commits.proofs.CommitSteps.{grows_so}
-use Rattle.editor_commits.proofs.CommitStudios.{CountsAfter}
-use Rattle.editor_commits.proofs.BodyBytes.{lengths_most}
-use Rattle.editor_state.proofs.Lists.{all_left}
-use Rattle.editor_state.proofs.Refusals.EarlyRefusals.{none_made}
-use Rattle.editor_commits.proofs.TrackChanges.{put_means, layout_of, put_all, put_rising, put_sound, sound_of, id_of}
-use Rattle.editor_commits.proofs.TrackLists.{without_few, without_rising, without_sound, without_blocks, without_means}
-use Rattle.editor_commits.proofs.TrackLists.{more_rising, more_sound, more_blocks}
+use Rattle.editor_commits.proofs.CurrentProject.{point_commit, came_agrees, valid_later}
+use Rattle.editor_commits.proofs.TrackChanges.{put_means, layout_of, put_all, put_rising, put_valid, valid_of}
+use Rattle.editor_commits.proofs.TrackLists.{without_few, without_rising, without_valid, without_blocks, without_means}
+use Rattle.editor_commits.proofs.TrackLists.{more_rising, more_valid, more_blocks}
 use Rattle.editor_commits.proofs.PlainLines.{Sets, call_by, draws_by, sets_gain, sets_mute, sets_side}
+use Rattle.editor_commits.proofs.{CommitSteps.grows_so, CommitStudios.CountsAfter, BodyBytes.lengths_most}
+use Rattle.editor_state.proofs.{Lists.all_left, Refusals.EarlyRefusals.none_made}
+use Rattle.record_body.proofs.DiffTracks.{found_id}
+use Rattle.pcm_base.specs.Cells as cells
+use Rattle.editor_commits.specs.declared.plain_edit.PlainEdit.TheVariants as edit
 
 module _ {D : Type 0} (disk : Ghosts D) (s : Core D) (is : IsStudio disk s) where
   abbrev was : List Track
@@ -97,12 +78,12 @@ module _ {D : Type 0} (disk : Ghosts D) (s : Core D) (is : IsStudio disk s) wher
     new = g set.track
 
     new_id : new.id ≡ id
-    new_id = sets.id set.track ∙ id_of id was set.track set.found
+    new_id = sets.id set.track ∙ found_id id was set.track set.found
 
-    new_sound : IsSoundTrack s.block_size s.next_block s.next_track new
-    new_sound =
-        let before = sound_of s.block_size s.next_block s.next_track id was set.track set.found
-        (current_sound disk s is).sound in
+    new_valid : IsValidTrack s.block_size s.next_block s.next_track new
+    new_valid =
+        let before = valid_of s.block_size s.next_block s.next_track id was set.track set.found
+        (current_valid disk s is).valid in
         let layout : set.track.layout ≡ new.layout = sym (sets.layout set.track) in
         record {
           given = omega (arith, before.given, sets.id set.track);
@@ -113,16 +94,16 @@ module _ {D : Type 0} (disk : Ghosts D) (s : Core D) (is : IsStudio disk s) wher
         }
 
     put_few : length (put_in new was) ≤ 64
-    put_few = omega (arith, (current_sound disk s is).few, length-map was (put_one new))
+    put_few = omega (arith, (current_valid disk s is).few, length-map was (put_one new))
 
-    set_sound : IsSoundPoint s.block_size s.next_block s.next_track p
-    set_sound =
-        let sound = current_sound disk s is in
-        subst (IsSoundPoint s.block_size s.next_block s.next_track) (sym set.is)
+    set_valid : IsValidPoint s.block_size s.next_block s.next_track p
+    set_valid =
+        let valid = current_valid disk s is in
+        subst (IsValidPoint s.block_size s.next_block s.next_track) (sym set.is)
         (record {
           few = put_few;
-          rising = put_rising new 1 was sound.rising;
-          sound = put_sound s.block_size s.next_block s.next_track new was new_sound sound.sound;
+          rising = put_rising new 1 was valid.rising;
+          valid = put_valid s.block_size s.next_block s.next_track new was new_valid valid.valid;
         })
 
     set_names : (P : BlockRef → Type 0) → AllByRecursion P (named_blocks s) → AllByRecursion P (point_blocks p)
@@ -151,27 +132,27 @@ module _ {D : Type 0} (disk : Ghosts D) (s : Core D) (is : IsStudio disk s) wher
     set_means =
         ap (changed_at id f) (current_meant disk s is)
         ∙ sym (ap (meant samples) set.is ∙ put_means samples id new set.track f new_id
-        (sets.changes samples set.track) 1 was (current_sound disk s is).rising set.found)
+        (sets.changes samples set.track) 1 was (current_valid disk s is).rising set.found)
 
   -- ---- the project that an edit makes
   place : refused_if (nat_lt 64 (length was + 1)) TrackLimit ≡ None → length was + 1 ≤ 64
   place none = ⊎_elim (λ more. absurd (none-some TrackLimit (sym none ∙ ap (λ b. refused_if b TrackLimit) more.0)))
       (λ few. omega (arith, few.1)) (leb_tells (64 + 1) (length was + 1))
 
-  none_given : (p : List Track) → IsSoundPoint s.block_size s.next_block s.next_track p
-      → IsSoundPoint s.block_size s.next_block (s.next_track + 0) p
-  none_given p = sound_later s.block_size s.next_block s.next_track (s.next_track + 0) p (omega arith)
+  none_given : (p : List Track) → IsValidPoint s.block_size s.next_block s.next_track p
+      → IsValidPoint s.block_size s.next_block (s.next_track + 0) p
+  none_given p = valid_later s.block_size s.next_block s.next_track (s.next_track + 0) p (omega arith)
 
-  sound_by : (e : PlainEdit) → IsGood e → refusal_by e was ≡ None → (p : List Track)
+  valid_by : (e : PlainEdit) → IsGood e → refusal_by e was ≡ None → (p : List Track)
       → IsEdited e s.next_track s.next_layout was p
-      → IsSoundPoint s.block_size s.next_block (s.next_track + tracks_by e) p
-  sound_by edit.Track good none p ed =
+      → IsValidPoint s.block_size s.next_block (s.next_track + tracks_by e) p
+  valid_by edit.Track good none p ed =
       let t : Track = empty_track s.next_track s.next_layout in
       let m : ℕ = s.block_size in
-      let sound = current_sound disk s is in
-      let later : IsSoundPoint m s.next_block (s.next_track + 1) was =
-      sound_later m s.next_block s.next_track (s.next_track + 1) was (omega arith) sound in
-      let one : IsSoundTrack m s.next_block (s.next_track + 1) t =
+      let valid = current_valid disk s is in
+      let later : IsValidPoint m s.next_block (s.next_track + 1) was =
+      valid_later m s.next_block s.next_track (s.next_track + 1) was (omega arith) valid in
+      let one : IsValidTrack m s.next_block (s.next_track + 1) t =
       record {
         given = omega arith;
         gain = omega arith;
@@ -179,26 +160,26 @@ module _ {D : Type 0} (disk : Ghosts D) (s : Core D) (is : IsStudio disk s) wher
         half_full = tt;
         blocks = tt;
       } in
-      subst (IsSoundPoint m s.next_block (s.next_track + 1)) (sym ed)
+      subst (IsValidPoint m s.next_block (s.next_track + 1)) (sym ed)
       (record {
         few = omega (arith, place none, length-append was (t ∷ []));
-        rising = more_rising 1 was t sound.rising (current_below disk s is) is.counters.track_least;
-        sound = more_sound m s.next_block (s.next_track + 1) was t later.sound one;
+        rising = more_rising 1 was t valid.rising (current_below disk s is) is.counters.track_least;
+        valid = more_valid m s.next_block (s.next_track + 1) was t later.valid one;
       })
-  sound_by (edit.Drop id) good none p ed =
-      let sound = current_sound disk s is in
-      let point : IsSoundPoint s.block_size s.next_block s.next_track (without id was) = record {
-        few = omega (arith, without_few id was, sound.few);
-        rising = without_rising id 1 was sound.rising;
-        sound = without_sound s.block_size s.next_block s.next_track id was sound.sound;
+  valid_by (edit.Drop id) good none p ed =
+      let valid = current_valid disk s is in
+      let point : IsValidPoint s.block_size s.next_block s.next_track (without id was) = record {
+        few = omega (arith, without_few id was, valid.few);
+        rising = without_rising id 1 was valid.rising;
+        valid = without_valid s.block_size s.next_block s.next_track id was valid.valid;
       } in
-      none_given p (subst (IsSoundPoint s.block_size s.next_block s.next_track) (sym ed) point)
-  sound_by (edit.Level id gain) good none p ed =
-      none_given p (set_sound id (set_by (edit.Level id gain)) _ (sets_gain id gain good) p ed)
-  sound_by (edit.Side id side) good none p ed =
-      none_given p (set_sound id (set_by (edit.Side id side)) _ (sets_side id side) p ed)
-  sound_by (edit.Mute id mute) good none p ed =
-      none_given p (set_sound id (set_by (edit.Mute id mute)) _ (sets_mute id mute) p ed)
+      none_given p (subst (IsValidPoint s.block_size s.next_block s.next_track) (sym ed) point)
+  valid_by (edit.Level id gain) good none p ed =
+      none_given p (set_valid id (set_by (edit.Level id gain)) _ (sets_gain id gain good) p ed)
+  valid_by (edit.Side id side) good none p ed =
+      none_given p (set_valid id (set_by (edit.Side id side)) _ (sets_side id side) p ed)
+  valid_by (edit.Mute id mute) good none p ed =
+      none_given p (set_valid id (set_by (edit.Mute id mute)) _ (sets_mute id mute) p ed)
 
   names_by : (e : PlainEdit) → IsGood e → (p : List Track) → IsEdited e s.next_track s.next_layout was p →
       (P : BlockRef → Type 0)
@@ -248,7 +229,7 @@ module _ {D : Type 0} (disk : Ghosts D) (s : Core D) (is : IsStudio disk s) wher
       ∙ sym (ap (meant samples) ed))
   model_by (edit.Drop id) good p ed =
       pointed_so disk s is p (dropped id (current (now disk s is)))
-      (ap (dropped id) (current_meant disk s is) ∙ sym (without_means samples id 1 was (current_sound disk s is).rising)
+      (ap (dropped id) (current_meant disk s is) ∙ sym (without_means samples id 1 was (current_valid disk s is).rising)
       ∙ sym (ap (meant samples) ed))
   model_by (edit.Level id gain) good p ed =
       pointed_so disk s is p _ (set_means id (set_by (edit.Level id gain)) _ (sets_gain id gain good) p ed)
@@ -278,8 +259,8 @@ module _ {D : Type 0} (disk : Ghosts D) (s : Core D) (is : IsStudio disk s) wher
     abbrev record_of : Writing
     record_of = single (Edit 0 s.next_block track_then p)
 
-    pub sound : IsSoundPoint s.block_size s.next_block track_then p
-    sound = sound_by e good none p ed
+    pub valid : IsValidPoint s.block_size s.next_block track_then p
+    valid = valid_by e good none p ed
 
     -- it names no other blocks
     pub names : (P : BlockRef → Type 0) → AllByRecursion P (named_blocks s) → AllByRecursion P (point_blocks p)
@@ -297,7 +278,7 @@ module _ {D : Type 0} (disk : Ghosts D) (s : Core D) (is : IsStudio disk s) wher
     pub edit_may : (tally : Tally) → count_of tally.uses ≡ s.uses → count_of tally.ledger ≡ s.counts
         → MayBecome p (history_tracks s.history) tally
     edit_may tally uses_are counts_are =
-        may_become disk s is p (s.next_layout + layouts_by e) numbers sound.few tally
+        may_become disk s is p (s.next_layout + layouts_by e) numbers valid.few tally
         (same_counts tally uses_are counts_are)
 
     -- and the counts after it
@@ -311,7 +292,7 @@ module _ {D : Type 0} (disk : Ghosts D) (s : Core D) (is : IsStudio disk s) wher
         (s.next_layout + layouts_by e) ids
         (count_of tally'.uses) (count_of tally'.ledger)) counts_are
         (counts_then disk s is p (s.next_layout + layouts_by e)
-        (edited s.history p 0) tally tally' numbers sound.few most
+        (edited s.history p 0) tally tally' numbers valid.few most
         (same_counts tally uses_are counts_are) becomes)
 
     short : (n : ℕ) → IsLength s record_of n → n ≤ project_body_most s.block_size
@@ -320,12 +301,12 @@ module _ {D : Type 0} (disk : Ghosts D) (s : Core D) (is : IsStudio disk s) wher
         let meant_then = ap current (model_by e good p ed) ∙ then_current disk s is p in
         subst (λ (q : Project). n ≤ project_body_most s.block_size q) (sym meant_then)
         (lengths_most s s.next_block track_then samples s.block_size 0 s.next_block track_then p
-        (omega (arith, is.format.block_least)) sound n one)
+        (omega (arith, is.format.block_least)) valid n one)
 
     module _ (ids : track_then ≤ 2 ^ 62) where
       edits : IsCommit (IsHeld disk s) disk s [] (Line (line_of e)) silent (tracks_by e) record_of
           (edited s.history p 0) s.clipboard track_then
-      edits = point_commit disk s is track_then (omega arith) ids p sound [] (Line (line_of e)) silent
+      edits = point_commit disk s is track_then (omega arith) ids p valid [] (Line (line_of e)) silent
           (tracks_by e) s.clipboard (call_by e) refl
           (λ P all. names P (all_left P (named_blocks s) [] all)) (clip_stays s []) is.few_clips is.clipboard
           (λ held. model_by e good p ed) (λ held n one. needs_so e n (short n one))

@@ -1,19 +1,14 @@
 -- The lines that make no blocks, as calls, and what each sets.
 use Rattle.std.proofs.Common.{◌≡◌, Bool, refl, ℕ, ◌≤◌}
-use Rattle.pcm_base.specs.declared.command.Call.TheVariants.{Line}
-use Rattle.pcm_base.specs.declared.sound.Side.{Side}
-use Rattle.pcm_base.specs.Cells as cells
-use Rattle.pcm_base.specs.Counters.{layouts_of}
-use Rattle.pcm_base.specs.Outside.{Outside}
-use Rattle.pcm_base.specs.State.{State}
-use Rattle.project_state.specs.declared.track.Track.{Track}
-use Rattle.project_state.specs.Meaning.{meant_track}
-use Rattle.pcm_base.specs.Pieces.{Sources}
+use Rattle.pcm_base.specs.{declared.command.Call.TheVariants.Line, declared.sound.Side.Side, Counters.layouts_of}
+use Rattle.pcm_base.specs.{Outside.Outside, State.State, Pieces.Sources}
+use Rattle.project_state.specs.{declared.track.Track.Track, Meaning.meant_track}
 use Rattle.editor_commits.specs.Plain.{layouts_by, line_of, tracks_by, set_by}
-use Rattle.editor_state.specs.Took.{silent}
 use Rattle.editor_commits.specs.declared.plain_edit.PlainEdit.{PlainEdit}
-use Rattle.editor_commits.specs.declared.plain_edit.PlainEdit.TheVariants as edit
+use Rattle.editor_state.specs.Took.{silent}
 use Rattle.editor_state.proofs.Refusals.CommitTests.{IsCommitCall}
+use Rattle.pcm_base.specs.Cells as cells
+use Rattle.editor_commits.specs.declared.plain_edit.PlainEdit.TheVariants as edit
 
 -- ---- the lines
 pub call_by : (e : PlainEdit) → IsCommitCall (Line (line_of e)) silent (tracks_by e) 0

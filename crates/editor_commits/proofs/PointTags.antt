@@ -1,13 +1,11 @@
 -- A history in which a point was recorded under a tag: what holds of its points, and which is its current one.
-use Rattle.std.proofs.Common.{◌≡◌, refl, ℕ, zero, suc, ◌+◌, ◌≤◌, Bool, true, false, if◌then◌else◌, List, []}
-use Rattle.std.proofs.Common.{◌∷◌, map, take, length, arith}
-use Rattle.std.specs.Prelude.{slice_index}
-use Rattle.std.specs.List.{AllByRecursion}
+use Rattle.std.proofs.Common.{◌≡◌, refl, ℕ, zero, suc, ◌+◌, ◌≤◌, Bool, true, false, if◌then◌else◌, List, [], ◌∷◌, map}
+use Rattle.std.proofs.Common.{take, length, arith}
+use Rattle.std.specs.{Prelude.slice_index, List.AllByRecursion}
 use Rattle.pcm_base.specs.declared.block.BlockRef.{BlockRef}
 use Rattle.pcm_base.specs.History.{History, kept, edited, amended, is_of_recording, recorded, tag_of, tags_of}
-use Rattle.project_state.specs.declared.track.Track.{Track}
-use Rattle.record_body.specs.Kept.{current_tracks}
-use Rattle.project_state.specs.Meaning.{point_blocks, history_blocks}
+use Rattle.project_state.specs.{declared.track.Track.Track, Meaning.point_blocks, Meaning.history_blocks}
+use Rattle.record_body.specs.Saved.{current_tracks}
 use Rattle.editor_commits.proofs.HistoryPoints.{Tagged, ending_all, ending_current, ending_few}
 use Rattle.editor_state.proofs.Lists.{all_take, all_each, all_joined}
 

@@ -1,46 +1,33 @@
 -- A purge to a size: the purge of as many points as have to go.
-use Rattle.std.proofs.Common.{◌≡◌, ◌⊎◌, inl, inr, ⊎_elim, refl, sym, ap, ◌∙◌, subst, ℕ, ◌≤◌, Bool, true, false, nat_lt}
+use Rattle.std.proofs.Common.{◌≡◌, ◌⊎◌, inl, inr, ⊎_elim, refl, sym, ◌∙◌, subst, ℕ, ◌≤◌, Bool, true, false, nat_lt}
 use Rattle.std.proofs.Common.{nat_le, ◌&&◌, not, List, [], ◌++◌, Option, Some, None, Result, Ok, Err, arith}
-use Rattle.std.proofs.lemmas.Bool.{le-leb, lt-ltb, true≢false}
-use Rattle.std.proofs.lemmas.List.{append-nil}
-use Rattle.std.proofs.lemmas.Option.{none-some, same_Some}
+use Rattle.std.proofs.{lemmas.Bool.le-leb, lemmas.Bool.lt-ltb, lemmas.List.append-nil, lemmas.Option.none-some}
+use Rattle.std.proofs.{lemmas.Option.same_Some}
 use Rattle.std.specs.List.{AllByRecursion}
-use Rattle.pcm_base.specs.declared.answer.Reply.{Reply}
-use Rattle.pcm_base.specs.declared.answer.Reply.TheVariants as reply
-use Rattle.pcm_base.specs.declared.block.BlockRef.{BlockRef}
-use Rattle.pcm_base.specs.declared.command.Call.{Call}
-use Rattle.pcm_base.specs.declared.command.Call.TheVariants.{Line}
-use Rattle.pcm_base.specs.declared.command.Command.TheVariants as command
-use Rattle.pcm_base.specs.declared.refusal.Refusal.{Refusal}
-use Rattle.pcm_base.specs.declared.refusal.Refusal.TheVariants as refusal
 use Rattle.pcm_base.specs.Counters.{counter_tests, record_test}
 use Rattle.pcm_base.specs.Refusals.{◌otherwise◌, bad_range, call_tests, refused_if}
 use Rattle.pcm_base.specs.Run.{Answers, Breaks, BreaksOff, CarriesOut, LeavesAll, outside, stop_of, told_history}
-use Rattle.pcm_base.specs.Step.{after}
-use Rattle.pcm_base.specs.Studio as model
-use Rattle.disk_model.specs.Disk.{Files}
-use Rattle.disk_model.specs.declared.store.Store.{Ghosts}
+use Rattle.pcm_base.specs.{declared.answer.Reply.Reply, declared.block.BlockRef.BlockRef, declared.command.Call.Call}
+use Rattle.pcm_base.specs.{declared.command.Call.TheVariants.Line, declared.refusal.Refusal.Refusal, Step.after}
+use Rattle.disk_model.specs.{Disk.Files, declared.store.Store.Ghosts}
 use Rattle.disk_model.proofs.Frames.{Fewer}
 use Rattle.sample_block.specs.Sources.{sources_of}
-use Rattle.project_state.specs.declared.track.Track.{Track}
-use Rattle.project_state.specs.Meaning.{meant_history, point_blocks}
-use Rattle.record_body.specs.KeptSound.{IsSoundTagged}
+use Rattle.project_state.specs.{declared.track.Track.Track, Meaning.meant_history, Meaning.point_blocks}
+use Rattle.record_body.specs.SavedValid.{IsValidTagged}
 use Rattle.layout_uses.specs.Layouts.{AreNumbered, history_tracks, track_blocks}
 use Rattle.layout_uses.proofs.Moves.{numbered_without}
-use Rattle.purge_size.specs.Fits.{AreSmall}
-use Rattle.purge_size.specs.Sizes.{IsPurgeTo}
-use Rattle.editor_state.specs.Bodies.{Writing}
-use Rattle.editor_state.specs.Core.{Core}
-use Rattle.editor_state.specs.Left.{Stops}
-use Rattle.editor_state.specs.Spent.{Leads, Needed, Plans, WouldMake}
-use Rattle.editor_state.specs.Studios.{IsStudio, pin_tracks, studio_of}
-use Rattle.editor_state.specs.Took.{KeepsOneOf, Took, quietly, silent}
-use Rattle.editor_state.proofs.Blocks.NamedBlocks.{history_named}
+use Rattle.purge_size.specs.{Fits.AreSmall, Sizes.IsPurgeTo}
+use Rattle.editor_state.specs.{Bodies.Writing, Core.Core, Left.Stops, Spent.Leads, Spent.Needed, Spent.Plans}
+use Rattle.editor_state.specs.{Spent.WouldMake, Studios.IsStudio, Studios.pin_tracks, Studios.studio_of}
+use Rattle.editor_state.specs.{Took.KeepsOneOf, Took.Took, Took.quietly, Took.silent}
 use Rattle.editor_state.proofs.Lists.{all_joined, all_so}
-use Rattle.editor_state.proofs.Refusals.PurgeNumbers.{refused_to}
-use Rattle.editor_state.proofs.Calls.QuietCalls.{stopped_first}
-use Rattle.editor_state.proofs.Blocks.BlockLengths.{tracks_short}
 use Rattle.editor_state.proofs.Refusals.EarlyRefusals.{refuses, stays, wants}
+use Rattle.editor_state.proofs.{Blocks.NamedBlocks.history_named, Refusals.PurgeNumbers.refused_to}
+use Rattle.editor_state.proofs.{Calls.QuietCalls.stopped_first, Blocks.BlockLengths.tracks_short}
+use Rattle.pcm_base.specs.declared.answer.Reply.TheVariants as reply
+use Rattle.pcm_base.specs.declared.command.Command.TheVariants as command
+use Rattle.pcm_base.specs.declared.refusal.Refusal.TheVariants as refusal
+use Rattle.pcm_base.specs.Studio as model
 
 -- ---- which test refused
 
@@ -302,10 +289,10 @@ module _ {D : Type 0} (disk : Ghosts D) (s : Core D) (bytes : ℕ) (is : IsStudi
 
   pub small_blocks : AreSmall (track_blocks (history_tracks s.history))
   small_blocks =
-      let each = all_so (IsSoundTagged s.block_size s.next_block s.next_track s.commit_number)
+      let each = all_so (IsValidTagged s.block_size s.next_block s.next_track s.commit_number)
       (λ (p : List Track × ℕ). AllByRecursion Small (point_blocks p.0))
-      (λ p sound. all_so (λ (b : BlockRef). b.len ≤ s.block_size) Small
+      (λ p valid. all_so (λ (b : BlockRef). b.len ≤ s.block_size) Small
       (λ b short. omega (arith, short, is.format.block_most)) (point_blocks p.0)
-      (tracks_short s.block_size s.next_block s.next_track p.0 sound.0.sound)) s.history.points is.points in
+      (tracks_short s.block_size s.next_block s.next_track p.0 valid.0.valid)) s.history.points is.points in
       subst (AllByRecursion Small) (sym (history_named s.history))
       (all_joined Small (λ (p : List Track × ℕ). point_blocks p.0) s.history.points each)

@@ -1,13 +1,11 @@
 -- Records that wait together.
-use Rattle.std.proofs.Common.{◌≡◌, ◌∙◌, refl, sym, ap, subst, ℕ, zero, suc, ◌+◌, ◌*◌, ◌^◌, ◌≤◌, ◌<◌, List, [], ◌∷◌, ◌++◌}
-use Rattle.std.proofs.Common.{length, replicate, add-mul, arith}
+use Rattle.std.proofs.Common.{◌≡◌, ◌∙◌, refl, sym, ap, subst, ℕ, zero, suc, ◌+◌, ◌*◌, ◌^◌, ◌≤◌, ◌<◌, List, [], ◌∷◌}
+use Rattle.std.proofs.Common.{◌++◌, length, replicate, add-mul, arith}
 use Rattle.pcm_base.specs.declared.limits.TheConstants.{LONGEST_BODY}
 use Rattle.project_journal.specs.Journal.{AreWaiting, opened, rows_length}
 use Rattle.project_journal.proofs.Together.{waiting_more}
-use Rattle.record_body.specs.declared.body.Body.{Body}
+use Rattle.record_body.specs.{declared.body.Body.Body, Batches.with_point, Spelling.spelling}
 use Rattle.project_state.specs.declared.track.Track.{Track}
-use Rattle.record_body.specs.Batches.{with_point}
-use Rattle.record_body.specs.Spelling.{spelling}
 use Rattle.editor_state.specs.Bodies.{bodies_by, bytes_by, whole_by}
 use Rattle.editor_commits.proofs.BodyBytes.{rows_step}
 
@@ -50,14 +48,6 @@ whole_closed current body (suc more) = omega (
   next_times more (length (spelling (with_point current body)) + 5),
 )
 
--- a record that says the current point is no longer than all
-pub again_short : (version : ℕ) (current : List Track) (body : Body) (more : ℕ) → 0 < more
-    → rows_length (bodies_by version current more body) ≤ LONGEST_BODY
-    → length (bytes_by version current (with_point current body)) ≤ LONGEST_BODY
-again_short version current body zero some few = absurd (omega (arith, some))
-again_short version current body (suc more) some few =
-    omega (arith, few, rows_step (bytes_by version current (with_point current body)) version current more body)
-
 pub last_short : (version : ℕ) (current : List Track) (body : Body) (more : ℕ)
     → rows_length (bodies_by version current more body) ≤ LONGEST_BODY
     → length (bytes_by version current body) ≤ LONGEST_BODY
@@ -87,8 +77,7 @@ pub again_waits : (version : ℕ) (current : List Track) (body : Body) (more : �
     → ((bodies : List (List ℕ)) → AreWaiting before bodies → AreWaiting rows (bodies ++ replicate more written))
     → AreWaiting rows (replicate more (bytes_by version current (with_point current body)))
 again_waits version current body more before rows written empty is added =
-    subst (λ (b : List ℕ). AreWaiting rows (replicate more b)) is
-    (added [] (record { spelled = empty; short = tt }))
+    subst (λ (b : List ℕ). AreWaiting rows (replicate more b)) is (added [] (record { spelled = empty; short = tt }))
 
 -- and with the last all wait
 pub all_wait : (version : ℕ) (current : List Track) (body : Body) (more : ℕ) (before rows written : List ℕ)

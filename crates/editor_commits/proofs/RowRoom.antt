@@ -3,11 +3,9 @@ use Rattle.std.proofs.Common.{sym, refl, subst, ℕ, ◌+◌, ◌≤◌, ◌<◌
 use Rattle.pcm_base.specs.declared.refusal.Refusal.{Refusal}
 use Rattle.disk_model.specs.declared.store.Store.{Ghosts}
 use Rattle.envelope_view.specs.Answers.{IsUndamaged}
-use Rattle.project_journal.specs.Answer.{Appends}
-use Rattle.project_journal.specs.declared.fault.JournalFault.{JournalFault}
+use Rattle.project_journal.specs.{Answer.Appends, declared.fault.JournalFault.JournalFault}
+use Rattle.editor_state.specs.{Adding.IsNoWant, Adding.Settles, Core.Core}
 use Rattle.project_journal.specs.declared.fault.JournalFault.TheVariants as journal
-use Rattle.editor_state.specs.Adding.{IsNoWant, Settles}
-use Rattle.editor_state.specs.Core.{Core}
 
 abbrev Answer : Type 0
 Answer = Result (Unit {0}) Refusal

@@ -1,28 +1,20 @@
 -- One track put in the place of another.
 use Rattle.std.proofs.Common.{◌≡◌, ⊎_elim, refl, sym, ap, ◌∙◌, subst, ℕ, ◌+◌, ◌<◌, true, false, eqb, if◌then◌else◌}
 use Rattle.std.proofs.Common.{List, [], ◌∷◌, map, drop, Some, arith}
-use Rattle.std.proofs.lemmas.Bool.{eq-eqb, ne_eqb}
-use Rattle.std.proofs.lemmas.Bool.Decides.{eqb_tells}
-use Rattle.std.proofs.lemmas.Option.{none-some, same_Some}
-use Rattle.std.proofs.lemmas.List.{drop-map}
+use Rattle.std.proofs.{lemmas.Bool.eq-eqb, lemmas.Bool.ne_eqb, lemmas.Bool.Decides.eqb_tells, lemmas.Option.none-some}
+use Rattle.std.proofs.{lemmas.Option.same_Some, lemmas.List.drop-map}
 use Rattle.std.specs.List.{AllByRecursion}
-use Rattle.pcm_base.specs.declared.block.BlockRef.{BlockRef}
-use Rattle.pcm_base.specs.declared.refusal.Refusal.TheVariants.{NoTrack}
-use Rattle.pcm_base.specs.Pieces.{Sources}
-use Rattle.pcm_base.specs.Cells.{Project, tracks_from, replaced_at, changed_at}
-use Rattle.pcm_base.specs.Cells as cells
-use Rattle.pcm_base.specs.History.{History}
-use Rattle.pcm_base.specs.State.{first_point}
-use Rattle.pcm_base.specs.Refusals.{refused_if, is_empty}
+use Rattle.pcm_base.specs.{declared.block.BlockRef.BlockRef, declared.refusal.Refusal.TheVariants.NoTrack}
+use Rattle.pcm_base.specs.{Pieces.Sources, Cells.tracks_from, Cells.changed_at, History.History, State.first_point}
+use Rattle.pcm_base.specs.{Refusals.refused_if, Refusals.is_empty}
 use Rattle.clip_track.specs.Clips.{layout_blocks}
-use Rattle.project_state.specs.declared.track.Track.{Track}
-use Rattle.record_body.specs.Sound.{IsSoundTrack, AllSoundTracks}
-use Rattle.project_state.specs.Tracks.{AreAbove, AllBelow, track_of}
-use Rattle.record_body.specs.Kept.{first_tracks, current_tracks}
 use Rattle.project_state.specs.Meaning.{meant, meant_track, point_blocks}
+use Rattle.project_state.specs.{declared.track.Track.Track, Tracks.AreAbove, Tracks.track_of}
+use Rattle.record_body.specs.{Valid.IsValidTrack, Valid.AllValidTracks, Saved.first_tracks, Saved.current_tracks}
 use Rattle.editor_state.specs.Points.{put_one, put_in, lacks}
-use Rattle.record_body.proofs.KeptBounds.{all_append}
+use Rattle.record_body.proofs.SavedBounds.{all_append}
 use Rattle.editor_state.proofs.Lists.{all_left, all_right}
+use Rattle.pcm_base.specs.Cells as cells
 
 -- ---- the current project
 
@@ -113,14 +105,10 @@ put_all P new (t ∷ ts) a all =
     (all_left P (layout_blocks t.layout) (point_blocks ts) all))
     (put_all P new ts a (all_right P (layout_blocks t.layout) (point_blocks ts) all))
 
--- ---- it is sound
+-- ---- it is valid
 
 pub put_id : (new t : Track) → (put_one new t).id ≡ t.id
 put_id new t = ⊎_elim (λ same. rw (same.0) (sym same.1)) (λ other. rw (other.0) refl) (eqb_tells t.id new.id)
-
-pub put_below : (new : Track) (ts : List Track) (n : ℕ) → AllBelow n ts → AllBelow n (put_in new ts)
-put_below new [] n below = tt
-put_below new (t ∷ ts) n below = (omega (arith, put_id new t, below.0), put_below new ts n below.1)
 
 pub put_rising : (new : Track) (n : ℕ) (ts : List Track) → AreAbove n ts → AreAbove n (put_in new ts)
 put_rising new n [] above = tt
@@ -130,26 +118,18 @@ put_rising new n (t ∷ ts) above =
       subst (λ (k : ℕ). AreAbove (k + 1) (put_in new ts)) (sym same) (put_rising new (t.id + 1) ts above.1),
     )
 
-pub put_sound : (m next_block next_track : ℕ) (new : Track) (ts : List Track) → IsSoundTrack m next_block next_track new
-    → AllSoundTracks m next_block next_track ts → AllSoundTracks m next_block next_track (put_in new ts)
-put_sound m next_block next_track new [] a all = tt
-put_sound m next_block next_track new (t ∷ ts) a all =
-    (put_one_all (IsSoundTrack m next_block next_track) new t a all.0, put_sound m next_block next_track new ts a all.1)
+pub put_valid : (m next_block next_track : ℕ) (new : Track) (ts : List Track) → IsValidTrack m next_block next_track new
+    → AllValidTracks m next_block next_track ts → AllValidTracks m next_block next_track (put_in new ts)
+put_valid m next_block next_track new [] a all = tt
+put_valid m next_block next_track new (t ∷ ts) a all =
+    (put_one_all (IsValidTrack m next_block next_track) new t a all.0, put_valid m next_block next_track new ts a all.1)
 
-pub sound_of : (m next_block next_track id : ℕ) (ts : List Track) (t : Track) → track_of id ts ≡ Some t
-    → AllSoundTracks m next_block next_track ts → IsSoundTrack m next_block next_track t
-sound_of m next_block next_track id [] t found all = absurd (none-some t found)
-sound_of m next_block next_track id (x ∷ xs) t found all = ⊎_elim
-    (λ same. subst (IsSoundTrack m next_block next_track)
+pub valid_of : (m next_block next_track id : ℕ) (ts : List Track) (t : Track) → track_of id ts ≡ Some t
+    → AllValidTracks m next_block next_track ts → IsValidTrack m next_block next_track t
+valid_of m next_block next_track id [] t found all = absurd (none-some t found)
+valid_of m next_block next_track id (x ∷ xs) t found all = ⊎_elim
+    (λ same. subst (IsValidTrack m next_block next_track)
     (same_Some x t (sym (ap (λ b. if b then Some x else track_of id xs) same.0) ∙ found)) all.0)
-    (λ other. sound_of m next_block next_track id xs t
+    (λ other. valid_of m next_block next_track id xs t
     (sym (ap (λ b. if b then Some x else track_of id xs) other.0) ∙ found) all.1)
-    (eqb_tells id x.id)
-
-pub id_of : (id : ℕ) (ts : List Track) (t : Track) → track_of id ts ≡ Some t → t.id ≡ id
-id_of id [] t found = absurd (none-some t found)
-id_of id (x ∷ xs) t found = ⊎_elim
-    (λ same. sym (same.1 ∙ ap (λ (z : Track). z.id)
-    (same_Some x t (sym (ap (λ b. if b then Some x else track_of id xs) same.0) ∙ found))))
-    (λ other. id_of id xs t (sym (ap (λ b. if b then Some x else track_of id xs) other.0) ∙ found))
     (eqb_tells id x.id)

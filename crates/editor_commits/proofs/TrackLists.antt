@@ -1,19 +1,15 @@
 -- A project without one of its tracks, and with one more.
 use Rattle.std.proofs.Common.{◌≡◌, ◌≢◌, ⊎_elim, refl, sym, ap, ◌∙◌, ℕ, ◌+◌, ◌≤◌, ◌<◌, false, eqb, if◌then◌else◌, List}
 use Rattle.std.proofs.Common.{[], ◌∷◌, ◌++◌, length, arith}
-use Rattle.std.proofs.lemmas.Bool.{ne_eqb}
-use Rattle.std.proofs.lemmas.Bool.Decides.{eqb_tells}
+use Rattle.std.proofs.{lemmas.Bool.ne_eqb, lemmas.Bool.Decides.eqb_tells}
 use Rattle.std.specs.List.{AllByRecursion}
-use Rattle.pcm_base.specs.declared.block.BlockRef.{BlockRef}
-use Rattle.pcm_base.specs.Pieces.{Sources}
-use Rattle.pcm_base.specs.Cells.{Project, dropped}
+use Rattle.pcm_base.specs.{declared.block.BlockRef.BlockRef, Pieces.Sources, Cells.Project, Cells.dropped}
 use Rattle.clip_track.specs.Clips.{layout_blocks}
-use Rattle.project_state.specs.declared.track.Track.{Track}
-use Rattle.record_body.specs.Sound.{IsSoundTrack, AllSoundTracks}
-use Rattle.project_state.specs.Tracks.{AreAbove, AllBelow}
 use Rattle.project_state.specs.Meaning.{meant, meant_track, point_blocks}
+use Rattle.project_state.specs.{declared.track.Track.Track, Tracks.AreAbove, Tracks.AllBelow}
+use Rattle.record_body.specs.Valid.{IsValidTrack, AllValidTracks}
 use Rattle.editor_commits.specs.Plain.{other_one, without, empty_track}
-use Rattle.record_body.proofs.KeptBounds.{all_append}
+use Rattle.record_body.proofs.SavedBounds.{all_append}
 use Rattle.editor_state.proofs.Lists.{all_left, all_right}
 
 -- ---- one track, or none
@@ -39,18 +35,12 @@ without_rising id n (t ∷ ts) above =
     one_if (λ z. AreAbove n (z ++ without id ts)) id t
     (λ _. above_less n (t.id + 1) (without id ts) (omega (arith, above.0)) rest) (λ _. (above.0, rest))
 
-pub without_below : (id n : ℕ) (ts : List Track) → AllBelow n ts → AllBelow n (without id ts)
-without_below id n [] below = tt
-without_below id n (t ∷ ts) below =
-    let rest = without_below id n ts below.1 in
-    one_if (λ z. AllBelow n (z ++ without id ts)) id t (λ _. rest) (λ _. (below.0, rest))
-
-pub without_sound : (m next_block next_track id : ℕ) (ts : List Track) → AllSoundTracks m next_block next_track ts
-    → AllSoundTracks m next_block next_track (without id ts)
-without_sound m next_block next_track id [] all = tt
-without_sound m next_block next_track id (t ∷ ts) all =
-    let rest = without_sound m next_block next_track id ts all.1 in
-    one_if (λ z. AllSoundTracks m next_block next_track (z ++ without id ts)) id t (λ _. rest) (λ _. (all.0, rest))
+pub without_valid : (m next_block next_track id : ℕ) (ts : List Track) → AllValidTracks m next_block next_track ts
+    → AllValidTracks m next_block next_track (without id ts)
+without_valid m next_block next_track id [] all = tt
+without_valid m next_block next_track id (t ∷ ts) all =
+    let rest = without_valid m next_block next_track id ts all.1 in
+    one_if (λ z. AllValidTracks m next_block next_track (z ++ without id ts)) id t (λ _. rest) (λ _. (all.0, rest))
 
 pub without_blocks : (P : BlockRef → Type 0) (id : ℕ) (ts : List Track) → AllByRecursion P (point_blocks ts)
     → AllByRecursion P (point_blocks (without id ts))
@@ -91,7 +81,7 @@ without_means src id n (t ∷ ts) above = ⊎_elim
 
 -- ---- one more
 
-pub given_below : (m next_block next_track : ℕ) (ts : List Track) → AllSoundTracks m next_block next_track ts
+pub given_below : (m next_block next_track : ℕ) (ts : List Track) → AllValidTracks m next_block next_track ts
     → AllBelow next_track ts
 given_below m next_block next_track [] all = tt
 given_below m next_block next_track (t ∷ ts) all = (all.0.given, given_below m next_block next_track ts all.1)
@@ -102,10 +92,10 @@ more_rising n [] t above below least = (least, tt)
 more_rising n (x ∷ xs) t above below least =
     (above.0, more_rising (x.id + 1) xs t above.1 below.1 (omega (arith, below.0)))
 
-pub more_sound : (m next_block next_track : ℕ) (ts : List Track) (t : Track) → AllSoundTracks m next_block next_track ts
-    → IsSoundTrack m next_block next_track t → AllSoundTracks m next_block next_track (ts ++ t ∷ [])
-more_sound m next_block next_track [] t all one = (one, tt)
-more_sound m next_block next_track (x ∷ xs) t all one = (all.0, more_sound m next_block next_track xs t all.1 one)
+pub more_valid : (m next_block next_track : ℕ) (ts : List Track) (t : Track) → AllValidTracks m next_block next_track ts
+    → IsValidTrack m next_block next_track t → AllValidTracks m next_block next_track (ts ++ t ∷ [])
+more_valid m next_block next_track [] t all one = (one, tt)
+more_valid m next_block next_track (x ∷ xs) t all one = (all.0, more_valid m next_block next_track xs t all.1 one)
 
 pub more_blocks : (P : BlockRef → Type 0) (ts : List Track) (id number : ℕ) → AllByRecursion P (point_blocks ts)
     → AllByRecursion P (point_blocks (ts ++ empty_track id number ∷ []))

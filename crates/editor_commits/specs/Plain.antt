@@ -1,14 +1,11 @@
 -- Edits that make no blocks: what each refuses, and the project that it makes.
-use Rattle.std.specs.Prelude.{◌≡◌, ℕ, ◌+◌, ◌≤◌, nat_lt, false, List, [], ◌∷◌, ◌++◌, length, Option}
-use Rattle.std.specs.Prelude.{Some}
+use Rattle.std.specs.Prelude.{◌≡◌, ℕ, ◌+◌, ◌≤◌, nat_lt, false, List, [], ◌∷◌, ◌++◌, length, Option, Some}
 use Rattle.pcm_base.specs.declared.limits.TheConstants.{MAX_GAIN, MAX_TRACKS, UNITY_GAIN}
-use Rattle.pcm_base.specs.declared.sound.Side.TheVariants.{Both}
-use Rattle.pcm_base.specs.declared.command.Command.{Command}
-use Rattle.pcm_base.specs.declared.command.Command.TheVariants as command
-use Rattle.pcm_base.specs.declared.refusal.Refusal.{Refusal}
-use Rattle.pcm_base.specs.declared.refusal.Refusal.TheVariants.{TrackLimit}
-use Rattle.pcm_base.specs.Refusals.{refused_if}
+use Rattle.pcm_base.specs.{declared.sound.Side.TheVariants.Both, declared.command.Command.Command}
+use Rattle.pcm_base.specs.{declared.refusal.Refusal.Refusal, declared.refusal.Refusal.TheVariants.TrackLimit}
+use Rattle.pcm_base.specs.{Refusals.refused_if}
 use Rattle.project_state.specs.Tracks.{track_of}
+use Rattle.pcm_base.specs.declared.command.Command.TheVariants as command
 pub use Rattle.project_state.specs.Tracks.{other_one, without}
 use Rattle.project_state.specs.declared.track.Track.{Track}
 use Rattle.editor_commits.specs.declared.plain_edit.PlainEdit.{PlainEdit}

@@ -2,9 +2,8 @@
 use Rattle.std.proofs.Common.{◌↔◌, ℕ, ◌<◌, List, Option, Some, None, arith}
 use Rattle.disk_model.specs.declared.store.Store.{Ghosts}
 use Rattle.block_ledger.specs.Counts.{IsNamed, AreNamed, occurrences}
-use Rattle.editor_state.specs.Core.{Core}
+use Rattle.editor_state.specs.{Core.Core, Studios.IsStudio}
 use Rattle.editor_core.specs.Facts.{AreBlocksOf}
-use Rattle.editor_state.specs.Studios.{IsStudio}
 use Rattle.editor_state.proofs.Blocks.NamedBlocks.{counted_named, named_counted}
 
 named_is : (o : Option ℕ) → IsNamed o ↔ (0 < occurrences o)

@@ -1,26 +1,15 @@
 -- The parts of a new project on a disk without blocks, with one page of each kind.
-use Rattle.std.proofs.Common.{◌≡◌, refl, sym, ap, subst, ℕ, ◌≤◌, IsTrue, List, [], ◌++◌, None, Some, Option, IsSome}
-use Rattle.std.proofs.Common.{arith}
+use Rattle.std.proofs.Common.{◌≡◌, refl, sym, subst, ℕ, List, [], None, Some, Option, IsSome, arith}
 use Rattle.std.specs.List.{AllByRecursion}
 use Rattle.pcm_base.specs.History.{History, history_of_one}
-use Rattle.disk_model.specs.declared.store.Store.{Ghosts}
-use Rattle.sample_block.specs.Sources.{AllWhole}
 use Rattle.block_ledger.specs.Entries.{count_of}
 use Rattle.undo_history.specs.Stored.{Stored}
-use Rattle.project_journal.specs.Header.{IsFormat, form_3}
-use Rattle.project_journal.specs.Journal.{IsAt, fresh}
-use Rattle.project_state.specs.Meaning.{history_blocks}
-use Rattle.record_body.specs.Kept.{new_project}
-use Rattle.record_body.specs.KeptSound.{IsSoundTagged}
-use Rattle.record_body.proofs.NewProjects.{fresh_begins}
-use Rattle.project_state.specs.Numbers.{unnumbered_history}
+use Rattle.project_journal.specs.Header.{IsFormat}
+use Rattle.record_body.specs.SavedValid.{IsValidTagged}
 use Rattle.project_state.specs.declared.track.Track.{Track}
-use Rattle.layout_uses.specs.declared.tally.Tally.{Tally}
 use Rattle.layout_uses.specs.Layouts.{AreDrawn, AreNumbered, history_tracks}
-use Rattle.layout_uses.specs.Tallies.{IsTally}
-use Rattle.editor_core.specs.Parts.{AreParts, HasParts}
-use Rattle.editor_state.specs.Studios.{SameBlocks}
-use Rattle.editor_core.specs.declared.assembly.Parts.{Parts}
+use Rattle.layout_uses.specs.{declared.tally.Tally.Tally, Tallies.IsTally}
+use Rattle.editor_core.specs.{Parts.AreParts, declared.assembly.Parts.Parts}
 use Rattle.editor_state.proofs.Refusals.EarlyRefusals.{some_none}
 
 some_not : {A : Type 0} (o : Option A) → o ≡ None → IsSome o → ⊥
@@ -69,41 +58,11 @@ module _ (rate m depth : ℕ) (h : Stored (List Track)) (tally : Tally) (is : h.
       generation_most = omega arith;
       first_version = λ is. refl;
     };
-    points = subst (λ (z : History (List Track)). AllByRecursion (IsSoundTagged m 16 1 0) z.points) (sym is)
-        ((record { few = omega arith; rising = tt; sound = tt }, omega arith), tt);
+    points = subst (λ (z : History (List Track)). AllByRecursion (IsValidTagged m 16 1 0) z.points) (sym is)
+        ((record { few = omega arith; rising = tt; valid = tt }, omega arith), tt);
     layouts = omega arith;
     numbered = subst (λ (z : History (List Track)). AreNumbered (history_tracks z)) (sym is) tt;
     drawn = subst (λ (z : History (List Track)). AreDrawn 1 (history_tracks z)) (sym is) tt;
     counted = subst (λ (z : History (List Track)). IsTally (history_tracks z) [] tally) (sym is) counted;
     given = λ id some. absurd (some_not (count_of tally.ledger id) (none id) some);
-  }
-
-  -- a disk with the journal of a new project, and no block
-  pub fresh_has : {D : Type 0} (disk : Ghosts D) (store : D) → IsTrue (disk.tells store)
-      → IsAt (form_3 0) disk store 80 (fresh rate m depth) → ((id : ℕ) → 16 ≤ id → disk.reads store id ≡ None)
-      → HasParts disk store (parts_of rate m depth h tally)
-  fresh_has disk store tells at absent = record {
-    tells = tells;
-    whole = subst (λ (z : History (List Track)). AllWhole (disk.reads store) (history_blocks z)) (sym is) tt;
-    durable = record {
-      log = fresh rate m depth;
-      base = new_project depth;
-      kept = new_project depth;
-      there = at;
-      generation = refl;
-      begins = fresh_begins rate m depth;
-      told = refl;
-      rate = refl;
-      block_size = refl;
-      history = ap unnumbered_history (sym is);
-      next_block = omega arith;
-      next_track = refl;
-      commit = refl;
-      blocks = λ x now.
-          subst (λ (z : History (List Track)). SameBlocks (history_blocks z ++ []) (disk.reads store) x) (sym is) tt;
-      files = λ id least most. (
-        λ some. absurd (some_not (count_of tally.ledger id) (none id) some),
-        λ some. absurd (some_not (disk.reads store id) (absent id least) some),
-      );
-    };
   }

@@ -2,9 +2,7 @@
 use Rattle.std.proofs.Common.{◌≡◌, sym, subst, ℕ, Bool, true, false, if◌then◌else◌, List}
 use Rattle.pcm_base.specs.History.{History, edited, amended, is_of_recording, recorded}
 use Rattle.project_state.specs.declared.track.Track.{Track}
-use Rattle.layout_uses.specs.declared.tally.Tally.{Tally}
-use Rattle.layout_uses.specs.Layouts.{history_tracks}
-use Rattle.layout_uses.specs.Tallies.{Becomes}
+use Rattle.layout_uses.specs.{declared.tally.Tally.Tally, Layouts.history_tracks, Tallies.Becomes}
 
 module _ (h : History (List Track)) (p : List Track) (tag : ℕ) (old new : Tally) where
   abbrev BecomesBy : History (List Track) → Type 0

@@ -1,25 +1,19 @@
--- A studio of sound parts is a studio, and the disk that has what they stand for holds it.
+-- A studio of valid parts is a studio, and the disk that has what they stand for holds it.
 use Rattle.std.proofs.Common.{◌≡◌, sym, ℕ, List, [], ◌∷◌, ◌++◌, arith, subst}
 use Rattle.std.proofs.lemmas.List.{append-nil}
 use Rattle.std.specs.List.{AllByRecursion}
-use Rattle.pcm_base.specs.declared.block.BlockRef.{BlockRef}
-use Rattle.pcm_base.specs.History.{History, IsHistory}
+use Rattle.pcm_base.specs.{declared.block.BlockRef.BlockRef, History.History, History.IsHistory}
 use Rattle.disk_model.specs.declared.store.Store.{Ghosts}
 use Rattle.sample_block.specs.Sources.{IsWhole}
 use Rattle.block_ledger.specs.Entries.{count_of}
-use Rattle.clip_track.specs.declared.clips.Clip.{Clip}
-use Rattle.clip_track.specs.Clips.{layout_blocks}
-use Rattle.project_state.specs.declared.track.Track.{Track}
-use Rattle.project_state.specs.Meaning.{history_blocks, point_blocks}
-use Rattle.record_body.specs.KeptSound.{IsSoundTagged}
-use Rattle.record_body.specs.Sound.{AllClipsGiven, AllGiven, AllSoundTracks}
-use Rattle.record_body.proofs.KeptBounds.{all_append}
-use Rattle.editor_core.specs.Parts.{AreParts, HasParts, assembled}
+use Rattle.clip_track.specs.{declared.clips.Clip.Clip, Clips.layout_blocks}
+use Rattle.project_state.specs.{declared.track.Track.Track, Meaning.history_blocks, Meaning.point_blocks}
+use Rattle.record_body.specs.{SavedValid.IsValidTagged, Valid.AllClipsGiven, Valid.AllGiven, Valid.AllValidTracks}
+use Rattle.record_body.proofs.SavedBounds.{all_append}
+use Rattle.editor_core.specs.{Parts.AreParts, Parts.HasParts, Parts.assembled, declared.assembly.Parts.Parts}
 use Rattle.block_cache.proofs.CacheLaws.{none_pass}
-use Rattle.layout_uses.specs.Layouts.{AreDrawn, AreNumbered, history_tracks}
-use Rattle.layout_uses.specs.Tallies.{AreCounts}
+use Rattle.layout_uses.specs.{Layouts.AreDrawn, Layouts.AreNumbered, Layouts.history_tracks, Tallies.AreCounts}
 use Rattle.editor_state.specs.Studios.{IsGiven, IsHeld, IsStudio, is_given}
-use Rattle.editor_core.specs.declared.assembly.Parts.{Parts}
 use Rattle.editor_state.proofs.Lists.{all_joined, all_so}
 
 module _ (next : ℕ) where
@@ -35,21 +29,21 @@ module _ (next : ℕ) where
   clips_given (c ∷ cs) all =
       all_append Given c.blocks (layout_blocks cs) (blocks_given c.blocks all.0) (clips_given cs all.1)
 
-  tracks_given : (m next_track : ℕ) (ts : List Track) → AllSoundTracks m next next_track ts
+  tracks_given : (m next_track : ℕ) (ts : List Track) → AllValidTracks m next next_track ts
       → AllByRecursion Given (point_blocks ts)
   tracks_given m next_track [] all = tt
   tracks_given m next_track (t ∷ ts) all = all_append Given (layout_blocks t.layout) (point_blocks ts)
       (clips_given t.layout all.0.blocks) (tracks_given m next_track ts all.1)
 
--- the blocks of sound points were given
+-- the blocks of valid points were given
 pub points_given : (m next next_track commit : ℕ) (h : History (List Track))
-    → AllByRecursion (IsSoundTagged m next next_track commit) h.points
+    → AllByRecursion (IsValidTagged m next next_track commit) h.points
     → AllByRecursion (λ (b : BlockRef). IsGiven next b.id) (history_blocks h)
 points_given m next next_track commit h all =
     let Given : BlockRef → Type 0 = λ b. IsGiven next b.id in
     all_joined Given (λ (q : List Track × ℕ). point_blocks q.0) h.points
-    (all_so (IsSoundTagged m next next_track commit) (λ (q : List Track × ℕ). AllByRecursion Given (point_blocks q.0))
-    (λ q s. tracks_given next m next_track q.0 s.0.sound) h.points all)
+    (all_so (IsValidTagged m next next_track commit) (λ (q : List Track × ℕ). AllByRecursion Given (point_blocks q.0))
+    (λ q s. tracks_given next m next_track q.0 s.0.valid) h.points all)
 
 pub assembles : {D : Type 0} (disk : Ghosts D) (store : D) (p : Parts) → AreParts p → IsHistory p.history.history
     → IsStudio disk (assembled store p)
@@ -72,8 +66,7 @@ assembles disk store p are is =
       numbered = subst AreNumbered (sym same) are.numbered;
       drawn = subst (AreDrawn p.next_layout) (sym same) are.drawn;
       counted = subst (λ (ts : List Track). AreCounts ts [] (count_of p.tally.uses) (count_of p.tally.ledger))
-          (sym same)
-          are.counted;
+          (sym same) are.counted;
       given = are.given;
       pages = none_pass (is_given p.next_block) p.pages;
     }

@@ -1,10 +1,8 @@
 -- What is reported of a studio.
 use Rattle.std.specs.Prelude.{◌≡◌, ℕ, ◌<◌, List, length}
 use Rattle.block_ledger.specs.Counts.{AreAll}
-use Rattle.editor_state.specs.Core.{Core}
+use Rattle.editor_state.specs.{Core.Core, Occurrences.times_named, Studios.named_blocks}
 use Rattle.editor_core.specs.declared.facts.Facts.{Facts}
-use Rattle.editor_state.specs.Occurrences.{times_named}
-use Rattle.editor_state.specs.Studios.{named_blocks}
 
 -- the ids of the blocks that a point, a pin or the clipboard names, each once
 abbrev pub AreBlocksOf : {D : Type 0} → Core D → List ℕ → Type 0

@@ -7,9 +7,8 @@ use Rattle.block_cache.specs.Caches.{no_entries}
 use Rattle.block_ledger.specs.Entries.{count_of}
 use Rattle.project_journal.specs.Header.{IsFormat}
 use Rattle.project_state.specs.Meaning.{history_blocks}
-use Rattle.record_body.specs.KeptSound.{IsSoundTagged}
-use Rattle.layout_uses.specs.Layouts.{AreDrawn, AreNumbered, history_tracks}
-use Rattle.layout_uses.specs.Tallies.{IsTally}
+use Rattle.record_body.specs.SavedValid.{IsValidTagged}
+use Rattle.layout_uses.specs.{Layouts.AreDrawn, Layouts.AreNumbered, Layouts.history_tracks, Tallies.IsTally}
 use Rattle.editor_state.specs.Core.{Core}
 use Rattle.editor_state.specs.Studios.{AreCounters, AreJournalNumbers, IsDurable, IsGiven}
 use Rattle.editor_core.specs.declared.assembly.Parts.{Parts}
@@ -38,7 +37,7 @@ assembled store p = record {
   block_size = p.block_size;
 }
 
--- What is asked of the parts, on every store: the numbers are within their bounds, layouts, ids and tags are sound,
+-- What is asked of the parts, on every store: the numbers are within their bounds, layouts, ids and tags are valid,
 -- layouts of one number are the same and were drawn, the next one's number is at most the journal's end, their uses by
 -- the history are counted, and the ledger counts the blocks of the layouts so used, and has ids alone that were given.
 pub record AreParts (p : Parts) : Type 0 where
@@ -47,7 +46,7 @@ pub record AreParts (p : Parts) : Type 0 where
   pub format : IsFormat p.rate p.block_size p.history.history.depth
   pub counters : AreCounters p.next_block p.next_track 1 p.commit_number p.journal_end
   pub journal : AreJournalNumbers p.file p.version p.generation
-  pub points : AllByRecursion (IsSoundTagged p.block_size p.next_block p.next_track p.commit_number)
+  pub points : AllByRecursion (IsValidTagged p.block_size p.next_block p.next_track p.commit_number)
       p.history.history.points
   pub layouts : p.next_layout ≤ p.journal_end
   pub numbered : AreNumbered (history_tracks p.history.history)

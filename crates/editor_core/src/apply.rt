@@ -10,18 +10,18 @@ ghost use Rattle.editor_core.specs.Core.{core_of};
 ghost use Rattle.editor_state.specs.Vaults.{VaultCounted};
 ghost use Rattle.editor_core.specs.Lines.{ChangesCells, UsesClipboard};
 ghost use Rattle.editor_state.specs.Studios.{IsStudio};
-ghost use Rattle.editor_state.specs.Took.{Took, freeing, quietly, told_by};
+ghost use Rattle.editor_state.specs.Took.{Took, freeing, quietly, as_reply};
 
+use super::copies::run_range;
 use super::studio::Studio;
 use disk_model::Store;
 use edit_ports::Vault;
-use editor_tracks::RunRange;
 use pcm_base::{Answer, Command, Placing, RangeEdit, Refusal, Removing, Reply};
 use std::alloc::Global;
 
 // The reply to a commit.
 pub(crate) fn done(answer: Result<u64, Refusal>) -> Result<Reply, Refusal>
-    ensures { result ≡ told_by (λ _. reply.Done) answer }
+    ensures { result ≡ as_reply (λ _. reply.Done) answer }
 {
     match answer {
         Ok(_number) => Ok(Reply::Done),
@@ -31,7 +31,7 @@ pub(crate) fn done(answer: Result<u64, Refusal>) -> Result<Reply, Refusal>
 
 // The reply to a copy.
 fn copied(answer: Result<(), Refusal>) -> Result<Reply, Refusal>
-    ensures { result ≡ told_by (λ _. reply.Copied) answer }
+    ensures { result ≡ as_reply (λ _. reply.Copied) answer }
 {
     match answer {
         Ok(()) => Ok(Reply::Copied),
@@ -41,7 +41,7 @@ fn copied(answer: Result<(), Refusal>) -> Result<Reply, Refusal>
 
 // The reply to a reclaim.
 fn freed(answer: Result<u64, Refusal>) -> Result<Reply, Refusal>
-    ensures { result ≡ told_by reply.Freed answer }
+    ensures { result ≡ as_reply reply.Freed answer }
 {
     match answer {
         Ok(count) => Ok(Reply::Freed { count }),
@@ -51,7 +51,7 @@ fn freed(answer: Result<u64, Refusal>) -> Result<Reply, Refusal>
 
 // The reply to a purge to a size.
 fn purged(answer: Result<u64, Refusal>) -> Result<Reply, Refusal>
-    ensures { result ≡ told_by reply.Purged answer }
+    ensures { result ≡ as_reply reply.Purged answer }
 {
     match answer {
         Ok(count) => Ok(Reply::Purged { count }),
@@ -61,7 +61,7 @@ fn purged(answer: Result<u64, Refusal>) -> Result<Reply, Refusal>
 
 // The reply to a compact.
 fn packed(answer: Result<u64, Refusal>) -> Result<Reply, Refusal>
-    ensures { result ≡ told_by reply.Packed answer }
+    ensures { result ≡ as_reply reply.Packed answer }
 {
     match answer {
         Ok(bytes) => Ok(Reply::Packed { bytes }),
@@ -71,7 +71,7 @@ fn packed(answer: Result<u64, Refusal>) -> Result<Reply, Refusal>
 
 // The reply to an export.
 fn wrote(answer: Result<u64, Refusal>) -> Result<Reply, Refusal>
-    ensures { result ≡ told_by reply.Wrote answer }
+    ensures { result ≡ as_reply reply.Wrote answer }
 {
     match answer {
         Ok(bytes) => Ok(Reply::Wrote { bytes }),
@@ -260,12 +260,7 @@ impl<S: Store> Studio<S> {
                 from,
                 to,
             } => {
-                let range = RunRange {
-                    track: *track,
-                    count: *count,
-                    from: *from,
-                    to: *to,
-                };
+                let range = run_range(*track, *count, *from, *to);
                 done(self.cut_range(alloc, range, Removing::Close))
             }
             Command::SplitCut {
@@ -274,12 +269,7 @@ impl<S: Store> Studio<S> {
                 from,
                 to,
             } => {
-                let range = RunRange {
-                    track: *track,
-                    count: *count,
-                    from: *from,
-                    to: *to,
-                };
+                let range = run_range(*track, *count, *from, *to);
                 done(self.cut_range(alloc, range, Removing::Leave))
             }
             Command::Copy {

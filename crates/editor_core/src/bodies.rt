@@ -4,7 +4,7 @@ ghost use Rattle.std.specs.Prelude.{IfErr, IfOk, OnOk};
 ghost use Rattle.pcm_base.specs.declared.limits.TheConstants.{COUNTER_LIMIT, LONGEST_BODY};
 ghost use Rattle.project_journal.specs.Journal.{AreWaiting};
 ghost use Rattle.record_body.specs.Batches.{with_point};
-ghost use Rattle.record_body.specs.Kept.{current_tracks};
+ghost use Rattle.record_body.specs.Saved.{current_tracks};
 ghost use Rattle.project_state.specs.Numbers.{AgreeById};
 ghost use Rattle.record_body.specs.Numbers.{BodyAgrees};
 ghost use Rattle.editor_state.specs.Adding.{ExceedsBy};

@@ -1,5 +1,6 @@
 // What a block is made in, and bytes of sounds are read and written by.
-ghost use Rattle.std.specs.Prelude.{◌≡◌, ◌⊎◌, ◌≤◌, ◌<◌, ◌+◌, ◌*◌, ℕ, IfOk, IfErr, IsOkUnless, IsTrue, OnOk, Option, None};
+ghost use Rattle.std.specs.Prelude.{◌≡◌, ◌⊎◌, ◌≤◌, ◌<◌, ◌+◌, ◌*◌, ℕ, IfOk, IfErr, IsOkUnless, IsTrue, OnOk, Option};
+ghost use Rattle.std.specs.Prelude.{None};
 ghost use Rattle.std.specs.Prelude.{List, false, MatchResult};
 ghost use Rattle.pcm_base.specs.declared.limits.TheConstants.{MAX_BLOCK_SAMPLES};
 ghost use Rattle.block_store.specs.Checks.{Checks, IsWhole};
@@ -19,12 +20,12 @@ ghost use Rattle.sample_block.specs.Spelling.{IsBlock, size_of};
 ghost use Rattle.block_cache.specs.Caches.{AllPass};
 ghost use Rattle.block_cache.specs.Readers.{Reads};
 ghost use Rattle.project_state.specs.Meaning.{meant, point_blocks};
-ghost use Rattle.mix_view.specs.Tracks.{mix_length_of};
-ghost use Rattle.piece_store.specs.Brought.{AreInOrder};
-ghost use Rattle.piece_store.specs.Bringers.{StillBrings};
-ghost use Rattle.piece_store.specs.Making.{IsFilled, IsOfDevice, IsFaultRead, IsBroughtFault, NotPut, MadeCounted};
-ghost use Rattle.piece_store.specs.Making.{MadeBrought};
-ghost use Rattle.piece_store.specs.Reading.{AllReadable, AllThere};
+ghost use Rattle.mix_reader.specs.Tracks.{mix_length_of};
+ghost use Rattle.block_writer.specs.Brought.{AreInOrder};
+ghost use Rattle.block_writer.specs.Bringers.{StillBrings};
+ghost use Rattle.block_writer.specs.Making.{IsFilled, IsOfDevice, IsFaultRead, IsBroughtFault, NotPut, MadeCounted};
+ghost use Rattle.block_writer.specs.Making.{MadeBrought};
+ghost use Rattle.block_writer.specs.Reading.{AllReadable, AllThere};
 ghost use Rattle.wav_pcm.specs.Heads.{HasShape, IsHeadOf};
 ghost use Rattle.wav_pcm.specs.Wavs.{FitsFile};
 ghost use Rattle.wav_pcm.specs.declared.fault.SoundFault.TheVariants.{BadWav};
@@ -39,11 +40,11 @@ ghost use Rattle.editor_state.specs.Given.{is_given};
 use super::exports::write_stretches;
 use block_cache::BlockReader;
 use block_store::{BlockFault, check_block};
+use block_writer::{Brings, MakeFault, write_new_block};
 use disk_model::Store;
 use edit_ops::NewBlock;
 use edit_ports::Vault;
 use pcm_base::{BlockRef, NoMemory};
-use piece_store::{Brings, MakeFault, write_new_block};
 use project_state::Point;
 use sample_block::file_size;
 use sound_export::ExportFault;
@@ -128,7 +129,7 @@ impl BlockBuffers {
           calls = 1;
         }) reader.old.store reader.new.store }
         ensures untouched { IfErr result (λ e. NotPut e (Kept S.Store reader.old.store reader.new.store)) }
-        ensures sound { IsTrue (S.tells reader.old.store) → AllThere (S.reads reader.old.store) block.now.pieces
+        ensures valid { IsTrue (S.tells reader.old.store) → AllThere (S.reads reader.old.store) block.now.pieces
             → IfErr result IsOfDevice }
         ensures refused { IfErr result (IsBroughtFault (G.brings given.old)) }
         ensures damaged { IsTrue (S.tells reader.old.store)
@@ -194,7 +195,7 @@ impl BlockBuffers {
             (IsLengthFault (mix_length_of point.now)) }
         ensures untouched { IsTrue (V.tells vault.old) → IfErr result (λ e. export.IsOfDevice e
             ⊎ (V.holds vault.new name.now ≡ V.holds vault.old name.now)) }
-        ensures sound { IsTrue (S.tells reader.old.store) → AllWhole (S.reads reader.old.store) (point_blocks point.now)
+        ensures valid { IsTrue (S.tells reader.old.store) → AllWhole (S.reads reader.old.store) (point_blocks point.now)
             → IfErr result IsNoDamage }
         ensures others { IsTrue (V.tells vault.old) → outside.SameElsewhere name.now (V.holds vault.old)
             (V.holds vault.new) }
@@ -215,7 +216,7 @@ impl BlockBuffers {
         requires room { block.len ≤ self.old }
         ensures whole { IsTrue (S.tells reader.old.store)
             → OnOk result (IsWhole (S.reads reader.old.store) block.id block.len) }
-        ensures sound { IsTrue (S.tells reader.old.store) → IsWhole (S.reads reader.old.store) block.id block.len
+        ensures valid { IsTrue (S.tells reader.old.store) → IsWhole (S.reads reader.old.store) block.id block.len
             → IsOkUnless result fault.DiskFault }
         ensures checked { IsTrue (S.tells reader.old.store)
             → Checks block.id (damage_of block.id block.len (bytes_of (S.reads reader.old.store block.id))) result }

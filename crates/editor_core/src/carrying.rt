@@ -9,12 +9,12 @@ ghost use Rattle.pcm_base.specs.Counters.{commits_of, no_room};
 ghost use Rattle.block_ledger.specs.Counts.{occurrences};
 ghost use Rattle.block_ledger.specs.Entries.{count_of};
 ghost use Rattle.edit_ops.specs.Plans.{AreNew};
-ghost use Rattle.piece_store.specs.Brought.{MayBring};
-ghost use Rattle.piece_store.specs.Bringers.{StillBrings};
+ghost use Rattle.block_writer.specs.Brought.{MayBring};
+ghost use Rattle.block_writer.specs.Bringers.{StillBrings};
 ghost use Rattle.envelope_view.specs.Answers.{IsUndamaged};
 ghost use Rattle.editor_state.specs.Applied.{Lasts};
 ghost use Rattle.project_journal.specs.Journal.{AreWaiting};
-ghost use Rattle.record_body.specs.Kept.{current_tracks};
+ghost use Rattle.record_body.specs.Saved.{current_tracks};
 ghost use Rattle.project_state.specs.Numbers.{AgreeById};
 ghost use Rattle.record_body.specs.Numbers.{BodyAgrees};
 ghost use Rattle.editor_state.specs.Adding.{Undrawn};
@@ -27,15 +27,22 @@ ghost use Rattle.editor_state.specs.Makes.{RefusedBrought};
 ghost use Rattle.editor_state.specs.Made.{AllInOrder, PiecesReadable};
 ghost use Rattle.editor_state.specs.Occurrences.{HasAll, HasIds, Moves};
 ghost use Rattle.editor_state.specs.Studios.{IsHeld, IsStudio, MayPaste, clip_blocks};
-ghost use Rattle.editor_state.specs.Took.{Took, told_by, with_sound};
+ghost use Rattle.editor_state.specs.Took.{Took, as_reply, with_sound};
 
 use super::studio::Studio;
+use block_writer::Brings;
 use disk_model::Store;
 use edit_ops::{NewBlock, Strips};
 use editor_state::Planned;
 use pcm_base::{COUNTER_LIMIT, NoMemory, Refusal};
-use piece_store::Brings;
 use record_body::Body;
+
+// How many track ids and layout numbers an edit gives.
+#[derive(Clone, Copy)]
+struct Draws {
+    tracks: u64,
+    layouts: u64,
+}
 
 // Whether a counter has room for this many more.
 fn has_room(have: u64, need: u64) -> Result<(), Refusal>
@@ -135,8 +142,7 @@ impl<S: Store> Studio<S> {
         body: &Body,
         more: u64,
         makes: &[NewBlock],
-        tracks: u64,
-        layouts: u64,
+        draws: Draws,
         given: &mut G,
     ) -> Result<(), Refusal>
         requires studio { IsStudio S.Store (core_of self.old) }
@@ -151,8 +157,8 @@ impl<S: Store> Studio<S> {
             (record {
               makes = makes.now;
               given = samples;
-              tracks = tracks;
-              layouts = layouts;
+              tracks = draws.tracks;
+              layouts = draws.layouts;
               count = suc more;
               bodies = all_bytes (core_of self.old) (writing more body.now);
               whole = whole_len (core_of self.old) (writing more body.now);
@@ -164,9 +170,9 @@ impl<S: Store> Studio<S> {
         ensures still { StillBrings G.Brings given.old given.new }
         ensures given { RefusedBrought result (G.fault_count given.old) (G.fault_count given.new) }
         ensures uses { OnOk result (MAX_TRACKS ≤ self.new.tally.uses.spare) }
-        ensures layouts { OnOk result (self.old.next_layout + layouts ≤ COUNTER_LIMIT) }
+        ensures layouts { OnOk result (self.old.next_layout + draws.layouts ≤ COUNTER_LIMIT) }
     {
-        self.prepare(body, more, makes.len() as u64, tracks, layouts)?;
+        self.prepare(body, more, makes.len() as u64, draws.tracks, draws.layouts)?;
         self.make_blocks(makes, given)?;
         self.commit_rows(more + 1)
     }
@@ -213,13 +219,13 @@ impl<S: Store> Studio<S> {
             × ((c : Call) → (sound : SoundMove) → MayServe (G.brings given.old) c
             → IsEdit S.Store (core_of self.old) c sound (tagged_by edit tag more (G.brings given.old) samples)
             → IfCutShort result ⊎ Took S.Store (core_of self.old)
-            (with_sound c sound (told_by (λ _. reply.Done) result)) (core_of self.new)) }
+            (with_sound c sound (as_reply (λ _. reply.Done) result)) (core_of self.new)) }
         // Whatever the call means, and whatever is reported.
         ensures lasts { (c : Call) → (sound : SoundMove) → MayServe (G.brings given.old) c → commits_of c ≡ suc more
-            → Lasts S.Store (core_of self.old) (with_sound c sound (told_by (λ _. reply.Done) result))
+            → Lasts S.Store (core_of self.old) (with_sound c sound (as_reply (λ _. reply.Done) result))
             (core_of self.new) }
         ensures number { IfOk result (λ n. n ≡ self.new.commit_number) }
-        ensures sound { IsHeld S.Store (core_of self.old) → IfErr result IsUndamaged }
+        ensures valid { IsHeld S.Store (core_of self.old) → IfErr result IsUndamaged }
         ensures device { IfErr result (IsInsideOr (G.brings given.old)) }
         ensures still { IfErr result (IsStill (core_of self.old) (core_of self.new)) }
         ensures keeps { StillBrings G.Brings given.old given.new }
@@ -239,7 +245,8 @@ impl<S: Store> Studio<S> {
             next_track: self.next_track + tracks,
             point,
         };
-        self.carry(&body, more, makes.as_slice(), tracks, layouts, given)?;
+        let draws = Draws { tracks, layouts };
+        self.carry(&body, more, makes.as_slice(), draws, given)?;
         let Body::Edit { point, .. } = body else {
             unreachable!();
         };

@@ -8,7 +8,7 @@ ghost use Rattle.envelope_view.specs.Answers.{IsUndamaged};
 ghost use Rattle.editor_tracks.specs.Copies.{layouts_at, run_of, Copies, AnswersCopy};
 ghost use Rattle.editor_core.specs.Core.{core_of};
 ghost use Rattle.editor_state.specs.Studios.{IsStudio};
-ghost use Rattle.editor_state.specs.Took.{Took, quietly, told_by};
+ghost use Rattle.editor_state.specs.Took.{Took, quietly, as_reply};
 
 use super::current::{current_of, layout_of};
 use super::studio::Studio;
@@ -19,6 +19,18 @@ use editor_tracks::RunRange;
 use pcm_base::{NoMemory, Refusal};
 use project_state::{Point, Track};
 use std::alloc::Global;
+
+// The range of these numbers.
+pub(crate) fn run_range(track: u64, count: u64, from: u64, to: u64) -> RunRange
+    ensures { result ≡ record { track = track; count = count; from = from; to = to } }
+{
+    RunRange {
+        track,
+        count,
+        from,
+        to,
+    }
+}
 
 // Adds a track's layout where its id is this one or greater.
 fn add_layout<'a>(run: &mut Vec<&'a Layout>, track: &'a Track, id: u64) -> Result<(), NoMemory>
@@ -68,7 +80,7 @@ impl<S: Store> Studio<S> {
     ) -> Result<(), Refusal>
         requires { IsStudio S.Store (core_of self.old) }
         ensures took { Took S.Store (core_of self.old)
-            (quietly (Line (command.Copy track count from to)) (told_by (λ _. Copied) result)) (core_of self.new) }
+            (quietly (Line (command.Copy track count from to)) (as_reply (λ _. Copied) result)) (core_of self.new) }
         ensures copied { AnswersCopy (core_of self.old)
             (record { track = track; count = count; from = from; to = to }) result (core_of self.new) }
         ensures undamaged { IfErr result IsUndamaged }

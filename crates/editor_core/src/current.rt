@@ -2,7 +2,7 @@
 ghost use Rattle.std.specs.Prelude.{◌≡◌, None, MatchResult};
 ghost use Rattle.pcm_base.specs.declared.refusal.Refusal.TheVariants.{NoTrack};
 ghost use Rattle.project_state.specs.Tracks.{track_of};
-ghost use Rattle.record_body.specs.Kept.{current_tracks};
+ghost use Rattle.record_body.specs.Saved.{current_tracks};
 ghost use Rattle.editor_state.specs.Reads.{HasLayout};
 
 use super::studio::Studio;

@@ -5,23 +5,23 @@ ghost use Rattle.pcm_base.specs.declared.answer.Reply.TheVariants as reply;
 ghost use Rattle.pcm_base.specs.declared.command.Call.TheVariants.{Line};
 ghost use Rattle.clip_track.specs.Items.{AreItems};
 ghost use Rattle.layout_uses.specs.Drawing.{HasNumbers};
-ghost use Rattle.record_body.specs.Kept.{current_tracks};
+ghost use Rattle.record_body.specs.Saved.{current_tracks};
 ghost use Rattle.envelope_view.specs.Answers.{IsUndamaged};
 ghost use Rattle.editor_core.specs.Core.{core_of};
 ghost use Rattle.editor_tracks.specs.Cuts.{IsCutPlan, NoCutPlan, cut_line};
 ghost use Rattle.editor_state.specs.Studios.{IsHeld, IsStudio};
-ghost use Rattle.editor_state.specs.Took.{Took, quietly, told_by};
+ghost use Rattle.editor_state.specs.Took.{Took, quietly, as_reply};
 
 use super::copies::run_from;
-use super::laying::planned_run;
+use super::laying::{Next, planned_run};
 use super::studio::Studio;
+use block_writer::Given;
 use clip_track::Strip;
 use disk_model::Store;
 use edit_ops::{RunPlanner, cut_range};
 use editor_state::Planned;
 use editor_tracks::RunRange;
 use pcm_base::{Refusal, Removing};
-use piece_store::Given;
 use std::alloc::Global;
 
 // Each strip is one of items, none of which is empty.
@@ -53,9 +53,9 @@ impl<S: Store> Studio<S> {
     ) -> Result<u64, Refusal>
         requires { IsStudio S.Store (core_of self.old) }
         ensures took { Took S.Store (core_of self.old)
-            (quietly (Line (cut_line removing range)) (told_by (λ _. reply.Done) result)) (core_of self.new) }
+            (quietly (Line (cut_line removing range)) (as_reply (λ _. reply.Done) result)) (core_of self.new) }
         ensures number { IfOk result (λ n. n ≡ self.new.commit_number) }
-        ensures sound { IsHeld S.Store (core_of self.old) → IfErr result IsUndamaged }
+        ensures valid { IsHeld S.Store (core_of self.old) → IfErr result IsUndamaged }
     {
         if let Some(faults) = self.stopped {
             return Err(Refusal::Stopped { faults });
@@ -94,15 +94,11 @@ impl<S: Store> Studio<S> {
         } = range;
         let (strips, plans) = cut_range(planner, &run, removing, count, from, to)?;
         see_items(strips.as_slice());
-        let planned = planned_run(
-            alloc,
-            project,
-            range.track,
-            plans,
-            self.next_block,
-            self.next_layout,
-            Some(strips),
-        )?;
+        let next = Next {
+            block: self.next_block,
+            layout: self.next_layout,
+        };
+        let planned = planned_run(alloc, project, range.track, plans, next, Some(strips))?;
         Ok(planned)
     }
 }

@@ -8,12 +8,12 @@ ghost use Rattle.pcm_base.specs.declared.refusal.Refusal.TheVariants as refusal;
 ghost use Rattle.pcm_base.specs.Refusals.{refused_if};
 ghost use Rattle.envelope_view.specs.Answers.{IsUndamaged};
 ghost use Rattle.project_state.specs.Tracks.{AllBelow, track_of};
-ghost use Rattle.record_body.specs.Kept.{current_tracks};
+ghost use Rattle.record_body.specs.Saved.{current_tracks};
 ghost use Rattle.editor_core.specs.Core.{core_of};
 ghost use Rattle.editor_commits.specs.Plain.{line_of, IsGood, refusal_by, set_by, IsSet, IsEdited};
 ghost use Rattle.editor_state.specs.Points.{lacks};
 ghost use Rattle.editor_state.specs.Studios.{IsStudio};
-ghost use Rattle.editor_state.specs.Took.{Took, quietly, told_by};
+ghost use Rattle.editor_state.specs.Took.{Took, quietly, as_reply};
 
 use super::plain::{layouts_for, set_track, tracks_for};
 use super::points::with_new_track;
@@ -48,7 +48,7 @@ impl<S: Store> Studio<S> {
     /// stopped.
     pub fn track(&mut self, alloc: Global) -> Result<u64, Refusal>
         requires { IsStudio S.Store (core_of self.old) }
-        ensures took { Took S.Store (core_of self.old) (quietly (Line command.Track) (told_by (λ _. reply.Done) result))
+        ensures took { Took S.Store (core_of self.old) (quietly (Line command.Track) (as_reply (λ _. reply.Done) result))
             (core_of self.new) }
         ensures number { IfOk result (λ n. n ≡ self.new.commit_number) }
         ensures undamaged { IfErr result IsUndamaged }
@@ -67,7 +67,7 @@ impl<S: Store> Studio<S> {
     pub fn drop(&mut self, alloc: Global, track: u64) -> Result<u64, Refusal>
         requires { IsStudio S.Store (core_of self.old) }
         ensures took { Took S.Store (core_of self.old)
-            (quietly (Line (command.Drop track)) (told_by (λ _. reply.Done) result)) (core_of self.new) }
+            (quietly (Line (command.Drop track)) (as_reply (λ _. reply.Done) result)) (core_of self.new) }
         ensures number { IfOk result (λ n. n ≡ self.new.commit_number) }
         ensures undamaged { IfErr result IsUndamaged }
     {
@@ -83,7 +83,7 @@ impl<S: Store> Studio<S> {
         requires studio { IsStudio S.Store (core_of self.old) }
         requires in_form { gain ≤ MAX_GAIN }
         ensures took { Took S.Store (core_of self.old)
-            (quietly (Line (command.Level track gain)) (told_by (λ _. reply.Done) result)) (core_of self.new) }
+            (quietly (Line (command.Level track gain)) (as_reply (λ _. reply.Done) result)) (core_of self.new) }
         ensures number { IfOk result (λ n. n ≡ self.new.commit_number) }
         ensures undamaged { IfErr result IsUndamaged }
     {
@@ -98,7 +98,7 @@ impl<S: Store> Studio<S> {
     pub fn side(&mut self, alloc: Global, track: u64, side: Side) -> Result<u64, Refusal>
         requires { IsStudio S.Store (core_of self.old) }
         ensures took { Took S.Store (core_of self.old)
-            (quietly (Line (command.Side track side)) (told_by (λ _. reply.Done) result)) (core_of self.new) }
+            (quietly (Line (command.Side track side)) (as_reply (λ _. reply.Done) result)) (core_of self.new) }
         ensures number { IfOk result (λ n. n ≡ self.new.commit_number) }
         ensures undamaged { IfErr result IsUndamaged }
     {
@@ -113,7 +113,7 @@ impl<S: Store> Studio<S> {
     pub fn mute(&mut self, alloc: Global, track: u64, mute: bool) -> Result<u64, Refusal>
         requires { IsStudio S.Store (core_of self.old) }
         ensures took { Took S.Store (core_of self.old)
-            (quietly (Line (command.Mute track mute)) (told_by (λ _. reply.Done) result)) (core_of self.new) }
+            (quietly (Line (command.Mute track mute)) (as_reply (λ _. reply.Done) result)) (core_of self.new) }
         ensures number { IfOk result (λ n. n ≡ self.new.commit_number) }
         ensures undamaged { IfErr result IsUndamaged }
     {
@@ -125,7 +125,7 @@ impl<S: Store> Studio<S> {
         requires studio { IsStudio S.Store (core_of self.old) }
         requires good { IsGood edit }
         ensures took { Took S.Store (core_of self.old)
-            (quietly (Line (line_of edit)) (told_by (λ _. reply.Done) result)) (core_of self.new) }
+            (quietly (Line (line_of edit)) (as_reply (λ _. reply.Done) result)) (core_of self.new) }
         ensures number { IfOk result (λ n. n ≡ self.new.commit_number) }
         ensures undamaged { IfErr result IsUndamaged }
     {

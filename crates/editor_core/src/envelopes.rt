@@ -5,7 +5,7 @@ ghost use Rattle.pcm_base.specs.declared.command.Command.TheVariants.{Envelope};
 ghost use Rattle.editor_core.specs.Core.{core_of};
 ghost use Rattle.editor_state.specs.Reads.{Looks};
 ghost use Rattle.editor_state.specs.Studios.{IsStudio};
-ghost use Rattle.editor_state.specs.Took.{told_by};
+ghost use Rattle.editor_state.specs.Took.{as_reply};
 
 use super::current::layout_of;
 use super::studio::Studio;
@@ -34,7 +34,7 @@ impl<S: Store> Studio<S> {
     ) -> Result<Columns, Refusal>
         requires { IsStudio S.Store (core_of self.old) }
         ensures { Looks S.Store (core_of self.old) (Line (Envelope track from to columns))
-            (told_by reply.Columns result)
+            (as_reply reply.Columns result)
             (core_of self.new) }
     {
         if let Some(faults) = self.stopped {

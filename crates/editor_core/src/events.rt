@@ -1,5 +1,6 @@
 // A list of events, carried out one after another.
-ghost use Rattle.std.specs.Prelude.{◌≡◌, ◌+◌, ◌-◌, ◌*◌, ◌^◌, ◌<◌, ◌≤◌, ◌++◌, min, length, take, drop, OnErr, OnOk, IfOk};
+ghost use Rattle.std.specs.Prelude.{◌≡◌, ◌+◌, ◌-◌, ◌*◌, ◌^◌, ◌<◌, ◌≤◌, ◌++◌, min, length, take, drop, OnErr, OnOk};
+ghost use Rattle.std.specs.Prelude.{IfOk};
 ghost use Rattle.std.specs.Prelude.{List, Result, Some, slice_get};
 ghost use Rattle.pcm_base.specs.declared.limits.TheConstants.{MAX_LOADED};
 ghost use Rattle.mixdown.specs.Loads.{IsLoaded, cut_in, tracks_in};
@@ -13,7 +14,7 @@ ghost use Rattle.editor_state.specs.Applied.{TookOver, reply_of as told_reply};
 ghost use Rattle.editor_core.specs.Core.{core_of};
 ghost use Rattle.editor_state.specs.Events.{AreInForm, IsOther, RanOver};
 ghost use Rattle.editor_state.specs.Studios.{IsStudio};
-ghost use Rattle.editor_state.specs.Took.{Took, quietly, told_by};
+ghost use Rattle.editor_state.specs.Took.{Took, quietly, as_reply};
 
 use super::apply::done;
 use super::studio::Studio;
@@ -38,7 +39,7 @@ fn reply_of(told: Result<Reply, Refusal>) -> Reply
 
 // The reply to a call that keeps the current project.
 fn pinned(answer: Result<u64, Refusal>) -> Result<Reply, Refusal>
-    ensures { result ≡ told_by reply.Pinned answer }
+    ensures { result ≡ as_reply reply.Pinned answer }
 {
     match answer {
         Ok(pin) => Ok(Reply::Pinned { pin }),
@@ -48,7 +49,7 @@ fn pinned(answer: Result<u64, Refusal>) -> Result<Reply, Refusal>
 
 // The reply to a call that lets a pin go.
 fn let_go(answer: Result<(), Refusal>) -> Result<Reply, Refusal>
-    ensures { result ≡ told_by (λ _. reply.Done) answer }
+    ensures { result ≡ as_reply (λ _. reply.Done) answer }
 {
     match answer {
         Ok(()) => Ok(Reply::Done),
@@ -58,7 +59,7 @@ fn let_go(answer: Result<(), Refusal>) -> Result<Reply, Refusal>
 
 // The reply to a call that asks how long a pin's mix is.
 fn length(answer: Result<u64, Refusal>) -> Result<Reply, Refusal>
-    ensures { result ≡ told_by reply.Length answer }
+    ensures { result ≡ as_reply reply.Length answer }
 {
     match answer {
         Ok(frames) => Ok(Reply::Length { frames }),

@@ -12,7 +12,7 @@ ghost use Rattle.sample_block.specs.Sources.{sources_of, AllNamed, AllWhole};
 ghost use Rattle.block_cache.specs.Readers.{Reads};
 ghost use Rattle.project_state.specs.Meaning.{meant, point_blocks};
 ghost use Rattle.wav_pcm.specs.Wavs.{FitsFile};
-ghost use Rattle.mix_view.specs.Tracks.{mix_length_of};
+ghost use Rattle.mix_reader.specs.Tracks.{mix_length_of};
 ghost use Rattle.sound_export.specs.Written.{ExportCounted, IsLengthFault, IsNoDamage, IsOfDevice, disk_part};
 ghost use Rattle.envelope_view.specs.Answers.{IsUndamaged};
 ghost use Rattle.editor_state.specs.Adding.{IsNoWant};
@@ -21,7 +21,7 @@ ghost use Rattle.editor_core.specs.Core.{core_of};
 ghost use Rattle.editor_state.specs.Exports.{Writes, moved_from};
 ghost use Rattle.editor_state.specs.Vaults.{VaultCounted};
 ghost use Rattle.editor_state.specs.Studios.{IsHeld, IsStudio};
-ghost use Rattle.editor_state.specs.Took.{Took, told_by, with_sound};
+ghost use Rattle.editor_state.specs.Took.{Took, as_reply, with_sound};
 
 use super::current::current_of;
 use super::studio::Studio;
@@ -59,7 +59,7 @@ pub(crate) fn write_stretches<S: Store, V: Vault>(
         (IsLengthFault (mix_length_of point.now)) }
     ensures untouched { IsTrue (V.tells vault.old) → IfErr result (λ e. IsOfDevice e
         ⊎ (V.holds vault.new name.now ≡ V.holds vault.old name.now)) }
-    ensures sound { IsTrue (S.tells reader.old.store) → AllWhole (S.reads reader.old.store) (point_blocks point.now)
+    ensures valid { IsTrue (S.tells reader.old.store) → AllWhole (S.reads reader.old.store) (point_blocks point.now)
         → IfErr result IsNoDamage }
     ensures others { IsTrue (V.tells vault.old) → SameElsewhere name.now (V.holds vault.old) (V.holds vault.new) }
     ensures tells { V.tells vault.new ≡ V.tells vault.old }
@@ -96,17 +96,17 @@ impl<S: Store> Studio<S> {
         requires { IsStudio S.Store (core_of self.old) }
         ensures took { IsTrue (V.tells vault.old) → Took S.Store (core_of self.old)
             (with_sound (Line (command.Export name.now))
-            (moved_from (V.holds vault.old name.now) (V.holds vault.new name.now)) (told_by reply.Wrote result))
+            (moved_from (V.holds vault.old name.now) (V.holds vault.new name.now)) (as_reply reply.Wrote result))
             (core_of self.new) }
         // Whatever the vault tells, nothing of the studio and its disk changes but the pages that are kept.
         ensures lasts { (sound : SoundMove) → Lasts S.Store (core_of self.old)
-            (with_sound (Line (command.Export name.now)) sound (told_by reply.Wrote result)) (core_of self.new) }
+            (with_sound (Line (command.Export name.now)) sound (as_reply reply.Wrote result)) (core_of self.new) }
         ensures same { core_of self.new ≡ record (core_of self.old) {
           store = self.new.reader.store;
           cache = self.new.reader.cache;
         } }
         ensures kept { Kept S.Store self.old.reader.store self.new.reader.store }
-        ensures sound { IsHeld S.Store (core_of self.old) → IfErr result IsUndamaged }
+        ensures valid { IsHeld S.Store (core_of self.old) → IfErr result IsUndamaged }
         ensures memory { IfErr result IsNoWant }
         ensures others { IsTrue (V.tells vault.old) → SameElsewhere name.now (V.holds vault.old) (V.holds vault.new) }
         ensures tells { V.tells vault.new ≡ V.tells vault.old }

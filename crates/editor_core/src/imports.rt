@@ -1,5 +1,6 @@
 // A sound of a vault as new tracks.
-ghost use Rattle.std.specs.Prelude.{◌≡◌, ◌⊎◌, ◌<◌, ℕ, ℤ, replicate, IsTrue, IfErr, IfOk, Option, Some, None, List, length};
+ghost use Rattle.std.specs.Prelude.{◌≡◌, ◌⊎◌, ◌<◌, ℕ, ℤ, replicate, IsTrue, IfErr, IfOk, Option, Some, None, List};
+ghost use Rattle.std.specs.Prelude.{length};
 ghost use Rattle.pcm_base.specs.declared.answer.Reply.TheVariants as reply;
 ghost use Rattle.pcm_base.specs.declared.command.Call.TheVariants.{Line};
 ghost use Rattle.pcm_base.specs.declared.command.Command.TheVariants as command;
@@ -7,17 +8,17 @@ ghost use Rattle.pcm_base.specs.declared.entry.SoundMove.{SoundMove};
 ghost use Rattle.pcm_base.specs.declared.refusal.Refusal.TheVariants as refusal;
 ghost use Rattle.pcm_base.specs.declared.wav.WavFault.TheVariants.{Truncated};
 ghost use Rattle.envelope_view.specs.Answers.{IsUndamaged};
-ghost use Rattle.record_body.specs.Kept.{current_tracks};
+ghost use Rattle.record_body.specs.Saved.{current_tracks};
 ghost use Rattle.editor_state.specs.Applied.{Lasts};
 ghost use Rattle.editor_core.specs.Core.{core_of};
 ghost use Rattle.wav_pcm.specs.Heads.{HasShape};
 ghost use Rattle.sound_import.specs.Reading.{brought_from};
-ghost use Rattle.piece_store.specs.Brought.{MayBring};
+ghost use Rattle.block_writer.specs.Brought.{MayBring};
 ghost use Rattle.editor_state.specs.Vaults.{HasChannels, IfCutShort, IsCutShort, IsInsideOr, VaultCounted, left_as};
 ghost use Rattle.editor_imports.specs.Imports.{IsChannelsPlan, channels_refusal, parts_from, total_of};
 ghost use Rattle.editor_state.specs.Made.{AllInOrder};
 ghost use Rattle.editor_state.specs.Studios.{IsHeld, IsStudio};
-ghost use Rattle.editor_state.specs.Took.{Took, told_by, with_sound};
+ghost use Rattle.editor_state.specs.Took.{Took, as_reply, with_sound};
 
 use super::counts::{counts_of, length_refusal};
 use super::growth::{add_channel, planned_of};
@@ -58,23 +59,23 @@ impl<S: Store> Studio<S> {
         requires { IsStudio S.Store (core_of self.old) }
         ensures took { IsTrue (V.tells vault.old) → Took S.Store (core_of self.old)
             (with_sound (Line (command.Import name.now)) (left_as (V.holds vault.old name.now))
-            (told_by (λ _. reply.Done) result))
+            (as_reply (λ _. reply.Done) result))
             (core_of self.new) }
         // Whatever the vault tells.
         ensures lasts { (sound : SoundMove) → Lasts S.Store (core_of self.old)
-            (with_sound (Line (command.Import name.now)) sound (told_by (λ _. reply.Done) result)) (core_of self.new) }
+            (with_sound (Line (command.Import name.now)) sound (as_reply (λ _. reply.Done) result)) (core_of self.new) }
         // What is added are the tracks of some bytes, and a reason is that of some sound, or of one that is cut short.
         ensures some { IfOk result (λ n. (bytes : List ℕ) × Took S.Store (core_of self.old)
-            (with_sound (Line (command.Import name.now)) (left_as (Some bytes)) (told_by (λ _. reply.Done) result))
+            (with_sound (Line (command.Import name.now)) (left_as (Some bytes)) (as_reply (λ _. reply.Done) result))
             (core_of self.new)) }
         ensures reason { IfErr result (λ why. IsCutShort why ⊎ ((sound : Option (List ℕ)) × Took S.Store
             (core_of self.old)
-            (with_sound (Line (command.Import name.now)) (left_as sound) (told_by (λ _. reply.Done) result))
+            (with_sound (Line (command.Import name.now)) (left_as sound) (as_reply (λ _. reply.Done) result))
             (core_of self.new))) }
         ensures short { (want have : ℕ)
             → IfErr result (λ why. why ≡ refusal.BadWav (Truncated want have) → have < want) }
         ensures number { IfOk result (λ n. n ≡ self.new.commit_number) }
-        ensures sound { IsHeld S.Store (core_of self.old) → IfErr result IsUndamaged }
+        ensures valid { IsHeld S.Store (core_of self.old) → IfErr result IsUndamaged }
         ensures same { V.holds vault.new ≡ V.holds vault.old }
         ensures tells { V.tells vault.new ≡ V.tells vault.old }
         ensures faults { VaultCounted result (V.fault_count vault.old) (V.fault_count vault.new) }
@@ -105,14 +106,14 @@ impl<S: Store> Studio<S> {
             × ((sound : Option (List ℕ))
             → HasChannels sound self.old.rate (parts_from samples 0 (replicate head.channels head.frames))
             → IfCutShort result ⊎ Took S.Store (core_of self.old)
-            (with_sound (Line (command.Import name.now)) (left_as sound) (told_by (λ _. reply.Done) result))
+            (with_sound (Line (command.Import name.now)) (left_as sound) (as_reply (λ _. reply.Done) result))
             (core_of self.new)) }
         ensures lasts { (sound : SoundMove) → Lasts S.Store (core_of self.old)
-            (with_sound (Line (command.Import name.now)) sound (told_by (λ _. reply.Done) result)) (core_of self.new) }
+            (with_sound (Line (command.Import name.now)) sound (as_reply (λ _. reply.Done) result)) (core_of self.new) }
         ensures device { IfErr result
             (IsInsideOr (brought_from (V.tells vault.old) (V.holds vault.old) name.now head)) }
         ensures number { IfOk result (λ n. n ≡ self.new.commit_number) }
-        ensures sound { IsHeld S.Store (core_of self.old) → IfErr result IsUndamaged }
+        ensures valid { IsHeld S.Store (core_of self.old) → IfErr result IsUndamaged }
         ensures same { V.holds vault.new ≡ V.holds vault.old }
         ensures tells { V.tells vault.new ≡ V.tells vault.old }
         ensures faults { VaultCounted result (V.fault_count vault.old) (V.fault_count vault.new) }

@@ -12,27 +12,34 @@ ghost use Rattle.pcm_base.specs.Form.{IsNumber};
 ghost use Rattle.pcm_base.specs.Sizes.{blocks_of_samples};
 ghost use Rattle.clip_track.specs.Clips.{AllHalfFull, IsLayout, end_of, layout_blocks};
 ghost use Rattle.edit_ops.specs.Plans.{AnswersTest, IsPlan, Means, start_of};
-ghost use Rattle.piece_store.specs.Bringing.{brought_count};
+ghost use Rattle.block_writer.specs.Bringing.{brought_count};
 ghost use Rattle.envelope_view.specs.Answers.{IsUndamaged};
-ghost use Rattle.record_body.specs.Kept.{current_tracks};
+ghost use Rattle.record_body.specs.Saved.{current_tracks};
 ghost use Rattle.editor_core.specs.Core.{core_of};
 ghost use Rattle.editor_state.specs.Edits.{IsStill};
 ghost use Rattle.editor_state.specs.Exchanges.{may_begin};
 ghost use Rattle.editor_tracks.specs.Inserts.{IsPlace, place_cells, place_edit, place_test};
 ghost use Rattle.editor_state.specs.Studios.{IsHeld, IsStudio};
-ghost use Rattle.editor_state.specs.Took.{Took, quietly, told_by, with_sound};
+ghost use Rattle.editor_state.specs.Took.{Took, quietly, as_reply, with_sound};
 ghost use Rattle.editor_tracks.specs.TrackEdits.{IsTrackCall, IsTrackPlan, NoTrackPlan, track_command};
 
 use super::planning::planned;
 use super::studio::Studio;
+use block_writer::Given;
 use clip_track::Layout;
 use disk_model::Store;
 use edit_ops::{Plan, Planner, insert};
 use editor_state::Planned;
 use editor_tracks::Place;
 use pcm_base::{CHUNK_SAMPLES, Refusal};
-use piece_store::Given;
 use std::alloc::Global;
+
+// Of which recording samples are, by its number, where 0 is none, and as how many commits beside one they come.
+#[derive(Clone, Copy)]
+struct Marks {
+    tag: u64,
+    more: u64,
+}
 
 /// How many samples of a recording were taken or refused together, and what was answered.
 #[derive(Drop)]
@@ -121,17 +128,17 @@ impl<S: Store> Studio<S> {
         requires studio { IsStudio S.Store (core_of self.old) }
         requires in_form { IsNumber at }
         ensures took { Took S.Store (core_of self.old)
-            (quietly (call.Line (command.Put track at samples.now)) (told_by (λ _. reply.Done) result))
+            (quietly (call.Line (command.Put track at samples.now)) (as_reply (λ _. reply.Done) result))
             (core_of self.new) }
         ensures number { IfOk result (λ n. n ≡ self.new.commit_number) }
-        ensures sound { IsHeld S.Store (core_of self.old) → IfErr result IsUndamaged }
+        ensures valid { IsHeld S.Store (core_of self.old) → IfErr result IsUndamaged }
     {
+        let marks = Marks { tag: 0, more: 0 };
         self.insert_given(
             alloc,
             track,
             Place::At { at },
-            0,
-            0,
+            marks,
             &Given::Samples { samples },
         )
     }
@@ -153,20 +160,21 @@ impl<S: Store> Studio<S> {
         requires studio { IsStudio S.Store (core_of self.old) }
         requires in_form { IsNumber at }
         ensures took { Took S.Store (core_of self.old)
-            (quietly (call.Line (command.Ramp track at count start step)) (told_by (λ _. reply.Done) result))
+            (quietly (call.Line (command.Ramp track at count start step)) (as_reply (λ _. reply.Done) result))
             (core_of self.new) }
         ensures number { IfOk result (λ n. n ≡ self.new.commit_number) }
-        ensures sound { IsHeld S.Store (core_of self.old) → IfErr result IsUndamaged }
+        ensures valid { IsHeld S.Store (core_of self.old) → IfErr result IsUndamaged }
     {
         let given = Given::Ramp { start, step, count };
-        self.insert_given(alloc, track, Place::At { at }, 0, 0, &given)
+        let marks = Marks { tag: 0, more: 0 };
+        self.insert_given(alloc, track, Place::At { at }, marks, &given)
     }
 
     /// Puts samples of a recording in at the end of a track, at most 16,384. They are a piece for each 256 samples, the
     /// last one shorter, and each piece is a commit. All of them are in the journal at once: at any moment a stop
-    /// leaves none of them or all. The tag is the recording's number, from 1 to the number of the last commit. Where the
-    /// current project is of the same recording they go into it, and what could be redone goes; else they make a new
-    /// point. It answers the number of the last commit.
+    /// leaves none of them or all. The tag is the recording's number, from 1 to the number of the last commit. Where
+    /// the current project is of the same recording they go into it, and what could be redone goes; else they make a
+    /// new point. It answers the number of the last commit.
     ///
     /// # Errors
     ///
@@ -182,20 +190,14 @@ impl<S: Store> Studio<S> {
         requires tag { (1 ≤ tag) × (tag ≤ self.old.commit_number) }
         requires few { length samples.now ≤ BATCH_SAMPLES }
         ensures took { Took S.Store (core_of self.old)
-            (quietly (call.Piece track tag samples.now) (told_by (λ _. reply.Done) result)) (core_of self.new) }
+            (quietly (call.Piece track tag samples.now) (as_reply (λ _. reply.Done) result)) (core_of self.new) }
         ensures number { IfOk result (λ n. n ≡ self.new.commit_number) }
-        ensures sound { IsHeld S.Store (core_of self.old) → IfErr result IsUndamaged }
+        ensures valid { IsHeld S.Store (core_of self.old) → IfErr result IsUndamaged }
         ensures still { IfErr result (IsStill (core_of self.old) (core_of self.new)) }
     {
         let more = later_pieces(samples);
-        self.insert_given(
-            alloc,
-            track,
-            Place::End,
-            tag,
-            more,
-            &Given::Samples { samples },
-        )
+        let marks = Marks { tag, more };
+        self.insert_given(alloc, track, Place::End, marks, &Given::Samples { samples })
     }
 
     /// Puts these samples in as [`Studio::piece`] does. Where a test or want of memory refuses them together, it does
@@ -205,12 +207,12 @@ impl<S: Store> Studio<S> {
         requires tag { (1 ≤ tag) × (tag ≤ self.old.commit_number) }
         requires few { length samples.now ≤ BATCH_SAMPLES }
         ensures took { Took S.Store (core_of self.old)
-            (quietly (call.Piece track tag (take result.count samples.now)) (told_by (λ _. reply.Done) result.what))
+            (quietly (call.Piece track tag (take result.count samples.now)) (as_reply (λ _. reply.Done) result.what))
             (core_of self.new) }
         ensures count { (result.count ≡ length samples.now)
             ⊎ ((result.count ≡ CHUNK_SAMPLES) × (CHUNK_SAMPLES < length samples.now)) }
         ensures number { IfOk result.what (λ n. n ≡ self.new.commit_number) }
-        ensures sound { IsHeld S.Store (core_of self.old) → IfErr result.what IsUndamaged }
+        ensures valid { IsHeld S.Store (core_of self.old) → IfErr result.what IsUndamaged }
     {
         let what = self.piece(alloc, track, tag, samples);
         if samples.len() > CHUNK_SAMPLES && is_idle(&what) {
@@ -226,27 +228,26 @@ impl<S: Store> Studio<S> {
         }
     }
 
-    // Puts what a command brings in, as a point with this tag, where 0 is none, and as this many commits beside one.
+    // Puts what a command brings in, as a point with the tag of the marks, and as their many commits beside one.
     fn insert_given(
         &mut self,
         alloc: Global,
         track: u64,
         place: Place,
-        tag: u64,
-        more: u64,
+        marks: Marks,
         given: &Given,
     ) -> Result<u64, Refusal>
         requires studio { IsStudio S.Store (core_of self.old) }
         requires place { IsPlace place }
-        requires tag { tag ≤ self.old.commit_number }
-        requires counts { 0 < more → 1 ≤ tag }
-        requires more { more < 64 }
-        ensures took { (c : Call) → (sound : SoundMove)
-            → IsTrackCall c sound (track_command (place_edit place (brought_count given.now)) given.now track tag more)
-            → Took S.Store (core_of self.old) (with_sound c sound (told_by (λ _. reply.Done) result))
+        requires tag { marks.tag ≤ self.old.commit_number }
+        requires counts { 0 < marks.more → 1 ≤ marks.tag }
+        requires more { marks.more < 64 }
+        ensures took { (c : Call) → (sound : SoundMove) → IsTrackCall c sound
+            (track_command (place_edit place (brought_count given.now)) given.now track marks.tag marks.more)
+            → Took S.Store (core_of self.old) (with_sound c sound (as_reply (λ _. reply.Done) result))
             (core_of self.new) }
         ensures number { IfOk result (λ n. n ≡ self.new.commit_number) }
-        ensures sound { IsHeld S.Store (core_of self.old) → IfErr result IsUndamaged }
+        ensures valid { IsHeld S.Store (core_of self.old) → IfErr result IsUndamaged }
         ensures still { IfErr result (IsStill (core_of self.old) (core_of self.new)) }
     {
         if let Some(faults) = self.stopped {
@@ -254,7 +255,7 @@ impl<S: Store> Studio<S> {
         }
         let planned = self.planned_insert(alloc, track, place, count_of(given))?;
         let mut given = *given;
-        self.carry_out(planned, tag, more, &mut given)
+        self.carry_out(planned, marks.tag, marks.more, &mut given)
     }
 
     // The project that this many samples in a track make of the current one.

@@ -18,6 +18,13 @@ use project_state::{Point, Track};
 use std::alloc::Global;
 use std::vec::IntoIter;
 
+/// The numbers that come next: of a block, and of a layout.
+#[derive(Clone, Copy)]
+pub(crate) struct Next {
+    pub(crate) block: u64,
+    pub(crate) layout: u64,
+}
+
 // A track with the layout of a plan, which gets this number. The plan's new blocks come to others.
 fn laid_out(
     track: &Track,
@@ -109,41 +116,40 @@ fn add_laid(
 }
 
 // The project whose tracks from an id on have the layouts of plans, one after another, with their new blocks. The
-// layouts have the numbers from `first` on, and the plans give no track id. All other tracks are those of the project.
+// layouts have the next numbers, and the plans give no track id. All other tracks are those of the project.
 pub(crate) fn planned_run(
     alloc: Global,
     project: &Point,
     id: u64,
     plans: Plans,
-    next: u64,
-    first: u64,
+    next: Next,
     clip: Option<Strips>,
 ) -> Result<Planned, NoMemory>
     requires rising { AreAbove 1 project.now }
     requires fits { length plans ≤ length (run_of id project.now) }
-    requires room { next ≤ COUNTER_LIMIT }
-    requires numbers { first ≤ COUNTER_LIMIT }
-    ensures plan { IfOk result (λ p. IsRunPlan id next first project.now plans p) }
-    ensures layouts { IfOk result (λ p. HasNumbers project.now first p.point (first + p.layouts)) }
+    requires room { next.block ≤ COUNTER_LIMIT }
+    requires numbers { next.layout ≤ COUNTER_LIMIT }
+    ensures plan { IfOk result (λ p. IsRunPlan id next.block next.layout project.now plans p) }
+    ensures layouts { IfOk result (λ p. HasNumbers project.now next.layout p.point (next.layout + p.layouts)) }
     ensures tracks { IfOk result (λ p. p.tracks ≡ 0) }
     ensures clip { IfOk result (λ p. p.clip ≡ clip) }
 {
     let mut left = plans.into_vec().into_iter();
     let mut point = Point::new(alloc);
     let mut makes = Vec::new(alloc);
-    let mut number = first;
+    let mut number = next.layout;
     for i in 0..project.len() {
         let laid = next_track(project.track_at(i), id, number, &mut left, &mut makes)?;
         number = number_after(number, &laid);
         add_laid(&mut point, project, i, laid)?;
     }
-    let next = next + makes.len() as u64;
+    let after = next.block + makes.len() as u64;
     Ok(Planned {
         point,
         makes: NewBlocks::new(makes),
-        next,
+        next: after,
         tracks: 0,
-        layouts: number - first,
+        layouts: number - next.layout,
         clip,
     })
 }

@@ -9,7 +9,7 @@ ghost use Rattle.pcm_base.specs.Step.{line_of_track};
 ghost use Rattle.project_state.specs.Meaning.{meant, meant_track};
 ghost use Rattle.editor_core.specs.Core.{core_of};
 ghost use Rattle.editor_state.specs.Studios.{IsStudio};
-ghost use Rattle.editor_state.specs.Took.{Took, quietly, told_by};
+ghost use Rattle.editor_state.specs.Took.{Took, quietly, as_reply};
 
 use super::current::current_of;
 use super::studio::Studio;
@@ -51,7 +51,7 @@ impl<S: Store> Studio<S> {
     /// answer.
     pub fn tracks(&self, alloc: Global) -> Result<TrackLines, Refusal>
         requires { IsStudio S.Store (core_of self.now) }
-        ensures took { Took S.Store (core_of self.now) (quietly (Line command.Tracks) (told_by reply.Tracks result))
+        ensures took { Took S.Store (core_of self.now) (quietly (Line command.Tracks) (as_reply reply.Tracks result))
             (core_of self.now) }
         ensures why { IfErr result (λ e. (e ≡ refusal.NoMemory) ⊎ (faults : ℕ) × (e ≡ refusal.Stopped faults)) }
     {

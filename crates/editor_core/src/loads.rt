@@ -8,7 +8,7 @@ ghost use Rattle.editor_state.specs.Studios.{IsStudio};
 use super::pinned::point_of;
 use super::studio::Studio;
 use disk_model::Store;
-use mix_view::load_stretch;
+use mix_reader::load_stretch;
 use mixdown::Loaded;
 use pcm_base::Refusal;
 

@@ -1,13 +1,14 @@
 // New blocks, which are written and then synced before a record names them.
-ghost use Rattle.std.specs.Prelude.{◌≡◌, ℕ, ℤ, IsSome, ◌+◌, ◌≤◌, ◌<◌, ◌^◌, IsTrue, IfErr, MatchResult, None, false, length};
+ghost use Rattle.std.specs.Prelude.{◌≡◌, ℕ, ℤ, IsSome, ◌+◌, ◌≤◌, ◌<◌, ◌^◌, IsTrue, IfErr, MatchResult, None, false};
+ghost use Rattle.std.specs.Prelude.{length};
 ghost use Rattle.pcm_base.specs.declared.limits.TheConstants.{COUNTER_LIMIT, FIRST_BLOCK, MAX_BLOCK_SAMPLES};
 ghost use Rattle.pcm_base.specs.Pieces.{total};
 ghost use Rattle.sample_block.specs.Spelling.{IsBlock};
 ghost use Rattle.block_cache.specs.Caches.{AllPass};
 ghost use Rattle.block_ledger.specs.Entries.{count_of};
-ghost use Rattle.piece_store.specs.Brought.{AreInOrder, MayBring};
-ghost use Rattle.piece_store.specs.Bringers.{StillBrings};
-ghost use Rattle.piece_store.specs.Reading.{AllReadable, AllThere};
+ghost use Rattle.block_writer.specs.Brought.{AreInOrder, MayBring};
+ghost use Rattle.block_writer.specs.Bringers.{StillBrings};
+ghost use Rattle.block_writer.specs.Reading.{AllReadable, AllThere};
 ghost use Rattle.edit_ops.specs.Plans.{AreNew};
 ghost use Rattle.editor_core.specs.Core.{core_of};
 ghost use Rattle.editor_state.specs.Made.{AllInOrder, PiecesReadable, batch_of, ids_from};
@@ -17,10 +18,10 @@ ghost use Rattle.editor_state.specs.Given.{is_given};
 
 use super::studio::Studio;
 use block_ledger::Ledger;
+use block_writer::{Brings, MakeFault};
 use disk_model::Store;
 use edit_ops::NewBlock;
 use pcm_base::Refusal;
-use piece_store::{Brings, MakeFault};
 
 // The ledger has the id of a file that nothing names.
 fn count_free(ledger: &mut Ledger, id: u64)
@@ -51,7 +52,7 @@ impl<S: Store> Studio<S> {
             (λ _. (samples : ℕ → ℤ) × MayBring (G.brings given.old) samples
             × MadeOne S.Store (core_of self.old) samples block.now (core_of self.new))
             (λ e. NotMade S.Store (core_of self.old) e (core_of self.new)) }
-        ensures sound { IsTrue (S.tells self.old.reader.store)
+        ensures valid { IsTrue (S.tells self.old.reader.store)
             → AllThere (S.reads self.old.reader.store) block.now.pieces
             → IfErr result IsOfDevices }
         ensures refused { IfErr result (IsBroughtRefusal (G.brings given.old)) }

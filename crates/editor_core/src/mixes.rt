@@ -1,17 +1,20 @@
 // What is heard of a project.
 ghost use Rattle.std.specs.Prelude.{◌≡◌, ◌+◌, ◌-◌, ◌<◌, ◌≤◌, length, min, take, drop, IsTrue, IsOkUnless};
-ghost use Rattle.std.specs.Prelude.{IfOk};
+ghost use Rattle.std.specs.Prelude.{IfOk, None};
 ghost use Rattle.pcm_base.specs.declared.limits.TheConstants.{MAX_CELLS, MAX_VIEW};
 ghost use Rattle.pcm_base.specs.declared.answer.Reply.TheVariants.{Frames};
 ghost use Rattle.pcm_base.specs.declared.command.Call.TheVariants.{Line, ReadPin};
 ghost use Rattle.pcm_base.specs.declared.command.Command.TheVariants.{Mix};
 ghost use Rattle.pcm_base.specs.Mix.{mix_of, mix_length};
+ghost use Rattle.pcm_base.specs.Refusals.{bad_view};
 ghost use Rattle.pcm_base.specs.Pieces.{Sources};
 ghost use Rattle.sample_block.specs.Sources.{sources_of, AllNamed, AllWhole};
 ghost use Rattle.block_store.specs.declared.fault.BlockFault.TheVariants as fault;
-ghost use Rattle.block_cache.specs.Readers.{Reads};
+ghost use Rattle.block_cache.specs.Readers.{Hits, Reads};
+ghost use Rattle.mix_reader.specs.Heard.{HasHeard};
 ghost use Rattle.project_state.specs.Meaning.{meant, point_blocks};
-ghost use Rattle.mix_view.specs.Tracks.{mix_length_of};
+ghost use Rattle.mix_reader.specs.Tracks.{mix_length_of};
+ghost use Rattle.record_body.specs.Saved.{current_tracks};
 ghost use Rattle.editor_core.specs.Core.{core_of};
 ghost use Rattle.editor_state.specs.Reads.{Sees};
 ghost use Rattle.editor_state.specs.Studios.{IsStudio};
@@ -23,7 +26,7 @@ use super::studio::Studio;
 use block_cache::BlockReader;
 use block_store::BlockFault;
 use disk_model::Store;
-use mix_view::{mix_len, read_frames};
+use mix_reader::{mix_len, read_frames};
 use pcm_base::{Cell, Frame, Refusal};
 use project_state::Point;
 
@@ -42,6 +45,7 @@ fn read_mix<S: Store>(
     requires named { AllNamed (point_blocks point.now) }
     requires room { most ≤ length out.old }
     ensures reads { Reads (point_blocks point.now) reader.old reader.new result }
+    ensures hit { Hits (HasHeard reader.old.cache from (from + most) point.now) reader.old reader.new result }
     ensures fits { IfOk result (λ n. n ≤ length out.new) }
     ensures count { IfOk result (λ n. n ≡ min most (mix_length_of point.now - from)) }
     ensures len { (src : Sources) → mix_length (meant src point.now) ≡ mix_length_of point.now }
@@ -49,7 +53,7 @@ fn read_mix<S: Store>(
     ensures read { IsTrue (S.tells reader.old.store) → AllWhole (S.reads reader.old.store) (point_blocks point.now)
         → IfOk result (λ n. take n out.new
         ≡ take n (drop from (mix_of (meant (sources_of (S.reads reader.old.store)) point.now)))) }
-    ensures sound { IsTrue (S.tells reader.old.store) → AllWhole (S.reads reader.old.store) (point_blocks point.now)
+    ensures valid { IsTrue (S.tells reader.old.store) → AllWhole (S.reads reader.old.store) (point_blocks point.now)
         → IsOkUnless result fault.DiskFault }
 {
     let left = mix_len(point).saturating_sub(from);
@@ -72,9 +76,14 @@ impl<S: Store> Studio<S> {
         requires studio { IsStudio S.Store (core_of self.old) }
         // There is room for what may be shown.
         requires room { min MAX_VIEW (to - from) ≤ length out.old }
-        ensures { Sees S.Store (core_of self.old)
+        ensures seen { Sees S.Store (core_of self.old)
             (record { call = Line (Mix from to); reply = Frames; out = out.new; count = result })
             (core_of self.new) }
+        // Where the cache has all pages of the tracks that are heard it is Ok, whatever the store would answer, and
+        // asks it nothing.
+        ensures hit { self.old.stopped ≡ None → bad_view from to ≡ None
+            → Hits (HasHeard self.old.reader.cache from to (current_tracks self.old.history.history))
+            self.old.reader self.new.reader result }
     {
         if let Some(faults) = self.stopped {
             return Err(Refusal::Stopped { faults });

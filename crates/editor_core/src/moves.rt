@@ -14,7 +14,7 @@ ghost use Rattle.envelope_view.specs.Answers.{IsUndamaged};
 ghost use Rattle.editor_state.specs.Adding.{IsNoWant};
 ghost use Rattle.editor_core.specs.Core.{core_of};
 ghost use Rattle.editor_state.specs.Studios.{IsStudio};
-ghost use Rattle.editor_state.specs.Took.{Took, quietly, told_by};
+ghost use Rattle.editor_state.specs.Took.{Took, quietly, as_reply};
 
 use super::studio::Studio;
 use byteorder::{ByteOrder, LittleEndian};
@@ -44,7 +44,7 @@ impl<S: Store> Studio<S> {
     /// change of the disk failed: the studio is stopped.
     pub fn undo(&mut self) -> Result<u64, Refusal>
         requires { IsStudio S.Store (core_of self.old) }
-        ensures took { Took S.Store (core_of self.old) (quietly (Line command.Undo) (told_by (λ _. reply.Done) result))
+        ensures took { Took S.Store (core_of self.old) (quietly (Line command.Undo) (as_reply (λ _. reply.Done) result))
             (core_of self.new) }
         ensures number { IfOk result (λ n. n ≡ self.new.commit_number) }
         ensures memory { IfErr result IsNoWant }
@@ -76,7 +76,7 @@ impl<S: Store> Studio<S> {
     /// change of the disk failed: the studio is stopped.
     pub fn redo(&mut self) -> Result<u64, Refusal>
         requires { IsStudio S.Store (core_of self.old) }
-        ensures took { Took S.Store (core_of self.old) (quietly (Line command.Redo) (told_by (λ _. reply.Done) result))
+        ensures took { Took S.Store (core_of self.old) (quietly (Line command.Redo) (as_reply (λ _. reply.Done) result))
             (core_of self.new) }
         ensures number { IfOk result (λ n. n ≡ self.new.commit_number) }
         ensures memory { IfErr result IsNoWant }
@@ -113,7 +113,7 @@ impl<S: Store> Studio<S> {
     pub fn purge(&mut self, count: u64) -> Result<u64, Refusal>
         requires { IsStudio S.Store (core_of self.old) }
         ensures took { Took S.Store (core_of self.old)
-            (quietly (Line (command.Purge count)) (told_by (λ _. reply.Done) result)) (core_of self.new) }
+            (quietly (Line (command.Purge count)) (as_reply (λ _. reply.Done) result)) (core_of self.new) }
         ensures number { IfOk result (λ n. n ≡ self.new.commit_number) }
         ensures memory { IfErr result IsNoWant }
         ensures undamaged { IfErr result IsUndamaged }
@@ -138,7 +138,7 @@ impl<S: Store> Studio<S> {
     pub fn purge_to(&mut self, alloc: Global, bytes: u64) -> Result<u64, Refusal>
         requires { IsStudio S.Store (core_of self.old) }
         ensures took { Took S.Store (core_of self.old)
-            (quietly (Line (command.PurgeTo bytes)) (told_by reply.Purged result)) (core_of self.new) }
+            (quietly (Line (command.PurgeTo bytes)) (as_reply reply.Purged result)) (core_of self.new) }
         // The number is that of the points whose going leaves so many bytes, and none go where it is 0.
         ensures count { IfOk result (IsPurgeTo self.old.history.history bytes) }
         ensures none { IfErr result (λ why. why ≡ refusal.BadRange → IsPurgeTo self.old.history.history bytes 0) }

@@ -5,22 +5,22 @@ ghost use Rattle.pcm_base.specs.declared.command.Call.TheVariants.{Line};
 ghost use Rattle.pcm_base.specs.Form.{IsNumber};
 ghost use Rattle.pcm_base.specs.Shape.{paste_line};
 ghost use Rattle.layout_uses.specs.Drawing.{HasNumbers};
-ghost use Rattle.record_body.specs.Kept.{current_tracks};
+ghost use Rattle.record_body.specs.Saved.{current_tracks};
 ghost use Rattle.envelope_view.specs.Answers.{IsUndamaged};
 ghost use Rattle.editor_core.specs.Core.{core_of};
 ghost use Rattle.editor_tracks.specs.Pastes.{IsPastePlan, NoPastePlan};
 ghost use Rattle.editor_state.specs.Studios.{IsHeld, IsStudio};
-ghost use Rattle.editor_state.specs.Took.{Took, quietly, told_by};
+ghost use Rattle.editor_state.specs.Took.{Took, quietly, as_reply};
 
 use super::copies::run_from;
 use super::cuts::see_items;
-use super::laying::planned_run;
+use super::laying::{Next, planned_run};
 use super::studio::Studio;
+use block_writer::Given;
 use disk_model::Store;
 use edit_ops::{RunPlanner, paste};
 use editor_state::Planned;
 use pcm_base::{Placing, Refusal};
-use piece_store::Given;
 use std::alloc::Global;
 
 impl<S: Store> Studio<S> {
@@ -47,9 +47,9 @@ impl<S: Store> Studio<S> {
         requires studio { IsStudio S.Store (core_of self.old) }
         requires in_form { IsNumber at }
         ensures took { Took S.Store (core_of self.old)
-            (quietly (Line (paste_line placing track at)) (told_by (λ _. reply.Done) result)) (core_of self.new) }
+            (quietly (Line (paste_line placing track at)) (as_reply (λ _. reply.Done) result)) (core_of self.new) }
         ensures number { IfOk result (λ n. n ≡ self.new.commit_number) }
-        ensures sound { IsHeld S.Store (core_of self.old) → IfErr result IsUndamaged }
+        ensures valid { IsHeld S.Store (core_of self.old) → IfErr result IsUndamaged }
     {
         if let Some(faults) = self.stopped {
             return Err(Refusal::Stopped { faults });
@@ -88,15 +88,11 @@ impl<S: Store> Studio<S> {
             next: self.next_block,
         };
         let plans = paste(planner, &run, Some(clip), placing, at)?;
-        let planned = planned_run(
-            alloc,
-            project,
-            track,
-            plans,
-            self.next_block,
-            self.next_layout,
-            None,
-        )?;
+        let next = Next {
+            block: self.next_block,
+            layout: self.next_layout,
+        };
+        let planned = planned_run(alloc, project, track, plans, next, None)?;
         Ok(planned)
     }
 }

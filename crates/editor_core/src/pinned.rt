@@ -8,12 +8,12 @@ ghost use Rattle.editor_state.specs.Adding.{IsNoWant};
 ghost use Rattle.editor_core.specs.Core.{core_of};
 ghost use Rattle.editor_views.specs.Pins.{MayFind};
 ghost use Rattle.editor_state.specs.Studios.{IsStudio};
-ghost use Rattle.editor_state.specs.Took.{Took, quietly, told_by};
+ghost use Rattle.editor_state.specs.Took.{Took, quietly, as_reply};
 
 use super::studio::Studio;
 use disk_model::Store;
 use editor_state::Pin;
-use mix_view::mix_len;
+use mix_reader::mix_len;
 use pcm_base::Refusal;
 use project_state::Point;
 
@@ -38,7 +38,7 @@ impl<S: Store> Studio<S> {
     /// `Stopped` where a change of the disk failed in an earlier call; else `NoPin` where no pin has the number.
     pub fn pin_len(&self, pin: u64) -> Result<u64, Refusal>
         requires { IsStudio S.Store (core_of self.now) }
-        ensures took { Took S.Store (core_of self.now) (quietly (call.PinLen pin) (told_by reply.Length result))
+        ensures took { Took S.Store (core_of self.now) (quietly (call.PinLen pin) (as_reply reply.Length result))
             (core_of self.now) }
         ensures memory { IfErr result IsNoWant }
         ensures undamaged { IfErr result IsUndamaged }

@@ -6,7 +6,7 @@ ghost use Rattle.pcm_base.specs.declared.refusal.Refusal.TheVariants as refusal;
 ghost use Rattle.block_ledger.specs.Counts.{occurrences};
 ghost use Rattle.block_ledger.specs.Entries.{count_of};
 ghost use Rattle.envelope_view.specs.Answers.{IsUndamaged};
-ghost use Rattle.record_body.specs.Kept.{current_tracks};
+ghost use Rattle.record_body.specs.Saved.{current_tracks};
 ghost use Rattle.layout_uses.specs.Layouts.{track_blocks};
 ghost use Rattle.layout_uses.specs.Occurrences.{HasIds, times_named};
 ghost use Rattle.layout_uses.specs.Tallies.{Comes};
@@ -15,7 +15,7 @@ ghost use Rattle.editor_state.specs.declared.pin.Pin.{Pin};
 ghost use Rattle.editor_core.specs.Core.{core_of};
 ghost use Rattle.editor_views.specs.Pins.{MayTake, AnswersPin, AnswersUnpin};
 ghost use Rattle.editor_state.specs.Studios.{IsStudio};
-ghost use Rattle.editor_state.specs.Took.{Took, quietly, told_by};
+ghost use Rattle.editor_state.specs.Took.{Took, quietly, as_reply};
 
 use super::current::current_of;
 use super::studio::Studio;
@@ -59,7 +59,7 @@ impl<S: Store> Studio<S> {
     /// given; else `NoMemory` where there is none for the copy. Nothing has changed then.
     pub fn pin(&mut self) -> Result<u64, Refusal>
         requires { IsStudio S.Store (core_of self.old) }
-        ensures took { Took S.Store (core_of self.old) (quietly call.Pin (told_by reply.Pinned result))
+        ensures took { Took S.Store (core_of self.old) (quietly call.Pin (as_reply reply.Pinned result))
             (core_of self.new) }
         ensures pinned { AnswersPin (core_of self.old) result (core_of self.new) }
         ensures undamaged { IfErr result IsUndamaged }
@@ -105,7 +105,7 @@ impl<S: Store> Studio<S> {
     /// `NoPin` where no pin has the number.
     pub fn unpin(&mut self, pin: u64) -> Result<(), Refusal>
         requires { IsStudio S.Store (core_of self.old) }
-        ensures took { Took S.Store (core_of self.old) (quietly (call.Unpin pin) (told_by (λ _. reply.Done) result))
+        ensures took { Took S.Store (core_of self.old) (quietly (call.Unpin pin) (as_reply (λ _. reply.Done) result))
             (core_of self.new) }
         ensures unpinned { AnswersUnpin (core_of self.old) pin result (core_of self.new) }
     {

@@ -4,20 +4,20 @@ ghost use Rattle.pcm_base.specs.declared.answer.Reply.TheVariants as reply;
 ghost use Rattle.pcm_base.specs.declared.command.Call.TheVariants.{Line};
 ghost use Rattle.pcm_base.specs.Shape.{range_line};
 ghost use Rattle.envelope_view.specs.Answers.{IsUndamaged};
-ghost use Rattle.record_body.specs.Kept.{current_tracks};
+ghost use Rattle.record_body.specs.Saved.{current_tracks};
 ghost use Rattle.editor_core.specs.Core.{core_of};
 ghost use Rattle.editor_tracks.specs.Ranges.{range_edit};
 ghost use Rattle.editor_state.specs.Studios.{IsHeld, IsStudio};
-ghost use Rattle.editor_state.specs.Took.{Took, quietly, told_by};
+ghost use Rattle.editor_state.specs.Took.{Took, quietly, as_reply};
 ghost use Rattle.editor_tracks.specs.TrackEdits.{IsTrackPlan, NoTrackPlan};
 
 use super::planning::planned;
 use super::studio::Studio;
+use block_writer::Given;
 use disk_model::Store;
 use edit_ops::{Planner, edit_range};
 use editor_state::Planned;
 use pcm_base::{RangeEdit, Refusal};
-use piece_store::Given;
 use std::alloc::Global;
 
 impl<S: Store> Studio<S> {
@@ -41,10 +41,10 @@ impl<S: Store> Studio<S> {
     ) -> Result<u64, Refusal>
         requires { IsStudio S.Store (core_of self.old) }
         ensures took { Took S.Store (core_of self.old)
-            (quietly (Line (range_line edit track from to)) (told_by (λ _. reply.Done) result))
+            (quietly (Line (range_line edit track from to)) (as_reply (λ _. reply.Done) result))
             (core_of self.new) }
         ensures number { IfOk result (λ n. n ≡ self.new.commit_number) }
-        ensures sound { IsHeld S.Store (core_of self.old) → IfErr result IsUndamaged }
+        ensures valid { IsHeld S.Store (core_of self.old) → IfErr result IsUndamaged }
     {
         if let Some(faults) = self.stopped {
             return Err(Refusal::Stopped { faults });

@@ -1,16 +1,16 @@
 // Whether the file of a block is what it has to be.
-ghost use Rattle.std.specs.Prelude.{◌≡◌, ◌++◌, None, Some, Contains, IfOk, OnOk, IfNone, IfSome};
+ghost use Rattle.std.specs.Prelude.{◌≡◌, ◌++◌, None, Contains, IfOk, OnOk};
 ghost use Rattle.clip_track.specs.Clips.{layout_blocks};
 ghost use Rattle.project_state.specs.Meaning.{point_blocks, history_blocks};
 ghost use Rattle.editor_core.specs.Core.{core_of};
-ghost use Rattle.editor_views.specs.Scans.{AreIdsOf, AreListed, MayStand, Scans, ScansBlock};
-ghost use Rattle.editor_state.specs.Studios.{IsStudio, ids_of};
+ghost use Rattle.editor_views.specs.Scans.{AreListed, ScansBlock};
+ghost use Rattle.editor_state.specs.Studios.{IsStudio};
 
 use super::studio::Studio;
 use block_store::BlockFault;
 use clip_track::Clip;
 use disk_model::Store;
-use pcm_base::{BlockRef, NoMemory, Refusal};
+use pcm_base::{BlockRef, NoMemory};
 use project_state::Point;
 use std::alloc::Global;
 use undo_history::History;
@@ -44,56 +44,6 @@ fn blocks_of(alloc: Global, history: &History<Point>) -> Result<Vec<BlockRef>, N
         add_point(history.point(i), &mut blocks)?;
     }
     Ok(blocks)
-}
-
-// The ids of blocks, in their order.
-fn each_id(alloc: Global, blocks: &[BlockRef]) -> Result<Vec<u64>, NoMemory>
-    ensures { IfOk result (λ v. v.items ≡ ids_of blocks.now) }
-{
-    let mut ids = Vec::with_capacity(alloc, blocks.len())?;
-    for block in blocks {
-        ids.push(block.id)?;
-    }
-    Ok(ids)
-}
-
-// The ids of blocks, each once and rising.
-fn rising_ids(alloc: Global, blocks: &[BlockRef]) -> Result<Vec<u64>, NoMemory>
-    ensures { IfOk result (λ v. AreIdsOf blocks.now v.items) }
-{
-    let mut ids = each_id(alloc, blocks)?;
-    ids.sort_unstable();
-    ids.dedup();
-    Ok(ids)
-}
-
-// The first of these blocks with this id.
-fn block_with(blocks: &[BlockRef], id: u64) -> Option<BlockRef>
-    ensures found { IfSome result (λ b. (b.id ≡ id) × Contains blocks.now b) }
-    ensures none { IfNone result (Contains (ids_of blocks.now) id → ⊥) }
-{
-    for block in blocks {
-        if block.id == id {
-            return Some(*block);
-        }
-    }
-    None
-}
-
-// The block at this place among those that points name, by rising id.
-fn block_at(
-    alloc: Global,
-    history: &History<Point>,
-    place: u64,
-) -> Result<Option<BlockRef>, NoMemory>
-    ensures { IfOk result (MayStand (history_blocks history.now.history) place) }
-{
-    let blocks = blocks_of(alloc, history)?;
-    let ids = rising_ids(alloc, &blocks)?;
-    if place >= ids.len() as u64 {
-        return Ok(None);
-    }
-    Ok(block_with(&blocks, ids[place as usize]))
 }
 
 // These blocks by rising id, each of them once where no id has two lengths.
@@ -130,26 +80,5 @@ impl<S: Store> Studio<S> {
         ensures { ScansBlock S.Store (core_of self.old) block result (core_of self.new) }
     {
         self.buffers.check(&mut self.reader, block)
-    }
-
-    /// Reads the file of one block whole, and compares all of it with what the block's file has to be: its size, its
-    /// header and the frames of its samples. The block is that at this place, from 0 on, among the blocks that points
-    /// name, by rising id. It answers whether there is one. Nothing is changed. It takes memory for the references of
-    /// all points.
-    ///
-    /// # Errors
-    ///
-    /// `NoMemory`; else `DiskFault` where a read fails: the studio goes on; else `Damaged` with the first that differs,
-    /// where the file is not the block's. A disk that holds what the studio stands for shows no damaged file.
-    pub fn scan_block(&mut self, alloc: Global, place: u64) -> Result<bool, Refusal>
-        requires studio { IsStudio S.Store (core_of self.old) }
-        requires going { self.old.stopped ≡ None }
-        ensures { Scans S.Store (core_of self.old) place result (core_of self.new) }
-    {
-        let Some(block) = block_at(alloc, &self.history, place)? else {
-            return Ok(false);
-        };
-        self.scan(block)?;
-        Ok(true)
     }
 }

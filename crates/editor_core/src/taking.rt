@@ -6,7 +6,7 @@ ghost use Rattle.block_cache.specs.Caches.{AllPass};
 ghost use Rattle.block_ledger.specs.Counts.{occurrences};
 ghost use Rattle.block_ledger.specs.Entries.{count_of};
 ghost use Rattle.pcm_base.specs.History.{edited};
-ghost use Rattle.record_body.specs.Kept.{current_tracks};
+ghost use Rattle.record_body.specs.Saved.{current_tracks};
 ghost use Rattle.project_state.specs.Numbers.{AgreeById};
 ghost use Rattle.record_body.specs.Numbers.{BodyAgrees};
 ghost use Rattle.record_body.specs.declared.body.Body.TheVariants.{Edit};

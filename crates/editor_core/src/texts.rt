@@ -6,7 +6,7 @@ ghost use Rattle.pcm_base.specs.declared.limits.TheConstants.{COUNTER_LIMIT, MAX
 ghost use Rattle.pcm_base.specs.History.{IsHistory};
 ghost use Rattle.project_journal.specs.Journal.{points_size};
 ghost use Rattle.project_journal.specs.Packing.{AreShort, header_row, sized};
-ghost use Rattle.record_body.specs.Kept.{point_bytes};
+ghost use Rattle.record_body.specs.Saved.{point_bytes};
 ghost use Rattle.editor_core.specs.Core.{core_of};
 ghost use Rattle.editor_state.specs.Packing.{packed_base, packed_log, packed_size, packed_text, points_in};
 

@@ -1,15 +1,11 @@
 -- What refuses an edit before its first block leaves the studio as it was.
 use Rattle.std.proofs.Common.{◌≡◌, ⊎_elim, refl, sym, ap, ◌∙◌, true, false, Err}
 use Rattle.std.proofs.lemmas.Bool.{true≢false}
-use Rattle.pcm_base.specs.declared.refusal.Refusal.{Refusal}
-use Rattle.pcm_base.specs.declared.refusal.Refusal.TheVariants as refusal
-use Rattle.pcm_base.specs.declared.wav.WavFault.TheVariants.{Truncated}
+use Rattle.pcm_base.specs.{declared.refusal.Refusal.Refusal, declared.wav.WavFault.TheVariants.Truncated}
 use Rattle.disk_model.specs.declared.store.Store.{Ghosts}
-use Rattle.editor_state.specs.Core.{Core}
 use Rattle.editor_state.specs.Edits.{BlockCommit, Carried}
-use Rattle.editor_state.specs.Exchanges.{may_begin}
-use Rattle.editor_state.specs.Made.{batch_of}
-use Rattle.editor_state.specs.Makes.{Stuck}
+use Rattle.editor_state.specs.{Core.Core, Exchanges.may_begin, Made.batch_of, Makes.Stuck}
+use Rattle.pcm_base.specs.declared.refusal.Refusal.TheVariants as refusal
 
 stuck_off : {D : Type 0} (disk : Ghosts D) (s new : Core D) (c : BlockCommit) (why : Refusal)
     → Stuck disk s (batch_of c.given c.makes) why new → may_begin why ≡ true

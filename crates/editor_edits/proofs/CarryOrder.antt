@@ -1,15 +1,11 @@
 -- How an edit is carried out: once a block was made, nothing but the disk refuses.
-use Rattle.std.proofs.Common.{◌≡◌, ◌⊎◌, inr, ⊎_elim, refl, ap}
-use Rattle.std.proofs.Common.{length, Result, Ok, Err, IfErr, arith}
+use Rattle.std.proofs.Common.{◌≡◌, ◌⊎◌, inr, ⊎_elim, refl, ap, length, Result, Ok, Err, IfErr, arith}
 use Rattle.pcm_base.specs.declared.refusal.Refusal.{Refusal}
-use Rattle.pcm_base.specs.declared.refusal.Refusal.TheVariants as refusal
 use Rattle.disk_model.specs.declared.store.Store.{Ghosts}
 use Rattle.project_journal.specs.Journal.{rows_length}
-use Rattle.editor_state.specs.Adding.{Adds, IsNoWant}
-use Rattle.editor_state.specs.Core.{Core}
-use Rattle.editor_state.specs.Edits.{Carried, IsPrepared, BlockCommit}
-use Rattle.editor_state.specs.Made.{batch_of, ids_from}
-use Rattle.editor_state.specs.Makes.{AreSynced, Making}
+use Rattle.editor_state.specs.{Adding.Adds, Adding.IsNoWant, Core.Core, Edits.Carried, Edits.IsPrepared}
+use Rattle.editor_state.specs.{Edits.BlockCommit, Made.batch_of, Made.ids_from, Makes.AreSynced, Makes.Making}
+use Rattle.pcm_base.specs.declared.refusal.Refusal.TheVariants as refusal
 
 either_one : {A : Type 0} → A ⊎ A → A
 either_one h = ⊎_elim (λ x. x) (λ x. x) h

@@ -3,17 +3,15 @@ use Rattle.std.proofs.Common.{◌≡◌, subst, ℕ, suc, ◌+◌, List, [], len
 use Rattle.pcm_base.specs.declared.refusal.Refusal.{Refusal}
 use Rattle.disk_model.specs.declared.store.Store.{Ghosts}
 use Rattle.edit_ops.specs.declared.types.NewBlock.{NewBlock}
-use Rattle.record_body.specs.declared.body.Body.{Body}
-use Rattle.record_body.specs.declared.body.Body.TheVariants.{Edit}
+use Rattle.record_body.specs.{declared.body.Body.Body, declared.body.Body.TheVariants.Edit}
 use Rattle.project_state.specs.declared.track.Track.{Track}
-use Rattle.editor_state.specs.Bodies.{Writing, all_bytes, whole_len}
-use Rattle.editor_state.specs.Core.{Core}
-use Rattle.editor_state.specs.Edits.{BlockCommit, Carried, TaggedEdit}
+use Rattle.editor_state.specs.{Bodies.Writing, Bodies.all_bytes, Bodies.whole_len, Core.Core, Edits.BlockCommit}
+use Rattle.editor_state.specs.{Edits.Carried, Edits.TaggedEdit}
 
 -- the project that a record tells
-abbrev pub told_point : Body → List Track
-told_point (Edit tag block track point) = point
-told_point body = []
+abbrev pub body_point : Body → List Track
+body_point (Edit tag block track point) = point
+body_point body = []
 
 -- what an edit writes, where its records say this next block
 abbrev pub writes_with : {D : Type 0} → Core D → TaggedEdit → ℕ → Writing

@@ -1,37 +1,27 @@
 -- What an edit takes out comes into the clipboard, after the point that it records.
-use Rattle.std.proofs.Common.{ℤ, ◌≡◌, ◌↔◌, sym, ap, ◌∙◌, subst, ℕ, ◌+◌, ◌*◌, ◌^◌, ◌≤◌, ◌<◌, IsSome, Option, Some}
-use Rattle.std.proofs.Common.{None, List, [], ◌∷◌}
-use Rattle.std.proofs.Common.{◌++◌, length, length-append, flat_map, arith}
+use Rattle.std.proofs.Common.{◌≡◌, ◌↔◌, sym, ap, ◌∙◌, subst, ℕ, ◌+◌, ◌*◌, ◌^◌, ◌≤◌, ◌<◌, IsSome, Option, Some, None}
+use Rattle.std.proofs.Common.{List, [], ◌∷◌, ◌++◌, length, length-append, flat_map, arith}
 use Rattle.std.specs.List.{AllByRecursion}
-use Rattle.pcm_base.specs.History.{History}
+use Rattle.pcm_base.specs.{History.History, declared.block.BlockRef.BlockRef}
 use Rattle.disk_model.specs.declared.store.Store.{Ghosts}
-use Rattle.block_ledger.specs.Counts.{Counts, IsFreshCount, occurrences}
-use Rattle.block_ledger.specs.Entries.{count_of}
+use Rattle.block_ledger.specs.{Counts.Counts, Counts.IsFreshCount, Counts.occurrences, Entries.count_of}
 use Rattle.clip_track.specs.declared.items.Item.{Item}
-use Rattle.edit_ops.specs.declared.types.NewBlock.{NewBlock}
-use Rattle.project_state.specs.declared.track.Track.{Track}
-use Rattle.project_state.specs.Meaning.{history_blocks, point_blocks}
-use Rattle.record_body.specs.KeptSound.{IsSoundTagged}
-use Rattle.pcm_base.specs.declared.block.BlockRef.{BlockRef}
-use Rattle.layout_uses.specs.declared.tally.Tally.{Tally}
+use Rattle.project_state.specs.{declared.track.Track.Track, Meaning.history_blocks, Meaning.point_blocks}
+use Rattle.record_body.specs.SavedValid.{IsValidTagged}
 use Rattle.layout_uses.specs.Layouts.{history_tracks, numbers_of, track_blocks, used_blocks}
-use Rattle.layout_uses.specs.Tallies.{AreCounts, Becomes}
+use Rattle.layout_uses.specs.{declared.tally.Tally.Tally, Tallies.AreCounts, Tallies.Becomes}
 use Rattle.layout_uses.proofs.Naming.{counts_most}
-use Rattle.editor_state.specs.Core.{Core}
-use Rattle.editor_state.specs.Edits.{IsPlanned, TaggedEdit, clip_behind, history_behind}
-use Rattle.editor_state.specs.Made.{batch_of}
-use Rattle.editor_state.specs.Makes.{Making}
-use Rattle.editor_state.specs.Occurrences.{HasAll, HasIds, Moves}
 use Rattle.editor_state.specs.Studios.{IsStudio, clip_blocks, ids_of, pin_blocks, pin_tracks, studio_tracks}
+use Rattle.editor_state.specs.{Core.Core, Edits.IsPlanned, Edits.TaggedEdit, Edits.clip_behind, Edits.history_behind}
+use Rattle.editor_state.specs.{Made.batch_of, Makes.Making, Occurrences.HasAll, Occurrences.HasIds, Occurrences.Moves}
 use Rattle.editor_state.proofs.Blocks.BlockNumbers.{named_few, named_most, point_few}
-use Rattle.editor_edits.proofs.EditPlans.{clip_there}
-use Rattle.editor_commits.proofs.CurrentProject.{counts_then}
-use Rattle.editor_commits.proofs.CommitStudios.{CountsAfter}
 use Rattle.editor_state.proofs.Blocks.NamedBlocks.{others_counted, others_moved, tracks_named}
 use Rattle.editor_state.proofs.Lists.{all_so}
+use Rattle.editor_edits.proofs.EditPlans.{clip_there}
 use Rattle.editor_commits.proofs.PointTags.{all_recorded, recorded_depth, recorded_few}
+use Rattle.editor_commits.proofs.{CurrentProject.counts_then, CommitStudios.CountsAfter}
 
-points_few : (ps : List (List Track × ℕ))
+pub points_few : (ps : List (List Track × ℕ))
     → AllByRecursion (λ (p : List Track × ℕ). length (point_blocks p.0) ≤ 2 ^ 38) ps
     → length (flat_map (λ (p : List Track × ℕ). point_blocks p.0) ps) ≤ length ps * 2 ^ 38
 points_few [] h = omega arith
@@ -44,17 +34,7 @@ points_few (p ∷ ps) h = omega (
 
 module _ {D : Type 0} (disk : Ghosts D) (s : Core D) (is : IsStudio disk s) (going : s.stopped ≡ None)
     (e : TaggedEdit) (plan : IsPlanned s e) where
-  abbrev given : ℕ → ℤ
-  given = e.given
-
-  abbrev makes : List NewBlock
-  makes = e.plan.makes
-
-  abbrev tracks : ℕ
-  tracks = e.plan.tracks
-
-  abbrev point : List Track
-  point = e.plan.point
+  open e use {given, plan.{makes, tracks, point}}
 
   abbrev clip : Option (List (List Item))
   clip = clip_behind s e.plan
@@ -65,9 +45,9 @@ module _ {D : Type 0} (disk : Ghosts D) (s : Core D) (is : IsStudio disk s) (goi
   history_few : length (history_blocks h) ≤ 2 ^ 54
   history_few =
       let Q : List Track × ℕ → Type 0 = λ p. length (point_blocks p.0) ≤ 2 ^ 38 in
-      let old = all_so (IsSoundTagged s.block_size s.next_block s.next_track s.commit_number) Q
+      let old = all_so (IsValidTagged s.block_size s.next_block s.next_track s.commit_number) Q
       (λ p k. point_few s.block_size s.next_block s.next_track p.0 k.0) s.history.points is.points in
-      let new = point_few s.block_size (s.next_block + length makes) (s.next_track + tracks) point plan.sound in
+      let new = point_few s.block_size (s.next_block + length makes) (s.next_track + tracks) point plan.valid in
       omega (
         arith,
         points_few h.points (all_recorded s.history point e.tag Q old new new),
@@ -100,7 +80,7 @@ module _ {D : Type 0} (disk : Ghosts D) (s : Core D) (is : IsStudio disk s) (goi
       (becomes : Becomes point (history_tracks s.history) (history_tracks h) tally tally') where
     taken_so : CountsAfter s.pins h s.clipboard after (count_of tally.ledger) (count_of tally'.uses)
         (count_of tally'.ledger)
-    taken_so = counts_then disk s is point after h tally tally' plan.layouts plan.sound.few most
+    taken_so = counts_then disk s is point after h tally tally' plan.layouts plan.valid.few most
         (counted_mid mid making tally uses_are counts_are) becomes
 
     pub taken_there : s.next_block + length makes ≤ 2 ^ 62 → HasIds (count_of tally'.ledger) (clip_blocks clip)

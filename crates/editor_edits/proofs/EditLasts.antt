@@ -1,75 +1,47 @@
 -- What holds of an edit that makes blocks, whatever its call means and whatever is told; and that no vault refuses it.
-use Rattle.std.proofs.Common.{ℤ, ◌≡◌, ◌⊎◌, ◌<◌, inl, inr, ⊎_elim, refl, sym, ap, ◌∙◌, subst, ℕ, suc, ◌+◌}
-use Rattle.std.proofs.Common.{◌-◌, ◌^◌, ◌≤◌}
+use Rattle.std.proofs.Common.{◌≡◌, ◌⊎◌, ◌<◌, inl, inr, ⊎_elim, refl, sym, ap, ◌∙◌, subst, ℕ, suc, ◌+◌, ◌-◌, ◌^◌, ◌≤◌}
 use Rattle.std.proofs.Common.{IfErr, Option, None, List, [], true, length, Result, Ok, Err, arith}
 use Rattle.std.specs.Prelude.{IfOk}
-use Rattle.pcm_base.specs.declared.answer.Reply.{Reply}
-use Rattle.pcm_base.specs.declared.answer.Reply.TheVariants.{Done}
-use Rattle.pcm_base.specs.declared.block.BlockRef.{BlockRef}
-use Rattle.pcm_base.specs.declared.command.Call.{Call}
-use Rattle.pcm_base.specs.declared.entry.SoundMove.{SoundMove}
-use Rattle.pcm_base.specs.declared.refusal.Refusal.{Refusal}
-use Rattle.pcm_base.specs.declared.refusal.Refusal.TheVariants as refusal
-use Rattle.pcm_base.specs.declared.wav.WavFault.TheVariants.{Truncated}
-use Rattle.pcm_base.specs.Counters.{commits_of}
-use Rattle.pcm_base.specs.History.{History}
-use Rattle.disk_model.specs.Disk.{StaysStep}
-use Rattle.disk_model.specs.Frames.{Changed}
-use Rattle.disk_model.specs.declared.store.Store.{Ghosts}
+use Rattle.pcm_base.specs.{declared.answer.Reply.Reply, declared.answer.Reply.TheVariants.Done}
+use Rattle.pcm_base.specs.{declared.block.BlockRef.BlockRef, declared.command.Call.Call}
+use Rattle.pcm_base.specs.{declared.entry.SoundMove.SoundMove, declared.refusal.Refusal.Refusal}
+use Rattle.pcm_base.specs.{declared.wav.WavFault.TheVariants.Truncated, Counters.commits_of, History.History}
+use Rattle.disk_model.specs.{Disk.StaysStep, Frames.Changed, declared.store.Store.Ghosts}
 use Rattle.disk_model.proofs.Frames.{Fewer, changed_wider}
 use Rattle.block_ledger.specs.Counts.{Counts}
 use Rattle.clip_track.specs.declared.items.Item.{Item}
-use Rattle.edit_ops.specs.declared.types.NewBlock.{NewBlock}
-use Rattle.record_body.specs.declared.body.Body.TheVariants.{Edit}
+use Rattle.record_body.specs.{declared.body.Body.TheVariants.Edit, Saved.current_tracks}
 use Rattle.project_state.specs.declared.track.Track.{Track}
-use Rattle.record_body.specs.Kept.{current_tracks}
-use Rattle.editor_state.specs.Adding.{Adds, AddsBody, stopped_by}
 use Rattle.editor_state.specs.Bodies.{Writing, all_bytes, all_len, whole_len}
-use Rattle.editor_state.specs.Applied.{Lasts}
-use Rattle.editor_state.specs.Core.{Core}
-use Rattle.editor_state.specs.Exchanges.{may_have_begun}
 use Rattle.editor_state.specs.Edits.{Carried, Committed, IsPlanned, IsPrepared, TaggedEdit, clip_behind, Serves}
-use Rattle.editor_state.specs.Records.{Records}
-use Rattle.editor_state.specs.Spent.{NamesGiven}
 use Rattle.editor_state.specs.Left.{CountsIds, IsSoOf, Left, LeavesOthers, MayRemove, Stops, Untouched}
-use Rattle.editor_state.specs.Made.{PiecesThere, batch_of}
 use Rattle.editor_state.specs.Makes.{Making, Stuck, Unput, Unread, one_call}
-use Rattle.editor_state.specs.Packing.{packed_by}
-use Rattle.editor_state.specs.Purges.{Purges}
-use Rattle.editor_state.specs.Studios.{IsGiven, IsHeld, IsStudio}
-use Rattle.editor_state.specs.Took.{asks, number_behind, with_sound}
-use Rattle.editor_edits.proofs.EditBodies.{commit_of}
-use Rattle.editor_state.proofs.Calls.VaultCalls.{lasts_idle}
+use Rattle.editor_state.specs.{Adding.Adds, Adding.AddsBody, Adding.stopped_by, Applied.Lasts, Core.Core}
+use Rattle.editor_state.specs.{Exchanges.may_have_begun, Records.Records, Spent.NamesGiven, Made.PiecesThere}
+use Rattle.editor_state.specs.{Made.batch_of, Packing.packed_by, Purges.Purges, Studios.IsGiven, Studios.IsHeld}
+use Rattle.editor_state.specs.{Studios.IsStudio, Took.asks, Took.number_behind, Took.with_sound}
 use Rattle.editor_edits.proofs.EditPlans.{clip_covers_then, covers_then, edit_history, pieces_there, points_then}
+use Rattle.editor_edits.proofs.{EditBodies.commit_of, GivenIds.names_given}
+use Rattle.editor_state.proofs.Calls.OtherFiles.{NoneGoes, others_record}
+use Rattle.editor_state.proofs.Refusals.PurgeNumbers.{begun_purges, done_purges, other_purges, unprepared_range}
+use Rattle.editor_state.proofs.Calls.FileRemovals.{commit_frees, commit_removes_none, ids_made, no_record}
+use Rattle.editor_state.proofs.Calls.FileRemovals.{begun_untouched, broken_begins, cut_begins}
+use Rattle.editor_state.proofs.Refusals.EarlyRefusals.{record_within, stopped_not}
+use Rattle.editor_state.proofs.{Calls.VaultCalls.lasts_idle, Lists.all_so, Refusals.CallTests.unprepared_plain}
 use Rattle.editor_commits.proofs.CommitStudios.{CountsAfter, LeadsOn, led_studio, stopped_studio}
-use Rattle.editor_state.proofs.Lists.{all_so}
+use Rattle.editor_commits.proofs.PointTags.{recorded_current, recorded_depth, recorded_few}
 use Rattle.editor_blocks.proofs.BlocksLeft.{all_changed, all_failed, all_ids, all_left, damaged_so, missed_so}
 use Rattle.editor_blocks.proofs.BlocksLeft.{some_changed, some_ids, some_left, some_stop, unput_changed, unput_failed}
 use Rattle.editor_blocks.proofs.BlocksLeft.{unput_here, unput_ids, unput_is, unput_left}
 use Rattle.editor_blocks.proofs.StudioBlocks.{IsNewId, made_studio, refs, refs_ids, with_store}
 use Rattle.editor_blocks.proofs.BlocksWritten.{making_unread}
-use Rattle.editor_state.proofs.Calls.OtherFiles.{NoneGoes, others_record}
-use Rattle.editor_state.proofs.Refusals.CallTests.{unprepared_plain}
-use Rattle.editor_state.proofs.Refusals.PurgeNumbers.{begun_purges, done_purges, other_purges, unprepared_range}
-use Rattle.editor_commits.proofs.PointTags.{recorded_current, recorded_depth, recorded_few}
-use Rattle.editor_state.proofs.Calls.FileRemovals.{commit_frees, commit_removes_none, ids_made, no_record}
-use Rattle.editor_state.proofs.Calls.FileRemovals.{begun_untouched, broken_begins, cut_begins}
-use Rattle.editor_state.proofs.Refusals.EarlyRefusals.{record_within, stopped_not}
-use Rattle.editor_edits.proofs.GivenIds.{names_given}
+use Rattle.pcm_base.specs.declared.refusal.Refusal.TheVariants as refusal
 
 -- ---- the studio after it
 
 module _ {D : Type 0} (disk : Ghosts D) (s : Core D) (is : IsStudio disk s) (going : s.stopped ≡ None)
-    (e : TaggedEdit) (plan : IsPlanned s e)
-    (c : Call) (sound : SoundMove) (one : commits_of c ≡ suc e.more) where
-  abbrev given : ℕ → ℤ
-  given = e.given
-
-  abbrev makes : List NewBlock
-  makes = e.plan.makes
-
-  abbrev point : List Track
-  point = e.plan.point
+    (e : TaggedEdit) (plan : IsPlanned s e) (c : Call) (sound : SoundMove) (one : commits_of c ≡ suc e.more) where
+  open e use {given, plan.{makes, point}}
 
   abbrev clip : Option (List (List Item))
   clip = clip_behind s e.plan
@@ -250,8 +222,7 @@ module _ {D : Type 0} (disk : Ghosts D) (s : Core D) (is : IsStudio disk s) (goi
       done_studio : IsStudio disk done
       done_studio =
           led_studio disk mid mid_is (refs makes) h clip track_then leads new.store (s.journal_end + 5 + len)
-          (omega (arith, adds.fields.1)) (omega arith) h' uses' counts' next_track
-          next_layout moved tracked after
+          (omega (arith, adds.fields.1)) (omega arith) h' uses' counts' next_track next_layout moved tracked after
 
       done_lasts : Lasts disk s (with_sound c sound (Ok Done))
           (record new {

@@ -1,79 +1,47 @@
 -- An edit that makes blocks: what its plan says of the studio with the blocks made, and its commit.
 use Rattle.std.proofs.Common.{◌≡◌, inr, refl, sym, ap, ◌∙◌, subst, ℕ, suc, ◌+◌, ◌*◌, ◌^◌, ◌≤◌, ◌<◌, ℤ, Option, None}
 use Rattle.std.proofs.Common.{List, ◌++◌, length, map, arith}
-use Rattle.std.specs.List.{AllByRecursion}
 use Rattle.std.proofs.lemmas.List.{take_all}
-use Rattle.pcm_base.specs.declared.block.BlockRef.{BlockRef}
-use Rattle.pcm_base.specs.declared.command.Call.{Call}
-use Rattle.pcm_base.specs.declared.entry.SoundMove.{SoundMove}
-use Rattle.pcm_base.specs.Cells.{Project}
-use Rattle.pcm_base.specs.Counters.{Needs, layouts_of}
-use Rattle.pcm_base.specs.History.{History, recorded}
-use Rattle.pcm_base.specs.Refusals.{call_tests}
-use Rattle.pcm_base.specs.Run.{outside}
-use Rattle.pcm_base.specs.Sizes.{project_body_most}
-use Rattle.pcm_base.specs.State.{current}
-use Rattle.pcm_base.specs.Step.{after}
-use Rattle.pcm_base.specs.Studio as model
+use Rattle.std.specs.List.{AllByRecursion}
+use Rattle.pcm_base.specs.{declared.block.BlockRef.BlockRef, declared.command.Call.Call}
+use Rattle.pcm_base.specs.{declared.entry.SoundMove.SoundMove, Cells.Project, Counters.Needs, Counters.layouts_of}
+use Rattle.pcm_base.specs.{History.History, History.recorded, Refusals.call_tests, Run.outside, Sizes.project_body_most}
+use Rattle.pcm_base.specs.{State.current, Step.after}
 use Rattle.disk_model.specs.declared.store.Store.{Ghosts}
 use Rattle.sample_block.specs.Sources.{samples_on}
 use Rattle.block_ledger.specs.Counts.{Counts}
 use Rattle.clip_track.specs.declared.items.Item.{Item}
-use Rattle.edit_ops.specs.declared.types.NewBlock.{NewBlock}
 use Rattle.edit_ops.specs.Plans.{AreWritten}
-use Rattle.record_body.specs.declared.body.Body.{Body}
-use Rattle.record_body.specs.declared.body.Body.TheVariants.{Edit}
-use Rattle.project_state.specs.declared.track.Track.{Track}
-use Rattle.record_body.specs.Kept.{current_tracks, Kept, before_of}
+use Rattle.record_body.specs.Saved.{current_tracks, Saved, before_of}
+use Rattle.record_body.specs.{declared.body.Body.Body, declared.body.Body.TheVariants.Edit, SavedValid.IsValidPoint}
+use Rattle.record_body.specs.{SavedValid.IsValidTagged, Valid.AllValidTracks, Valid.IsValidBody}
 use Rattle.project_state.specs.Meaning.{meant, point_blocks, history_blocks}
-use Rattle.record_body.specs.KeptSound.{IsSoundPoint, IsSoundTagged}
-use Rattle.project_state.specs.Numbers.{unnumbered}
-use Rattle.record_body.specs.Sound.{AllSoundTracks, IsSound}
-use Rattle.record_body.proofs.KeptBounds.{all_append, tagged_more}
-use Rattle.record_body.proofs.Unnumbered.{are_unnumbered, recorded_alike, sound_alike}
-use Rattle.editor_state.specs.Bodies.{IsLength, Writing}
-use Rattle.editor_state.specs.Core.{Core}
+use Rattle.project_state.specs.{declared.track.Track.Track, Numbers.unnumbered}
+use Rattle.record_body.proofs.SavedBounds.{all_append, tagged_more}
+use Rattle.record_body.proofs.Unnumbered.{are_unnumbered, recorded_alike, valid_alike}
 use Rattle.editor_state.specs.Edits.{IsEdit, IsPlanned, alone, beside, blocks_with, TaggedEdit, clip_behind}
 use Rattle.editor_state.specs.Edits.{history_behind}
-use Rattle.editor_state.specs.Made.{PiecesThere, batch_of, ids_from}
-use Rattle.editor_state.specs.Makes.{AreSynced, Making}
-use Rattle.editor_state.specs.Occurrences.{HasIds}
 use Rattle.editor_state.specs.Studios.{IsGiven, IsHeld, IsStudio, clip_blocks, named_blocks, pin_blocks, studio_by}
 use Rattle.editor_state.specs.Studios.{studio_of}
-use Rattle.editor_state.proofs.Blocks.BlockNumbers.{few_more}
-use Rattle.editor_state.proofs.Blocks.BlockLists.{among_all}
-use Rattle.editor_commits.proofs.BodyBytes.{lengths_all}
-use Rattle.editor_commits.proofs.CurrentProject.{current_sound, may_all}
-use Rattle.editor_commits.proofs.CommitImages.{IsCommit, Matches}
-use Rattle.editor_state.proofs.Blocks.NamedBlocks.{named_counted}
-use Rattle.editor_state.proofs.Lists.{all_left, all_so}
-use Rattle.editor_blocks.proofs.BlockCommits.{has_made}
-use Rattle.editor_blocks.proofs.StudioBlocks.{IsNewId, are_made, made_held, made_studio, refs, refs_ids}
-use Rattle.editor_state.proofs.Images.SameMeaning.{same_by}
+use Rattle.editor_state.specs.{Bodies.IsLength, Bodies.Writing, Core.Core, Made.PiecesThere, Made.batch_of}
+use Rattle.editor_state.specs.{Made.ids_from, Makes.AreSynced, Makes.Making, Occurrences.HasIds}
+use Rattle.editor_state.proofs.{Blocks.BlockNumbers.few_more, Blocks.BlockLists.among_all}
+use Rattle.editor_state.proofs.{Blocks.NamedBlocks.named_counted, Lists.all_left, Lists.all_so}
+use Rattle.editor_state.proofs.{Images.SameMeaning.same_by, Refusals.EarlyRefusals.HasMade}
 use Rattle.editor_commits.proofs.PointTags.{all_recorded, blocks_recorded, recorded_few, recorded_depth}
 use Rattle.editor_commits.proofs.PointTags.{recorded_current, tag_here}
-use Rattle.editor_state.proofs.Refusals.EarlyRefusals.{HasMade}
+use Rattle.editor_commits.proofs.{BodyBytes.lengths_all, CurrentProject.current_valid, CurrentProject.may_all}
+use Rattle.editor_commits.proofs.{CommitImages.IsCommit, CommitImages.Matches, TrackChanges.current_is}
+use Rattle.editor_blocks.proofs.BlockCommits.{has_made}
+use Rattle.editor_blocks.proofs.StudioBlocks.{IsNewId, are_made, made_held, made_studio, refs, refs_ids}
 use Rattle.editor_blocks.proofs.BlockSamples.{old_same, supposed, supposed_written}
-use Rattle.layout_uses.proofs.Times.{Few}
-use Rattle.editor_commits.proofs.TrackChanges.{current_is}
 use Rattle.editor_blocks.proofs.PieceBlocks.{makes_all, IsCounted, counted_there, there_of}
+use Rattle.layout_uses.proofs.Times.{Few}
+use Rattle.pcm_base.specs.Studio as model
 
 module _ {D : Type 0} (disk : Ghosts D) (s : Core D) (is : IsStudio disk s) (going : s.stopped ≡ None)
     (e : TaggedEdit) (plan : IsPlanned s e) where
-  abbrev given : ℕ → ℤ
-  given = e.given
-
-  abbrev makes : List NewBlock
-  makes = e.plan.makes
-
-  abbrev tag : ℕ
-  tag = e.tag
-
-  abbrev tracks : ℕ
-  tracks = e.plan.tracks
-
-  abbrev point : List Track
-  point = e.plan.point
+  open e use {given, tag, plan.{makes, tracks, point}}
 
   abbrev clip : Option (List (List Item))
   clip = clip_behind s e.plan
@@ -125,7 +93,7 @@ module _ {D : Type 0} (disk : Ghosts D) (s : Core D) (is : IsStudio disk s) (goi
     pub point_few : Few mid.counts (point_blocks point)
     point_few =
         few_more disk mid mid_is point track_then
-        (subst (λ (z : Core D). IsSoundPoint z.block_size z.next_block track_then point) (sym making.is) plan.sound)
+        (subst (λ (z : Core D). IsValidPoint z.block_size z.next_block track_then point) (sym making.is) plan.valid)
 
   -- ---- where it leads
 
@@ -142,17 +110,17 @@ module _ {D : Type 0} (disk : Ghosts D) (s : Core D) (is : IsStudio disk s) (goi
   clip_covers_then P all = among_all P (blocks_with s makes) (clip_blocks clip) plan.clip_names all
 
   pub points_then : AllByRecursion
-      (IsSoundTagged s.block_size (s.next_block + n) track_then (s.commit_number + suc e.more)) edit_history.points
+      (IsValidTagged s.block_size (s.next_block + n) track_then (s.commit_number + suc e.more)) edit_history.points
   points_then =
       let Here : List Track × ℕ → Type 0 =
-      IsSoundTagged s.block_size (s.next_block + n) track_then (s.commit_number + suc e.more) in
-      let Was : List Track × ℕ → Type 0 = IsSoundTagged s.block_size s.next_block s.next_track s.commit_number in
+      IsValidTagged s.block_size (s.next_block + n) track_then (s.commit_number + suc e.more) in
+      let Was : List Track × ℕ → Type 0 = IsValidTagged s.block_size s.next_block s.next_track s.commit_number in
       let old = all_so Was Here
       (λ q h. tagged_more s.block_size s.next_block s.next_track s.commit_number (s.next_block + n) track_then
       (s.commit_number + suc e.more) q (omega arith) (omega arith) (omega arith) h) s.history.points is.points in
       let tags = all_so Was (λ (q : List Track × ℕ). q.1 ≤ s.commit_number) (λ q h. h.1) s.history.points is.points in
-      all_recorded s.history point tag Here old (plan.sound, omega (arith, plan.tag_given)) (
-        plan.sound,
+      all_recorded s.history point tag Here old (plan.valid, omega (arith, plan.tag_given)) (
+        plan.valid,
         omega (arith, tag_here s.commit_number s.history tags),
       )
 
@@ -180,10 +148,10 @@ module _ {D : Type 0} (disk : Ghosts D) (s : Core D) (is : IsStudio disk s) (goi
     ShortBy len u = (5 * e.more ≤ len) × (len ≤ e.more * (5 + project_body_most s.block_size (current u.state))
         + project_body_most s.block_size (project_then u))
 
-    now_sound : IsSoundPoint s.block_size (s.next_block + n) track_then (current_tracks s.history)
-    now_sound = (tagged_more s.block_size s.next_block s.next_track 0 (s.next_block + n) track_then 0
+    now_valid : IsValidPoint s.block_size (s.next_block + n) track_then (current_tracks s.history)
+    now_valid = (tagged_more s.block_size s.next_block s.next_track 0 (s.next_block + n) track_then 0
         (current_tracks s.history, 0) (omega arith) (omega arith) (omega arith)
-        (current_sound disk s is, omega arith)).0
+        (current_valid disk s is, omega arith)).0
 
     short_by : (len : ℕ) → IsLength s writes len → (block : ℕ → ℕ → ℤ)
         → AreWritten (beside block given) makes → ShortBy len (by block)
@@ -194,7 +162,7 @@ module _ {D : Type 0} (disk : Ghosts D) (s : Core D) (is : IsStudio disk s) (goi
         × (len ≤ e.more * (5 + project_body_most s.block_size (meant (alone block) (current_tracks s.history)))
         + project_body_most s.block_size q)) (sym (then_meant block written))
         (lengths_all s (s.next_block + n) track_then (alone block) s.block_size tag (s.next_block + n) track_then point
-        (omega (arith, is.format.block_least)) now_sound plan.sound e.more len one))
+        (omega (arith, is.format.block_least)) now_valid plan.valid e.more len one))
 
     -- The records are as short as the call needs, also where the blocks are not made: it does not hang on samples.
     short : (len : ℕ) → IsLength s writes len → ShortBy len t
@@ -242,14 +210,13 @@ module _ {D : Type 0} (disk : Ghosts D) (s : Core D) (is : IsStudio disk s) (goi
         written held =
             let first = (are_made disk s is given makes n grown making going
             (omega arith) plan.new most pieces_there held).written in
-            subst (AreWritten (beside (samples_on (disk.reads store)) given))
-            (take_all n makes (omega arith)) first
+            subst (AreWritten (beside (samples_on (disk.reads store)) given)) (take_all n makes (omega arith)) first
 
-        sound_then : (m : ℕ) (k : Kept) → Matches grown m k → (ts : List Track)
-            → IsSoundPoint s.block_size (s.next_block + n) track_then ts
-            → IsSound m (before_of k) (Edit tag (s.next_block + n) track_then (map unnumbered ts))
-        sound_then m k e ts sound =
-            let plain = sound_alike s.block_size (s.next_block + n) track_then ts sound in record {
+        valid_then : (m : ℕ) (k : Saved) → Matches grown m k → (ts : List Track)
+            → IsValidPoint s.block_size (s.next_block + n) track_then ts
+            → IsValidBody m (before_of k) (Edit tag (s.next_block + n) track_then (map unnumbered ts))
+        valid_then m k e ts valid =
+            let plain = valid_alike s.block_size (s.next_block + n) track_then ts valid in record {
               tag_number = omega (arith, plan.tag_given, is.counters.commit_most);
               tag_given = omega (arith, plan.tag_given, e.commit);
               block_least = omega (arith, is.counters.block_least);
@@ -260,8 +227,8 @@ module _ {D : Type 0} (disk : Ghosts D) (s : Core D) (is : IsStudio disk s) (goi
               track_later = omega (arith, e.next_track);
               few = plain.few;
               rising = plain.rising;
-              sound = subst (λ (b : ℕ). AllSoundTracks b (s.next_block + n) track_then (map unnumbered ts))
-                  (sym e.block_size) plain.sound;
+              valid = subst (λ (b : ℕ). AllValidTracks b (s.next_block + n) track_then (map unnumbered ts))
+                  (sym e.block_size) plain.valid;
               unnumbered = are_unnumbered ts;
             }
 
@@ -272,8 +239,8 @@ module _ {D : Type 0} (disk : Ghosts D) (s : Core D) (is : IsStudio disk s) (goi
           block_then = λ k. s.next_block + n;
           block_most = λ k le. omega arith;
           tells = λ m k at room. may_all disk grown grown_is m k tag (s.next_block + n) track_then point e.more at room
-              plan.tag_counts (sound_then m k at (current_tracks s.history) now_sound)
-              (sound_then m k at point plan.sound);
+              plan.tag_counts (valid_then m k at (current_tracks s.history) now_valid)
+              (valid_then m k at point plan.valid);
           leads = λ m k at. λ i. record {
             history = (ap (λ (h : History (List Track)). recorded h (map unnumbered point) tag) at.history
                 ∙ sym (recorded_alike s.history point tag)) i;

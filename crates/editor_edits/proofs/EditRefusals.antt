@@ -1,49 +1,32 @@
 -- An edit that makes blocks, refused before the first of them.
-use Rattle.std.proofs.Common.{◌≡◌, inl, inr, ⊎_elim, refl, sym, subst, ℕ, suc, ◌+◌, ◌≤◌, None, List, length}
-use Rattle.std.proofs.Common.{Err, ◌∙◌, true, false, arith}
+use Rattle.std.proofs.Common.{◌≡◌, inl, inr, ⊎_elim, refl, sym, subst, ℕ, suc, ◌+◌, ◌≤◌, None, List, length, Err, ◌∙◌}
+use Rattle.std.proofs.Common.{true, false, arith}
 use Rattle.std.proofs.lemmas.Bool.{true≢false}
-use Rattle.pcm_base.specs.declared.command.Call.{Call}
-use Rattle.pcm_base.specs.declared.entry.SoundMove.{SoundMove}
-use Rattle.pcm_base.specs.declared.refusal.Refusal.{Refusal}
-use Rattle.pcm_base.specs.declared.refusal.Refusal.TheVariants as refusal
-use Rattle.pcm_base.specs.declared.limits.TheConstants.{LONGEST_BODY}
-use Rattle.pcm_base.specs.Counters.{Needs}
-use Rattle.pcm_base.specs.History.{History, recorded}
-use Rattle.pcm_base.specs.Run.{outside}
-use Rattle.pcm_base.specs.Studio as model
+use Rattle.pcm_base.specs.{declared.command.Call.Call, declared.entry.SoundMove.SoundMove}
+use Rattle.pcm_base.specs.{declared.refusal.Refusal.Refusal, declared.limits.TheConstants.LONGEST_BODY, Counters.Needs}
+use Rattle.pcm_base.specs.{History.History, History.recorded, Run.outside}
 use Rattle.disk_model.specs.declared.store.Store.{Ghosts}
 use Rattle.disk_model.proofs.Frames.{Fewer}
 use Rattle.record_body.specs.declared.body.Body.TheVariants.{Edit}
 use Rattle.project_state.specs.declared.track.Track.{Track}
-use Rattle.editor_state.specs.Adding.{Outgrows}
 use Rattle.editor_state.specs.Bodies.{IsLength, Writing, all_len, whole_len}
-use Rattle.editor_state.specs.Core.{Core}
 use Rattle.editor_state.specs.Edits.{IsEdit, IsPlanned, NotPrepared, TaggedEdit}
-use Rattle.editor_state.specs.Exchanges.{may_begin}
-use Rattle.editor_state.specs.Spent.{WouldMake}
-use Rattle.editor_state.specs.Studios.{IsStudio, studio_of}
-use Rattle.editor_state.specs.Took.{Took, with_sound}
+use Rattle.editor_state.specs.{Adding.Outgrows, Core.Core, Exchanges.may_begin, Spent.WouldMake, Studios.IsStudio}
+use Rattle.editor_state.specs.{Studios.studio_of, Took.Took, Took.with_sound}
 use Rattle.editor_state.proofs.Refusals.VaultRefusals.{inside_begins_none, unprepared_asks}
-use Rattle.editor_edits.proofs.EditPlans.{edit_draws, edit_needs, edit_own}
 use Rattle.editor_state.proofs.Refusals.CallTests.{unprepared_plain}
 use Rattle.editor_state.proofs.Calls.FileRemovals.{commit_frees, commit_removes_none}
 use Rattle.editor_state.proofs.Refusals.CommitTests.{counter_spent, exceeded}
 use Rattle.editor_state.proofs.Refusals.CounterNumbers.{outgrowing_needed, spent_needed}
 use Rattle.editor_state.proofs.Refusals.EarlyRefusals.{refuses, wants}
+use Rattle.editor_edits.proofs.EditPlans.{edit_draws, edit_needs, edit_own}
+use Rattle.pcm_base.specs.declared.refusal.Refusal.TheVariants as refusal
+use Rattle.pcm_base.specs.Studio as model
 
 module _ {D : Type 0} (disk : Ghosts D) (s : Core D) (is : IsStudio disk s) (going : s.stopped ≡ None)
-    (e : TaggedEdit) (plan : IsPlanned s e)
-    (c : Call) (sound : SoundMove)
-    (edit : IsEdit disk s c sound e)
+    (e : TaggedEdit) (plan : IsPlanned s e) (c : Call) (sound : SoundMove) (edit : IsEdit disk s c sound e)
     (fewer : (store : D) → Fewer disk store) where
-  abbrev tag : ℕ
-  tag = e.tag
-
-  abbrev tracks : ℕ
-  tracks = e.plan.tracks
-
-  abbrev point : List Track
-  point = e.plan.point
+  open e use {tag, plan.{tracks, point}}
 
   abbrev n : ℕ
   n = length e.plan.makes
@@ -79,8 +62,7 @@ module _ {D : Type 0} (disk : Ghosts D) (s : Core D) (is : IsStudio disk s) (goi
         so = inl (record { edit = e; planned = plan; means = edit; blocks_are = refl; writes = refl });
       } in
       let none : may_begin why ≡ false =
-      inside_begins_none why
-      (unprepared_asks s n tracks e.plan.layouts (suc e.more) (whole_len s writes) len why not)
+      inside_begins_none why (unprepared_asks s n tracks e.plan.layouts (suc e.more) (whole_len s writes) len why not)
       (unprepared_plain s n tracks e.plan.layouts (suc e.more) (whole_len s writes) len why not) in
       let draws = edit_draws disk s is going e plan c sound edit in
       let brief : (k : ℕ) → may_begin why ≡ true → k ≤ LONGEST_BODY = λ k off. absurd (true≢false (sym off ∙ none)) in

@@ -1,33 +1,20 @@
 -- An edit whose commit was carried out, as the code takes its point, and then its clipboard.
 use Rattle.std.proofs.Common.{◌≡◌, ◌∙◌, sym, ap, subst, ℕ, suc, ◌+◌, List, Option, Ok, ◌≤◌, ◌<◌, ◌^◌, None}
-use Rattle.pcm_base.specs.declared.answer.Reply.TheVariants.{Done}
-use Rattle.pcm_base.specs.declared.command.Call.{Call}
-use Rattle.pcm_base.specs.declared.entry.SoundMove.{SoundMove}
-use Rattle.pcm_base.specs.Counters.{commits_of}
-use Rattle.pcm_base.specs.History.{History, recorded}
+use Rattle.pcm_base.specs.{declared.answer.Reply.TheVariants.Done, declared.command.Call.Call}
+use Rattle.pcm_base.specs.{declared.entry.SoundMove.SoundMove, Counters.commits_of, History.History, History.recorded}
 use Rattle.disk_model.specs.declared.store.Store.{Ghosts}
 use Rattle.disk_model.proofs.Frames.{Fewer}
-use Rattle.block_ledger.specs.Counts.{Counts, occurrences}
-use Rattle.block_ledger.specs.Entries.{count_of}
-use Rattle.layout_uses.specs.declared.tally.Tally.{Tally}
-use Rattle.layout_uses.specs.Layouts.{history_tracks}
-use Rattle.layout_uses.specs.Tallies.{Becomes, MayBecome}
+use Rattle.block_ledger.specs.{Counts.Counts, Counts.occurrences, Entries.count_of}
+use Rattle.layout_uses.specs.{declared.tally.Tally.Tally, Layouts.history_tracks, Tallies.Becomes, Tallies.MayBecome}
 use Rattle.clip_track.specs.declared.items.Item.{Item}
-use Rattle.project_state.specs.declared.track.Track.{Track}
-use Rattle.project_state.specs.Meaning.{point_blocks}
-use Rattle.editor_state.specs.Applied.{Lasts}
-use Rattle.editor_state.specs.Core.{Core}
+use Rattle.project_state.specs.{declared.track.Track.Track, Meaning.point_blocks}
 use Rattle.editor_state.specs.Edits.{Committed, IsEdit, IsPlanned, TaggedEdit, clip_behind, clip_then, history_behind}
-use Rattle.editor_state.specs.Occurrences.{HasAll, HasIds, Moves}
-use Rattle.editor_state.specs.Studios.{IsStudio, MayPaste, clip_blocks}
-use Rattle.editor_state.specs.Took.{Took, with_sound}
-use Rattle.editor_edits.proofs.EditBodies.{commit_of}
+use Rattle.editor_state.specs.{Applied.Lasts, Core.Core, Occurrences.HasAll, Occurrences.HasIds, Occurrences.Moves}
+use Rattle.editor_state.specs.{Studios.IsStudio, Studios.MayPaste, Studios.clip_blocks, Took.Took, Took.with_sound}
 use Rattle.editor_edits.proofs.EditPlans.{point_few, point_there}
-use Rattle.editor_commits.proofs.CurrentProject.{may_become}
-use Rattle.editor_edits.proofs.EditSteps.{edit_ok}
-use Rattle.editor_commits.proofs.CommitStudios.{CountsAfter}
-use Rattle.editor_edits.proofs.EditLasts.{lasts_ok}
 use Rattle.editor_edits.proofs.EditClipboard.{counted_mid, taken_counted, taken_named, taken_room, taken_there}
+use Rattle.editor_edits.proofs.{EditBodies.commit_of, EditSteps.edit_ok, EditLasts.lasts_ok}
+use Rattle.editor_commits.proofs.{CurrentProject.may_become, CommitStudios.CountsAfter}
 use Rattle.layout_uses.proofs.Times.{Few}
 
 -- the commit of an edit carried out, and the point that came back from its body recorded
@@ -77,17 +64,13 @@ module _ {D : Type 0} (disk : Ghosts D) (s : Core D) (is : IsStudio disk s) (goi
     pub recorded_counted : (tally : Tally) → count_of tally.uses ≡ new.uses → count_of tally.ledger ≡ new.counts
         → MayBecome e.plan.point (history_tracks s.history) tally
     recorded_counted tally uses counts = may_become disk s is e.plan.point (s.next_layout + e.plan.layouts) plan.layouts
-        plan.sound.few tally (counted_mid disk s is going e plan k.mid k.making tally (uses ∙ uses_are)
+        plan.valid.few tally (counted_mid disk s is going e plan k.mid k.making tally (uses ∙ uses_are)
         (counts ∙ sym counts_are))
 
   -- ---- after it, before the clipboard is taken
 
   module _ (now : Core D) (at : IsPointed disk s e now) where
-    abbrev new : Core D
-    new = at.new
-
-    abbrev k : Committed disk s (commit_of s e) (Ok (tt {0})) at.new
-    k = at.committed
+    open at use {new, committed as k}
 
     uses_was : count_of at.before.uses ≡ s.uses
     uses_was = at.uses_before ∙ uses_are new k
@@ -134,8 +117,7 @@ module _ {D : Type 0} (disk : Ghosts D) (s : Core D) (is : IsStudio disk s) (goi
 
     -- ---- after it all
 
-    module _ (last : Core D)
-        (fields : last ≡ record now { clipboard = clip_behind now e.plan; counts = last.counts })
+    module _ (last : Core D) (fields : last ≡ record now { clipboard = clip_behind now e.plan; counts = last.counts })
         (taken : Moves now.counts last.counts (clip_blocks now.clipboard) (clip_blocks (clip_behind now e.plan))) where
       takes : Moves now.counts last.counts (clip_blocks s.clipboard) (clip_blocks (clip_behind s e.plan))
       takes = subst (λ (z : Option (List (List Item))).

@@ -1,68 +1,44 @@
 -- An edit that makes blocks, as one step: its record was added, or was not, or nothing was prepared.
-use Rattle.std.proofs.Common.{ℤ, ◌≡◌, inl, inr, ⊎_elim, refl, sym, ap, ◌∙◌, subst, ℕ, suc, ◌+◌}
-use Rattle.std.proofs.Common.{Option, None}
-use Rattle.std.proofs.Common.{List, length, Ok, Err, arith}
-use Rattle.pcm_base.specs.declared.answer.Reply.TheVariants.{Done}
-use Rattle.pcm_base.specs.declared.command.Call.{Call}
-use Rattle.pcm_base.specs.declared.entry.SoundMove.{SoundMove}
-use Rattle.pcm_base.specs.declared.refusal.Refusal.{Refusal}
-use Rattle.pcm_base.specs.declared.refusal.Refusal.TheVariants as refusal
-use Rattle.pcm_base.specs.declared.wav.WavFault.TheVariants.{Truncated}
-use Rattle.pcm_base.specs.History.{History}
-use Rattle.pcm_base.specs.Run.{followed, outside}
-use Rattle.pcm_base.specs.Studio as model
+use Rattle.std.proofs.Common.{◌≡◌, inl, inr, ⊎_elim, refl, sym, ap, ◌∙◌, subst, ℕ, suc, ◌+◌, Option, None, List, length}
+use Rattle.std.proofs.Common.{Ok, Err, arith, ◌≤◌, [], Result, IfErr}
+use Rattle.std.specs.Prelude.{IfOk}
+use Rattle.pcm_base.specs.Run.{followed, outside, Answers, CarriesOut, refusal_of}
+use Rattle.pcm_base.specs.{declared.answer.Reply.Reply, declared.answer.Reply.TheVariants.Done}
+use Rattle.pcm_base.specs.{declared.command.Call.Call, declared.entry.SoundMove.SoundMove}
+use Rattle.pcm_base.specs.{declared.refusal.Refusal.Refusal, Counters.Needs, Counters.RecordsNeed, Counters.layouts_of}
+use Rattle.pcm_base.specs.{declared.wav.WavFault.TheVariants.Truncated, History.History, Refusals.call_tests}
 use Rattle.disk_model.specs.declared.store.Store.{Ghosts}
 use Rattle.disk_model.proofs.Frames.{Fewer}
 use Rattle.block_ledger.specs.Counts.{Counts}
 use Rattle.clip_track.specs.declared.items.Item.{Item}
-use Rattle.edit_ops.specs.declared.types.NewBlock.{NewBlock}
-use Rattle.record_body.specs.declared.body.Body.TheVariants.{Edit}
+use Rattle.record_body.specs.{declared.body.Body.TheVariants.Edit, Saved.current_tracks}
 use Rattle.project_state.specs.declared.track.Track.{Track}
-use Rattle.record_body.specs.Kept.{current_tracks}
-use Rattle.editor_state.specs.Adding.{Adds, AddsBody, stopped_by}
 use Rattle.editor_state.specs.Bodies.{Writing, all_bytes, all_len, whole_len}
-use Rattle.editor_state.specs.Core.{Core}
 use Rattle.editor_state.specs.Edits.{Carried, Committed, IsEdit, IsPlanned, IsPrepared, TaggedEdit, clip_behind, Serves}
 use Rattle.editor_state.specs.Edits.{history_behind}
-use Rattle.editor_state.specs.Made.{batch_of, ids_from}
-use Rattle.editor_state.specs.Makes.{AreSynced, Making, OrCut}
-use Rattle.editor_state.specs.Studios.{IsHeld, IsStudio, studio_of}
-use Rattle.editor_state.specs.Took.{Took, with_sound}
-use Rattle.editor_edits.proofs.EditBodies.{commit_of}
-use Rattle.editor_commits.proofs.CommitFailures.{failed, failed_state}
-use Rattle.editor_edits.proofs.EditPlans.{edit_draws, pieces_there}
-use Rattle.editor_commits.proofs.CommitImages.{IsTested}
-use Rattle.editor_commits.proofs.CommitStudios.{CountsAfter}
-use Rattle.editor_commits.proofs.CommitSteps.{grown_state, grows}
-use Rattle.editor_blocks.proofs.BlockFaults.{not_made}
-use Rattle.editor_blocks.proofs.BlocksLeft.{all_failed, all_ids, all_left}
-use Rattle.editor_blocks.proofs.StudioBlocks.{refs}
-use Rattle.editor_state.proofs.Calls.CallPremises.{TookWhere}
+use Rattle.editor_state.specs.Left.{CountsIds, Left, Stops, Untouched}
+use Rattle.editor_state.specs.{Adding.Adds, Adding.AddsBody, Adding.stopped_by, Core.Core, Made.batch_of, Made.ids_from}
+use Rattle.editor_state.specs.{Makes.AreSynced, Makes.Making, Makes.OrCut, Spent.NamesGiven, Spent.Needed}
+use Rattle.editor_state.specs.{Studios.IsHeld, Studios.IsStudio, Studios.studio_of, Took.Took, Took.with_sound}
+use Rattle.editor_edits.proofs.EditPlans.{edit_draws, pieces_there, edit_needs, edit_own, grown_draws, grown_held}
+use Rattle.editor_edits.proofs.EditPlans.{grown_is, grown_made, grown_own, move}
+use Rattle.editor_edits.proofs.{EditBodies.commit_of, EditRefusals.not_prepared, GivenIds.names_given}
+use Rattle.editor_commits.proofs.{CommitFailures.failed, CommitFailures.failed_state, CommitImages.IsTested}
+use Rattle.editor_commits.proofs.{CommitImages.IsCommit, CommitStudios.CountsAfter, CommitSteps.grown_state}
+use Rattle.editor_commits.proofs.{CommitSteps.grows, PointTags.recorded_current}
+use Rattle.editor_blocks.proofs.{BlockCommits.composed, BlockFaults.not_made, BlocksLeft.all_failed, BlocksLeft.all_ids}
+use Rattle.editor_blocks.proofs.{BlocksLeft.all_left, StudioBlocks.refs, StudioBlocks.made_state}
 use Rattle.editor_state.proofs.Calls.FileRemovals.{commit_removes_none, ids_made, begun_untouched, broken_begins}
-use Rattle.editor_edits.proofs.EditRefusals.{not_prepared}
-use Rattle.editor_edits.proofs.EditCommits.{from_start, mid_draws, mid_state, mid_tested, need, passes}
-use Rattle.editor_edits.proofs.GivenIds.{names_given}
-use Rattle.editor_commits.proofs.PointTags.{recorded_current}
+use Rattle.editor_state.proofs.Calls.FileRemovals.{commit_leaves_journal}
+use Rattle.editor_state.proofs.{Calls.CallPremises.TookWhere, Refusals.CommitTests.nothing}
+use Rattle.editor_state.proofs.{Refusals.EarlyRefusals.HasMade}
+use Rattle.pcm_base.specs.declared.refusal.Refusal.TheVariants as refusal
+use Rattle.pcm_base.specs.Studio as model
 
 module _ {D : Type 0} (disk : Ghosts D) (s : Core D) (is : IsStudio disk s) (going : s.stopped ≡ None)
-    (e : TaggedEdit) (plan : IsPlanned s e)
-    (c : Call) (sound : SoundMove)
-    (edit : IsEdit disk s c sound e)
+    (e : TaggedEdit) (plan : IsPlanned s e) (c : Call) (sound : SoundMove) (edit : IsEdit disk s c sound e)
     (fewer : (store : D) → Fewer disk store) where
-  abbrev given : ℕ → ℤ
-  given = e.given
-
-  abbrev makes : List NewBlock
-  makes = e.plan.makes
-
-  abbrev tag : ℕ
-  tag = e.tag
-
-  abbrev tracks : ℕ
-  tracks = e.plan.tracks
-
-  abbrev point : List Track
-  point = e.plan.point
+  open e use {given, tag, plan.{makes, tracks, point}}
 
   abbrev clip : Option (List (List Item))
   clip = clip_behind s e.plan
@@ -88,6 +64,10 @@ module _ {D : Type 0} (disk : Ghosts D) (s : Core D) (is : IsStudio disk s) (goi
   abbrev t : model.Studio
   t = studio_of disk s
 
+  need : (k : ℕ) → k ≤ n → Needs (outside t sound) t c k len
+  need = edit_needs disk s is going e plan c sound edit len (inr refl)
+
+  -- its blocks are made: what is left is one commit, and the call from there is the call from the start
   module _ (prepared : IsPrepared s n tracks e.plan.layouts (suc e.more) len) (store : D) (counts : Counts)
       (making : Making disk s (batch_of given makes) n
       (record s { store = store; counts = counts; next_block = s.next_block + n }))
@@ -96,12 +76,83 @@ module _ {D : Type 0} (disk : Ghosts D) (s : Core D) (is : IsStudio disk s) (goi
     abbrev mid : Core D
     mid = record s { store = store; counts = counts; next_block = s.next_block + n }
 
-    tested : IsTested (IsHeld disk s) disk mid (refs makes) c sound tracks writes h clip track_then
-    tested = mid_tested disk s is going e plan c sound edit fewer prepared store counts making reads synced
+    mid_is : IsStudio disk mid
+    mid_is = grown_is disk s is going e plan c sound edit store counts making prepared.blocks prepared.ids
 
-    state : IsHeld disk s
+    mid_made : HasMade (IsHeld disk s) disk mid (refs makes)
+    mid_made = grown_made disk s is going e plan c sound edit store counts making prepared.blocks prepared.ids synced
+
+    mid_move : IsCommit (IsHeld disk s) disk mid (refs makes) c sound tracks writes h clip track_then
+    mid_move = move disk s is going e plan c sound edit store counts making prepared.blocks prepared.ids
+
+    mid_own : call_tests (outside (studio_of disk mid) sound) (studio_of disk mid).state c ≡ None
+    mid_own = grown_own disk s is going e plan c sound edit store counts making prepared.blocks prepared.ids
+
+    mid_draws : layouts_of (outside (studio_of disk mid) sound) (studio_of disk mid).state c ≡ e.plan.layouts
+    mid_draws = grown_draws disk s is going e plan c sound edit store counts making prepared.blocks prepared.ids
+
+    -- the commit that is left, where the disk held the studio before the first block
+    mid_tested : IsTested (IsHeld disk s) disk mid (refs makes) c sound tracks writes h clip track_then
+    mid_tested = record {
+      is = mid_is;
+      holds = grown_held disk s is going e plan c sound edit store counts making prepared.blocks prepared.ids;
+      has_made = mid_made;
+      move = mid_move;
+      going = going;
+      own = mid_own;
+      ids = prepared.ids;
+      number = omega (arith, prepared.number);
+      layouts = omega (arith, prepared.numbers, mid_draws);
+    }
+
+    mid_state : IsHeld disk s
         → studio_of disk mid ≡ record t { next_block = s.next_block + n; read_faults = disk.read_fault_count store }
-    state = mid_state disk s is going e plan c sound edit fewer prepared store counts making reads synced
+    mid_state =
+        made_state disk s is given makes n mid making going (omega arith) plan.new prepared.blocks
+        (pieces_there disk s is going e plan)
+
+    back : IsHeld disk s → (blocks len : ℕ) → Needs (outside (studio_of disk mid) sound)
+        (studio_of disk mid) c blocks len → Needs (outside t sound) t c blocks len
+    back held blocks len needs =
+        let most = edit.most in
+        let at = edit.call.needed (studio_of disk mid).rate (studio_of disk mid) blocks len needs in
+        edit.call.needs t.rate t blocks len
+        (subst (λ (u : model.Studio). RecordsNeed e.more (most u.block_size u.state) (outside u sound) u c blocks len)
+        (mid_state held) at)
+
+    passes : refusal_of (outside t sound) t c n len ≡ None
+    passes =
+        let own = edit_own disk s is going e plan c sound edit in
+        nothing t c sound tracks edit.call.commit n len is.counters.pin_most
+        is.journal.generation_most going own prepared.blocks prepared.ids prepared.number
+        (omega (arith, prepared.numbers, edit_draws disk s is going e plan c sound edit)) prepared.place prepared.short
+
+    carried_out : CarriesOut t c sound Done (followed (outside t sound) t c n len t.next_layout)
+    carried_out = record {
+      blocks = n;
+      len = len;
+      layout = t.next_layout;
+      needs = need n (omega arith);
+      passed = passes;
+      draws = (omega arith, omega arith);
+      answers = edit.call.commit.done t.rate t.state;
+      is = refl;
+      heard = edit.call.commit.heard t.rate t.state;
+    }
+
+    -- the call from the studio that has the blocks is the call from the start
+    from_start : (told_as : Result Reply Refusal) (new : Core D)
+        → TookWhere (IsHeld disk s) disk mid c sound told_as new
+        → new.next_block ≡ mid.next_block → (IsHeld disk s → Answers t c sound told_as (studio_of disk new))
+        → CountsIds s [] new → IfOk told_as (λ r. NamesGiven s new) → IfErr told_as (Needed disk s c sound)
+        → Untouched disk s c told_as new → Stops disk s told_as new
+        → IfErr told_as (Left disk s new) → Took disk s (with_sound c sound told_as) new
+    from_start told_as new took next step ids named needed untouched stops left =
+        composed disk s is given makes going plan.new prepared.blocks
+        (pieces_there disk s is going e plan) c sound mid making
+        told_as new took next back (λ held. (len, carried_out)) step
+        (commit_removes_none c edit.call.commit.many) (commit_leaves_journal c edit.call.commit.many) ids named needed
+        untouched stops left
 
     -- the records were not added
     edit_failed : (new : Core D) → AddsBody {R = Unit {0}} disk mid writes (Err refusal.DiskFault) new
@@ -113,21 +164,20 @@ module _ {D : Type 0} (disk : Ghosts D) (s : Core D) (is : IsStudio disk s) (goi
         let here : Core D = stopped_by disk mid new.store in
         let none : s.next_block + n + 0 ≡ s.next_block + n = omega arith in
         let stopped_state = λ (held : IsHeld disk s).
-        failed_state tested new adds held
-        ∙ (λ i. record (state held i) {
+        failed_state mid_tested new adds held
+        ∙ (λ i. record (mid_state held i) {
           stopped = here.stopped;
           next_block = none i;
           read_faults = disk.read_fault_count new.store;
           change_faults = disk.change_fault_count new.store;
         }) in
         subst (λ (z : Core D). Took disk s (with_sound c sound (Err refusal.DiskFault)) z) (sym adds.fields.0)
-        (from_start disk s is going e plan c sound edit fewer prepared store counts making reads synced
-        (Err refusal.DiskFault) here (failed tested new adds) refl (λ held. inr (inr (record {
+        (from_start (Err refusal.DiskFault) here (failed mid_tested new adds) refl (λ held. inr (inr (record {
           breaks = record {
             going = going;
             blocks = n;
             len = len;
-            needs = need disk s is going e plan c sound edit fewer n (omega arith);
+            needs = need n (omega arith);
             room = prepared.blocks;
             is = stopped_state held;
             leaves = commit.leaves t;
@@ -168,20 +218,18 @@ module _ {D : Type 0} (disk : Ghosts D) (s : Core D) (is : IsStudio disk s) (goi
 
       done_took : TookWhere (IsHeld disk s) disk mid c sound (Ok Done) done
       done_took =
-          let same =
-          mid_draws disk s is going e plan c sound edit fewer prepared store counts making reads synced in
-          grows tested q new adds h' uses' counts' next_track next_layout moved tracked after
-          (omega (arith, drawn), omega (arith, drawn, same))
+          grows mid_tested q new adds h' uses' counts' next_track next_layout moved tracked after
+          (omega (arith, drawn), omega (arith, drawn, mid_draws))
 
       done_state : IsHeld disk s → studio_of disk done ≡ followed (outside t sound) t c n len next_layout
       done_state held =
           let len = len in
           let one : studio_of disk done
           ≡ followed (outside (studio_of disk mid) sound) (studio_of disk mid) c 0 len next_layout =
-          grown_state tested q new adds h' uses' counts' next_track next_layout moved tracked after held in
+          grown_state mid_tested q new adds h' uses' counts' next_track next_layout moved tracked after held in
           let none : s.next_block + n + 0 ≡ s.next_block + n = omega arith in
           one
-          ∙ (λ i. followed (outside (state held i) sound) (state held i) c 0 len next_layout)
+          ∙ (λ i. followed (outside (mid_state held i) sound) (mid_state held i) c 0 len next_layout)
           ∙ (λ i. record (followed (outside t sound) t c n len next_layout) {
             next_block = none i;
             read_faults = reads i;
@@ -206,17 +254,16 @@ module _ {D : Type 0} (disk : Ghosts D) (s : Core D) (is : IsStudio disk s) (goi
             next_track = next_track;
             next_layout = next_layout;
           })) (sym adds.fields.0)
-          (from_start disk s is going e plan c sound edit fewer prepared store counts making reads synced
-          (Ok Done) done done_took refl (λ held. record {
+          (from_start (Ok Done) done done_took refl (λ held. record {
             blocks = n;
             len = len;
             layout = next_layout;
-            needs = need disk s is going e plan c sound edit fewer n (omega arith);
+            needs = need n (omega arith);
             draws = (
               omega (arith, drawn),
               omega (arith, drawn, edit_draws disk s is going e plan c sound edit),
             );
-            passed = passes disk s is going e plan c sound edit fewer prepared store counts making reads synced;
+            passed = passes;
             answers = edit.call.commit.done t.rate t.state;
             is = done_state held;
             heard = edit.call.commit.heard t.rate t.state;
@@ -238,14 +285,13 @@ module _ {D : Type 0} (disk : Ghosts D) (s : Core D) (is : IsStudio disk s) (goi
   pub edit_err : (why : Refusal) (new : Core D) → Serves c why → Carried disk s (commit_of s e) (Err why) new
       → OrCut why (Took disk s (with_sound c sound (Err why)) new)
   edit_err why new serves carried = ⊎_elim
-      (λ not. or_cut why (not_prepared disk s is going e plan c sound edit fewer why new not.0
-      not.1))
+      (λ not. or_cut why (not_prepared disk s is going e plan c sound edit fewer why new not.0 not.1))
       (⊎_elim
       (λ some.
       not_made disk s is given makes going plan.new some.0.blocks
       (pieces_there disk s is going e plan) c sound (commit_removes_none c edit.call.commit.many)
       len some.0.short edit.call.commit.changes (edit.call.commit.leaves t)
-      (λ held. need disk s is going e plan c sound edit fewer) e.count plan.origin why new some.1 serves)
+      (λ held. need) e.count plan.origin why new some.1 serves)
       (λ last.
       let it = last.1 in
       let count = suc e.more in

@@ -1,21 +1,15 @@
 -- The studio that a plan leads to names each new block.
-use Rattle.std.proofs.Common.{◌≡◌, ⊎_elim, refl, ap, ◌∙◌, subst, ℕ, ◌+◌, ◌≤◌, ◌<◌, if◌then◌else◌}
-use Rattle.std.proofs.Common.{List, [], ◌∷◌, length, arith}
+use Rattle.std.proofs.Common.{◌≡◌, ⊎_elim, refl, ap, ◌∙◌, subst, ℕ, ◌+◌, ◌≤◌, ◌<◌, if◌then◌else◌, List, [], ◌∷◌, length}
+use Rattle.std.proofs.Common.{arith}
+use Rattle.std.proofs.{lemmas.Bool.cases_lt, lemmas.Bool.Decides.eqb_tells}
 use Rattle.std.specs.List.{AllByRecursion}
-use Rattle.std.proofs.lemmas.Bool.{cases_lt}
-use Rattle.std.proofs.lemmas.Bool.Decides.{eqb_tells}
 use Rattle.pcm_base.specs.declared.block.BlockRef.{BlockRef}
 use Rattle.disk_model.specs.declared.store.Store.{Ghosts}
-use Rattle.edit_ops.specs.declared.types.NewBlock.{NewBlock}
-use Rattle.edit_ops.specs.Plans.{AreNew}
-use Rattle.project_state.specs.declared.track.Track.{Track}
-use Rattle.record_body.specs.Kept.{current_tracks}
-use Rattle.project_state.specs.Meaning.{point_blocks}
-use Rattle.editor_state.specs.Core.{Core}
-use Rattle.editor_state.specs.Edits.{IsPlanned, TaggedEdit}
-use Rattle.editor_state.specs.Occurrences.{times_named}
-use Rattle.editor_state.specs.Spent.{NamesGiven}
-use Rattle.editor_state.specs.Studios.{IsStudio, named_blocks}
+use Rattle.edit_ops.specs.{declared.types.NewBlock.NewBlock, Plans.AreNew}
+use Rattle.project_state.specs.{declared.track.Track.Track, Meaning.point_blocks}
+use Rattle.record_body.specs.Saved.{current_tracks}
+use Rattle.editor_state.specs.{Core.Core, Edits.IsPlanned, Edits.TaggedEdit, Occurrences.times_named, Spent.NamesGiven}
+use Rattle.editor_state.specs.{Studios.IsStudio, Studios.named_blocks}
 use Rattle.editor_state.proofs.Blocks.BlockLists.{among_all}
 use Rattle.editor_commits.proofs.CurrentProject.{old_names}
 use Rattle.editor_blocks.proofs.StudioBlocks.{refs}

@@ -1,19 +1,14 @@
 -- An edit whose samples are known before it is carried out.
 use Rattle.std.proofs.Common.{◌⊎◌, ⊎_elim, ℕ, ℤ, sym, subst, refl, Result, Ok, Err, IfErr}
 use Rattle.std.proofs.lemmas.Bool.{true≢false}
-use Rattle.pcm_base.specs.declared.command.Call.{Call}
-use Rattle.pcm_base.specs.declared.entry.SoundMove.{SoundMove}
-use Rattle.pcm_base.specs.declared.refusal.Refusal.{Refusal}
-use Rattle.pcm_base.specs.declared.refusal.Refusal.TheVariants as refusal
-use Rattle.pcm_base.specs.declared.wav.WavFault.TheVariants.{Truncated}
+use Rattle.pcm_base.specs.{declared.command.Call.Call, declared.entry.SoundMove.SoundMove}
+use Rattle.pcm_base.specs.{declared.refusal.Refusal.Refusal, declared.wav.WavFault.TheVariants.Truncated}
 use Rattle.disk_model.specs.declared.store.Store.{Ghosts}
-use Rattle.piece_store.specs.declared.given.Given.{Given}
-use Rattle.piece_store.specs.Bringing.{brought, brought_by}
-use Rattle.piece_store.specs.Brought.{Brought, MayBring}
-use Rattle.editor_state.specs.Core.{Core}
-use Rattle.editor_state.specs.declared.planned.Planned.{Planned}
+use Rattle.block_writer.specs.{declared.given.Given.Given, Bringing.brought, Bringing.brought_by, Brought.Brought}
+use Rattle.block_writer.specs.{Brought.MayBring}
 use Rattle.editor_state.specs.Edits.{IsEdit, IsPlanned, MayServe, tagged_by}
-use Rattle.editor_state.specs.Vaults.{IfCutShort, IsInsideOr}
+use Rattle.editor_state.specs.{Core.Core, declared.planned.Planned.Planned, Vaults.IfCutShort, Vaults.IsInsideOr}
+use Rattle.pcm_base.specs.declared.refusal.Refusal.TheVariants as refusal
 
 -- what is planned does not depend on which samples come
 pub planned_any : {D : Type 0} (s : Core D) (p : Planned) (tag more : ℕ) (b : Brought) (f g : ℕ → ℤ)
@@ -25,7 +20,7 @@ planned_any s p tag more b f g is = record {
   tag_given = is.tag_given;
   tag_counts = is.tag_counts;
   layouts = is.layouts;
-  sound = is.sound;
+  valid = is.valid;
   names = is.names;
   used = is.used;
   clip_names = is.clip_names;

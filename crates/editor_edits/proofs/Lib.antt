@@ -1,6 +1,5 @@
 -- The plan, and the commit once its blocks are made.
 pub mod EditPlans
-pub mod EditCommits
 pub mod EditBodies
 pub mod GivenIds
 -- What refuses it.

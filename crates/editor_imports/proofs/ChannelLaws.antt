@@ -1,25 +1,20 @@
 -- Tracks for the channels of a sound, as an edit that makes blocks.
 use Rattle.std.proofs.Common.{◌≡◌, refl, sym, ap, ap₂, ◌∙◌, subst, ℕ, zero, suc, ◌+◌, ◌*◌, ◌^◌, ◌≤◌, nat_lt, not, ℤ}
 use Rattle.std.proofs.Common.{Bool, true, false, Option, Some, None, List, [], ◌∷◌, ◌++◌, length, map, replicate, arith}
-use Rattle.std.proofs.lemmas.Bool.{eq-eqb}
-use Rattle.std.proofs.lemmas.List.{length-map}
-use Rattle.pcm_base.specs.declared.refusal.Refusal.{Refusal}
-use Rattle.pcm_base.specs.declared.refusal.Refusal.TheVariants as refusal
-use Rattle.pcm_base.specs.Refusals.{◌otherwise◌, file_tests, import_tests, length_limit, refused_if}
-use Rattle.pcm_base.specs.Refusals.{track_limit}
-use Rattle.pcm_base.specs.Sizes.{lists_length}
-use Rattle.pcm_base.specs.State.{State, current}
-use Rattle.pcm_base.specs.Step.{channels_in, channels_of}
+use Rattle.std.proofs.{lemmas.Bool.eq-eqb, lemmas.List.length-map}
+use Rattle.pcm_base.specs.Refusals.{◌otherwise◌, file_tests, import_tests, length_limit, refused_if, track_limit}
+use Rattle.pcm_base.specs.{declared.refusal.Refusal.Refusal, Sizes.lists_length, State.State, State.current}
+use Rattle.pcm_base.specs.{Step.channels_in, Step.channels_of}
 use Rattle.pcm_base.proofs.Pieces.{length-stretch}
 use Rattle.envelope_view.specs.Answers.{IsUndamaged}
-use Rattle.project_state.specs.declared.track.Track.{Track}
-use Rattle.record_body.specs.Sound.{AllSoundTracks}
-use Rattle.project_state.specs.Tracks.{AllBelow, AreAbove}
+use Rattle.project_state.specs.{declared.track.Track.Track, Tracks.AllBelow, Tracks.AreAbove}
+use Rattle.record_body.specs.Valid.{AllValidTracks}
 use Rattle.editor_state.specs.Vaults.{HasChannels, IsInside}
 use Rattle.editor_imports.specs.Imports.{channels_refusal, parts_from, total_of}
 use Rattle.editor_state.proofs.Refusals.RefusalEffects.{IsPlain, own_plain}
 use Rattle.editor_state.proofs.Refusals.CallTests.{either, lengths, one, own_by}
 use Rattle.editor_commits.proofs.TrackLists.{above_less}
+use Rattle.pcm_base.specs.declared.refusal.Refusal.TheVariants as refusal
 
 -- ---- the channels of a sound
 
@@ -102,7 +97,7 @@ pub rising_append : (n id : ℕ) (xs ys : List Track) → n ≤ id → AreAbove 
 rising_append n id [] ys le a b c = above_less n id ys le c
 rising_append n id (x ∷ xs) ys le a b c = (a.0, rising_append (x.id + 1) id xs ys (omega (arith, b.0)) a.1 b.1 c)
 
-pub sound_append : (m block track : ℕ) (xs ys : List Track) → AllSoundTracks m block track xs
-    → AllSoundTracks m block track ys → AllSoundTracks m block track (xs ++ ys)
-sound_append m block track [] ys a b = b
-sound_append m block track (x ∷ xs) ys a b = (a.0, sound_append m block track xs ys a.1 b)
+pub valid_append : (m block track : ℕ) (xs ys : List Track) → AllValidTracks m block track xs
+    → AllValidTracks m block track ys → AllValidTracks m block track (xs ++ ys)
+valid_append m block track [] ys a b = b
+valid_append m block track (x ∷ xs) ys a b = (a.0, valid_append m block track xs ys a.1 b)

@@ -1,54 +1,38 @@
 -- Tracks for channels, as a step of the studio.
-use Rattle.std.proofs.Common.{◌≡◌, refl, sym, ap, ◌∙◌, subst, ℕ, ◌+◌, ◌/◌, ◌≤◌, ℤ}
-use Rattle.std.proofs.Common.{Option, Some, None, List, [], ◌++◌, length, length-append, map}
-use Rattle.std.proofs.Common.{Contains, Err, arith}
+use Rattle.std.proofs.Common.{◌≡◌, refl, sym, ap, ◌∙◌, subst, ℕ, ◌+◌, ◌/◌, ◌≤◌, ℤ, Option, Some, None, List, [], ◌++◌}
+use Rattle.std.proofs.Common.{length, length-append, map, Contains, Err, arith}
+use Rattle.std.proofs.{lemmas.Grind.flat_map-append, lemmas.List.length-map, lemmas.List.map-append}
 use Rattle.std.specs.List.{AllByRecursion}
-use Rattle.std.proofs.lemmas.Grind.{flat_map-append}
-use Rattle.std.proofs.lemmas.List.{length-map, map-append}
-use Rattle.pcm_base.specs.declared.block.BlockRef.{BlockRef}
-use Rattle.pcm_base.specs.declared.command.Call.{Call}
-use Rattle.pcm_base.specs.declared.command.Call.TheVariants.{Line}
-use Rattle.pcm_base.specs.declared.command.Command.TheVariants as command
-use Rattle.pcm_base.specs.declared.refusal.Refusal.{Refusal}
-use Rattle.pcm_base.specs.Cells.{Project}
-use Rattle.pcm_base.specs.History.{recorded}
-use Rattle.pcm_base.specs.Pieces.{Sources}
-use Rattle.pcm_base.specs.Refusals.{call_tests}
-use Rattle.pcm_base.specs.Run.{outside}
-use Rattle.pcm_base.specs.Sizes.{blocks_of_channels}
-use Rattle.pcm_base.specs.State.{State, current}
-use Rattle.pcm_base.specs.Step.{channel_tracks, channels_of, with_channels}
+use Rattle.pcm_base.specs.{declared.block.BlockRef.BlockRef, declared.command.Call.Call}
+use Rattle.pcm_base.specs.{declared.command.Call.TheVariants.Line, declared.refusal.Refusal.Refusal, Cells.Project}
+use Rattle.pcm_base.specs.{History.recorded, Pieces.Sources, Refusals.call_tests, Run.outside, Sizes.blocks_of_channels}
+use Rattle.pcm_base.specs.{State.State, State.current, Step.channel_tracks, Step.channels_of, Step.with_channels}
 use Rattle.disk_model.specs.declared.store.Store.{Ghosts}
 use Rattle.disk_model.proofs.Frames.{Fewer}
 use Rattle.sample_block.specs.Sources.{sources_of}
 use Rattle.clip_track.specs.Clips.{layout_blocks}
-use Rattle.edit_ops.specs.declared.types.NewBlock.{NewBlock}
-use Rattle.edit_ops.specs.Plans.{AllNewFrom, AreWritten}
+use Rattle.edit_ops.specs.{declared.types.NewBlock.NewBlock, Plans.AllNewFrom, Plans.AreWritten}
 use Rattle.project_state.specs.declared.track.Track.{Track}
-use Rattle.record_body.specs.Kept.{current_tracks}
 use Rattle.project_state.specs.Meaning.{history_blocks, meant, meant_history, meant_track, point_blocks}
-use Rattle.record_body.specs.KeptSound.{IsSoundPoint}
-use Rattle.record_body.proofs.KeptBounds.{all_append}
+use Rattle.record_body.specs.{Saved.current_tracks, SavedValid.IsValidPoint}
+use Rattle.record_body.proofs.SavedBounds.{all_append}
 use Rattle.project_state.proofs.MeantHistories.{meant_recorded}
 use Rattle.layout_uses.specs.Drawing.{HasNumbers}
-use Rattle.editor_state.specs.declared.planned.Planned.{Planned}
-use Rattle.editor_imports.specs.declared.growing.Growing.{Growing}
-use Rattle.editor_state.specs.Commits.{IsCommitCall}
-use Rattle.editor_state.specs.Core.{Core}
 use Rattle.editor_state.specs.Edits.{AreAmong, IsEdit, IsPlanned, alone, beside, blocks_with, tagged}
-use Rattle.editor_imports.specs.Imports.{AreGrown, IsChannelsPlan, parts_from, channels_refusal, total_of}
-use Rattle.editor_state.specs.Vaults.{HasChannels, left_as}
 use Rattle.editor_state.specs.Studios.{IsStudio, clip_blocks, named_blocks, pin_blocks, studio_by}
-use Rattle.editor_state.specs.Took.{Took, with_sound}
+use Rattle.editor_state.specs.{declared.planned.Planned.Planned, Commits.IsCommitCall, Core.Core, Vaults.HasChannels}
+use Rattle.editor_state.specs.{Vaults.left_as, Took.Took, Took.with_sound}
+use Rattle.editor_imports.specs.declared.growing.Growing.{Growing}
+use Rattle.editor_imports.specs.Imports.{AreGrown, IsChannelsPlan, parts_from, channels_refusal, total_of}
 use Rattle.editor_state.proofs.Blocks.BlockLists.{among_all, among_itself}
-use Rattle.editor_commits.proofs.CurrentProject.{current_below, current_sound, old_names}
-use Rattle.editor_imports.proofs.ImportRefusals.{own_refused}
-use Rattle.editor_imports.proofs.ChannelTests.{channels_pass}
 use Rattle.editor_state.proofs.Lists.{all_left, all_right}
+use Rattle.editor_commits.proofs.CurrentProject.{current_below, current_valid, old_names}
+use Rattle.editor_commits.proofs.TrackChanges.{current_is}
+use Rattle.editor_imports.proofs.ChannelLaws.{channels_are, rising_append, valid_append, tests_are, total_lists}
+use Rattle.editor_imports.proofs.{ImportRefusals.own_refused, ChannelTests.channels_pass}
 use Rattle.editor_blocks.proofs.StudioBlocks.{point_more, refs}
 use Rattle.editor_blocks.proofs.PlanBlocks.{all_readable, new_from_more}
-use Rattle.editor_commits.proofs.TrackChanges.{current_is}
-use Rattle.editor_imports.proofs.ChannelLaws.{channels_are, rising_append, sound_append, tests_are, total_lists}
+use Rattle.pcm_base.specs.declared.command.Command.TheVariants as command
 
 module _ {D : Type 0} (disk : Ghosts D) (s : Core D) (is : IsStudio disk s) (channels : List (List ℤ)) where
   abbrev counts : List ℕ
@@ -127,16 +111,16 @@ module _ {D : Type 0} (disk : Ghosts D) (s : Core D) (is : IsStudio disk s) (cha
         clip = None;
       }
 
-      point_sound : IsSoundPoint m (s.next_block + n) (s.next_track + length counts) point
-      point_sound =
-          let was = current_sound disk s is in
+      point_valid : IsValidPoint m (s.next_block + n) (s.next_track + length counts) point
+      point_valid =
+          let was = current_valid disk s is in
           let later = point_more m s.next_block s.next_track (s.next_block + n) (s.next_track + length counts) old
           (omega arith) (omega arith) was in
           record {
             few = omega (arith, length-append old are.news, are.many, few_tracks);
             rising = rising_append 1 s.next_track old are.news is.counters.track_least was.rising
                 (current_below disk s is) are.ids;
-            sound = sound_append m (s.next_block + n) (s.next_track + length counts) old are.news later.sound are.sound;
+            valid = valid_append m (s.next_block + n) (s.next_track + length counts) old are.news later.valid are.valid;
           }
 
       numbers : HasNumbers old s.next_layout point (s.next_layout + length counts)
@@ -180,7 +164,7 @@ module _ {D : Type 0} (disk : Ghosts D) (s : Core D) (is : IsStudio disk s) (cha
             tag_given = omega arith;
             tag_counts = λ some. absurd (omega (arith, some));
             layouts = numbers;
-            sound = point_sound;
+            valid = point_valid;
             names = point_names;
             used = point_used;
             clip_names = clip_names;
@@ -227,8 +211,7 @@ module _ {D : Type 0} (disk : Ghosts D) (s : Core D) (is : IsStudio disk s) (cha
             })
 
       module _ (name : List ℕ) (sound : Option (List ℕ)) (has : HasChannels sound s.rate channels)
-          (count : ℕ) (given : ℕ → ℤ)
-          (bring : parts_from given 0 counts ≡ channels) where
+          (count : ℕ) (given : ℕ → ℤ) (bring : parts_from given 0 counts ≡ channels) where
         few_blocks : n ≤ blocks_of_channels m channels
         few_blocks = omega (
           arith,
@@ -255,8 +238,7 @@ module _ {D : Type 0} (disk : Ghosts D) (s : Core D) (is : IsStudio disk s) (cha
 
     -- ---- by the plan that the code has
 
-    module _ (p : Planned) (plan : IsChannelsPlan s counts p) (keeps : p.clip ≡ None)
-        (count : ℕ) (given : ℕ → ℤ) where
+    module _ (p : Planned) (plan : IsChannelsPlan s counts p) (keeps : p.clip ≡ None) (count : ℕ) (given : ℕ → ℤ) where
       same : plan_then plan.grown plan.are ≡ p
       same = λ i. record {
         point = sym (plan.point_is ∙ plan.are.point) i;

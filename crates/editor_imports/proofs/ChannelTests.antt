@@ -1,28 +1,20 @@
 -- What is known of the numbers of samples of channels that no test refuses.
-use Rattle.std.proofs.Common.{◌≡◌, ⊎_elim, refl, sym, ap, ◌∙◌, subst, ℕ, zero, suc, ◌+◌, ◌*◌, ◌^◌, ◌≤◌, ◌<◌}
-use Rattle.std.proofs.Common.{nat_lt, Option, Some, None, List, [], ◌∷◌, ◌++◌, length, take}
-use Rattle.std.proofs.Common.{length-append, slice_index_or, arith}
+use Rattle.std.proofs.Common.{◌≡◌, ⊎_elim, refl, sym, ap, ◌∙◌, subst, ℕ, zero, suc, ◌+◌, ◌*◌, ◌^◌, ◌≤◌, ◌<◌, nat_lt}
+use Rattle.std.proofs.Common.{Option, None, List, [], ◌∷◌, ◌++◌, length, take, length-append, slice_index_or, arith}
 use Rattle.std.proofs.lemmas.Bool.{cases_lt, lt-ltb}
-use Rattle.std.proofs.lemmas.Option.{none-some}
-use Rattle.std.proofs.lemmas.List.{length-take}
-use Rattle.std.proofs.Math.Nat.{div-le_self}
+use Rattle.std.proofs.{lemmas.Option.none-some, lemmas.List.length-take, Math.Nat.div-le_self}
 use Rattle.pcm_base.specs.declared.refusal.Refusal.{Refusal}
-use Rattle.pcm_base.specs.declared.refusal.Refusal.TheVariants as refusal
 use Rattle.pcm_base.specs.Refusals.{◌otherwise◌, length_limit, refused_if}
-use Rattle.project_state.specs.declared.track.Track.{Track}
-use Rattle.project_state.specs.Tracks.{AllBelow}
-use Rattle.record_body.specs.Kept.{current_tracks}
-use Rattle.editor_state.specs.Core.{Core}
-use Rattle.editor_state.specs.declared.planned.Planned.{Planned}
+use Rattle.project_state.specs.{declared.track.Track.Track, Tracks.AllBelow}
+use Rattle.record_body.specs.Saved.{current_tracks}
+use Rattle.editor_state.specs.{Core.Core, declared.planned.Planned.Planned}
 use Rattle.editor_imports.specs.declared.growing.Growing.{Growing}
 use Rattle.editor_imports.specs.Imports.{AreGrown, IsChannelsPlan, channels_refusal, total_of}
 use Rattle.editor_commits.proofs.TrackLists.{given_below}
+use Rattle.model_laws.proofs.OwnTests.{both_passed}
+use Rattle.pcm_base.specs.declared.refusal.Refusal.TheVariants as refusal
 
 -- ---- tests
-
-both_none : (a b : Option Refusal) → (a otherwise b) ≡ None → (a ≡ None) × (b ≡ None)
-both_none None b e = (refl, e)
-both_none (Some why) b e = absurd (none-some why (sym e))
 
 not_refused : (m n : ℕ) (why : Refusal) → refused_if (nat_lt m n) why ≡ None → n ≤ m
 not_refused m n why e = ⊎_elim
@@ -33,22 +25,22 @@ not_refused m n why e = ⊎_elim
 pub channels_pass : (tracks : ℕ) (counts : List ℕ) → channels_refusal tracks counts ≡ None
     → (tracks + length counts ≤ 64) × (length_limit counts ≡ None)
 channels_pass tracks counts e =
-    let both = both_none (refused_if (nat_lt 64 (tracks + length counts)) refusal.TrackLimit) (length_limit counts) e in
+    let both = both_passed (refused_if (nat_lt 64 (tracks + length counts)) refusal.TrackLimit) (length_limit counts) e in
     (not_refused 64 (tracks + length counts) refusal.TrackLimit both.0, both.1)
 
 pub short_at : (counts : List ℕ) (i : ℕ) → length_limit counts ≡ None → i < length counts
     → length_limit (slice_index_or counts i 0 ∷ []) ≡ None
 short_at [] i e less = absurd (omega (arith, less))
 short_at (n ∷ ns) zero e less =
-    let first = (both_none (refused_if (nat_lt (2 ^ 32) n) (refusal.LengthLimit n)) (length_limit ns) e).0 in
+    let first = (both_passed (refused_if (nat_lt (2 ^ 32) n) (refusal.LengthLimit n)) (length_limit ns) e).0 in
     ap (λ (z : Option Refusal). z otherwise None) first
 short_at (n ∷ ns) (suc i) e less =
-    short_at ns i (both_none (refused_if (nat_lt (2 ^ 32) n) (refusal.LengthLimit n)) (length_limit ns) e).1
+    short_at ns i (both_passed (refused_if (nat_lt (2 ^ 32) n) (refusal.LengthLimit n)) (length_limit ns) e).1
     (omega (arith, less))
 
 short_is : (n : ℕ) → length_limit (n ∷ []) ≡ None → n ≤ 2 ^ 32
 short_is n e = not_refused (2 ^ 32) n (refusal.LengthLimit n)
-    (both_none (refused_if (nat_lt (2 ^ 32) n) (refusal.LengthLimit n)) None e).0
+    (both_passed (refused_if (nat_lt (2 ^ 32) n) (refusal.LengthLimit n)) None e).0
 
 total_short : (counts : List ℕ) (i : ℕ) → length_limit counts ≡ None
     → total_of (take i counts) ≤ length counts * 4294967296
@@ -56,7 +48,7 @@ total_short [] zero e = omega arith
 total_short [] (suc i) e = omega arith
 total_short (n ∷ ns) zero e = omega arith
 total_short (n ∷ ns) (suc i) e =
-    let both = both_none (refused_if (nat_lt (2 ^ 32) n) (refusal.LengthLimit n)) (length_limit ns) e in
+    let both = both_passed (refused_if (nat_lt (2 ^ 32) n) (refusal.LengthLimit n)) (length_limit ns) e in
     omega (arith, not_refused (2 ^ 32) n (refusal.LengthLimit n) both.0, total_short ns i both.1)
 
 pub take_more : (counts : List ℕ) (i : ℕ) → i < length counts
@@ -81,14 +73,7 @@ below_later id later (x ∷ xs) le a = (omega (arith, a.0, le), below_later id l
 
 module _ {D : Type 0} (s : Core D) (counts : List ℕ) (i : ℕ) (g : Growing) (was : AreGrown s (take i counts) g)
     (pass : length_limit counts ≡ None) where
-  abbrev m : ℕ
-  m = s.block_size
-
-  abbrev next : ℕ
-  next = s.next_block
-
-  abbrev id : ℕ
-  id = s.next_track
+  open s use {block_size as m, next_block as next, next_track as id}
 
   abbrev old : List Track
   old = current_tracks s.history
@@ -106,7 +91,7 @@ module _ {D : Type 0} (s : Core D) (counts : List ℕ) (i : ℕ) (g : Growing) (
   grown_below n same less below =
       let len = length-take i counts in
       let news = below_later (id + length (take i counts)) n was.news (omega (arith, same, len, less))
-      (given_below m (next + length g.makes.items) (id + length (take i counts)) was.news was.sound) in
+      (given_below m (next + length g.makes.items) (id + length (take i counts)) was.news was.valid) in
       subst (AllBelow n) (sym was.point)
       (below_append n old was.news (below_later id n old (omega (arith, same)) below) news)
 

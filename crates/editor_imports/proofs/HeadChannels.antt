@@ -1,33 +1,23 @@
 -- The channels of a sound whose frames are where a head says, as new tracks.
-use Rattle.std.proofs.Common.{◌≡◌, ◌<◌, ◌+◌, ◌*◌, ◌^◌, ℕ, zero, suc, ℤ, Option, Some, None, List, ◌∷◌, Ok}
-use Rattle.std.proofs.Common.{Bool, true, false, IsTrue, FitsSigned, length, map, replicate, refl, sym, ap, ap₂, subst}
-use Rattle.std.proofs.Common.{◌∙◌, arith}
-use Rattle.std.specs.Int.{w16}
-use Rattle.std.specs.List.{range_with_len}
+use Rattle.std.proofs.Common.{◌≡◌, ◌<◌, ◌+◌, ◌*◌, ◌^◌, ℕ, zero, suc, ℤ, Option, Some, None, List, ◌∷◌, Ok, Bool, true}
+use Rattle.std.proofs.Common.{false, IsTrue, FitsSigned, length, map, replicate, refl, sym, ap, ap₂, subst, ◌∙◌, arith}
 use Rattle.std.proofs.Math.Nat.{mul-add, mul_comm}
 use Rattle.std.proofs.lemmas.Bool.{and_from, and_left, le-leb, true≢false}
-use Rattle.pcm_base.specs.declared.command.Call.TheVariants.{Line}
-use Rattle.pcm_base.specs.declared.command.Command.TheVariants as command
-use Rattle.pcm_base.specs.Outside.{Sounds}
-use Rattle.pcm_base.specs.Pieces.{stretch}
-use Rattle.pcm_base.specs.Wave.{wav_of}
+use Rattle.std.specs.{Int.w16, List.range_with_len}
+use Rattle.pcm_base.specs.{declared.command.Call.TheVariants.Line, Outside.Sounds, Pieces.stretch, Wave.wav_of}
 use Rattle.disk_model.specs.declared.store.Store.{Ghosts}
 use Rattle.edit_ports.specs.Sounds.{sound_bytes}
-use Rattle.wav_pcm.specs.declared.heads.WavHead.{WavHead}
-use Rattle.wav_pcm.specs.Heads.{Finds, HasShape, IsHeadOf, bytes_of}
-use Rattle.piece_store.specs.Brought.{Brought, MayBring}
+use Rattle.wav_pcm.specs.{declared.heads.WavHead.WavHead, Heads.Finds, Heads.HasShape, Heads.IsHeadOf, Heads.bytes_of}
+use Rattle.block_writer.specs.Brought.{Brought, MayBring}
 use Rattle.sound_import.specs.Reading.{are_there, brought_from, sample_at}
-use Rattle.sound_import.proofs.PartsLaws.{channels_brought}
-use Rattle.sound_import.proofs.SomeLaws.{some_file}
-use Rattle.record_body.specs.Kept.{current_tracks}
-use Rattle.editor_state.specs.declared.planned.Planned.{Planned}
-use Rattle.editor_state.specs.Core.{Core}
-use Rattle.editor_state.specs.Edits.{IsEdit, IsPlanned, tagged_by}
-use Rattle.editor_state.specs.Vaults.{HasChannels, left_as}
+use Rattle.sound_import.proofs.{PartsLaws.channels_brought, SomeLaws.some_file}
+use Rattle.record_body.specs.Saved.{current_tracks}
+use Rattle.editor_state.specs.{declared.planned.Planned.Planned, Core.Core, Edits.IsEdit, Edits.IsPlanned}
+use Rattle.editor_state.specs.{Edits.tagged_by, Vaults.HasChannels, Vaults.left_as, Studios.IsStudio}
 use Rattle.editor_imports.specs.Imports.{IsChannelsPlan, channels_refusal, parts_from, total_of}
-use Rattle.editor_state.specs.Studios.{IsStudio}
 use Rattle.editor_imports.proofs.ChannelLaws.{parts_counts, total_alike}
 use Rattle.editor_imports.proofs.ChannelSteps.{channels_edit, channels_planned}
+use Rattle.pcm_base.specs.declared.command.Command.TheVariants as command
 
 abbrev one_part : (ℕ → ℤ) → ℕ → ℕ → List ℤ
 one_part f frames c = stretch f (c * frames) frames
@@ -60,8 +50,7 @@ found_has bytes head rate finds same =
 
 -- a sound that is there has the channels that its head says
 pub head_has : (sound : Option (List ℕ)) (head : WavHead) (rate : ℕ) → IsHeadOf sound head → head.rate ≡ rate
-    → HasChannels sound rate
-    (parts_from (sample_at head (sound_bytes sound)) 0 (replicate head.channels head.frames))
+    → HasChannels sound rate (parts_from (sample_at head (sound_bytes sound)) 0 (replicate head.channels head.frames))
 head_has None head rate of same = absurd of
 head_has (Some bytes) head rate of same = found_has bytes head rate of same
 

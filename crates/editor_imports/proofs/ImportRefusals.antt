@@ -1,34 +1,26 @@
 -- An import that reading the sound refuses.
-use Rattle.std.proofs.Common.{◌≡◌, ◌<◌, inr, refl, ap, subst, ℕ, ◌+◌, Option, Some, None, List, Result, Ok, Err}
-use Rattle.std.proofs.Common.{arith}
+use Rattle.std.proofs.Common.{◌≡◌, ◌<◌, inr, refl, ap, subst, ℕ, ◌+◌, Option, Some, None, List, Result, Ok, Err, arith}
 use Rattle.std.specs.Prelude.{IfErr}
-use Rattle.pcm_base.specs.declared.command.Call.{Call}
-use Rattle.pcm_base.specs.declared.command.Call.TheVariants.{Line}
-use Rattle.pcm_base.specs.declared.command.Command.TheVariants as command
-use Rattle.pcm_base.specs.declared.refusal.Refusal.{Refusal}
-use Rattle.pcm_base.specs.declared.refusal.Refusal.TheVariants as refusal
-use Rattle.pcm_base.specs.declared.wav.WavFault.TheVariants.{Truncated}
-use Rattle.pcm_base.specs.Counters.{counter_tests, record_test}
-use Rattle.pcm_base.specs.Outside.{Outside}
-use Rattle.pcm_base.specs.Refusals.{◌otherwise◌, call_tests}
-use Rattle.pcm_base.specs.Run.{outside, stop_of}
-use Rattle.pcm_base.specs.Studio as model
+use Rattle.pcm_base.specs.{declared.command.Call.Call, declared.command.Call.TheVariants.Line}
+use Rattle.pcm_base.specs.{declared.refusal.Refusal.Refusal, declared.wav.WavFault.TheVariants.Truncated}
+use Rattle.pcm_base.specs.{Counters.counter_tests, Counters.record_test, Outside.Outside, Refusals.◌otherwise◌}
+use Rattle.pcm_base.specs.{Refusals.call_tests, Run.outside, Run.stop_of}
 use Rattle.disk_model.specs.declared.store.Store.{Ghosts}
 use Rattle.disk_model.proofs.Frames.{Fewer}
 use Rattle.wav_pcm.specs.declared.fault.SoundFault.TheVariants.{NoFile, Vault, BadWav, TooLong}
 use Rattle.sound_import.specs.declared.fault.ImportFault.{ImportFault}
 use Rattle.sound_import.specs.declared.fault.ImportFault.TheVariants.{Sound, RateDiffers}
-use Rattle.sound_import.specs.Imported as imported
 use Rattle.sound_import.specs.Imported.{IsRefused, import_refusal}
-use Rattle.editor_state.specs.Core.{Core}
-use Rattle.piece_store.specs.Brought.{Brought}
 use Rattle.editor_state.specs.Vaults.{IsCutShort, IsInsideOr, VaultCounted, VaultCountedBy, left_as}
-use Rattle.editor_state.specs.Makes.{RefusedBrought, RefusedBroughtBy}
-use Rattle.editor_state.specs.Studios.{IsStudio, studio_of}
-use Rattle.editor_state.specs.Took.{Took, with_sound}
-use Rattle.editor_state.proofs.Refusals.RefusalEffects.{IsPlain}
+use Rattle.editor_state.specs.{Core.Core, Makes.RefusedBrought, Makes.RefusedBroughtBy, Studios.IsStudio}
+use Rattle.editor_state.specs.{Studios.studio_of, Took.Took, Took.with_sound}
+use Rattle.block_writer.specs.Brought.{Brought}
 use Rattle.editor_state.proofs.Refusals.EarlyRefusals.{refuses, stays, wants}
-use Rattle.editor_state.proofs.Refusals.CounterNumbers.{tests_needed}
+use Rattle.editor_state.proofs.{Refusals.RefusalEffects.IsPlain, Refusals.CounterNumbers.tests_needed}
+use Rattle.pcm_base.specs.declared.command.Command.TheVariants as command
+use Rattle.pcm_base.specs.declared.refusal.Refusal.TheVariants as refusal
+use Rattle.pcm_base.specs.Studio as model
+use Rattle.sound_import.specs.Imported as imported
 
 -- the vault's count of faults is that of who brought its samples
 counted_by : (why : Refusal) (old new : ℕ) → RefusedBroughtBy why old new → VaultCountedBy why old new

@@ -1,42 +1,30 @@
 -- A project that grows by a track for each channel.
-use Rattle.std.proofs.Common.{◌≡◌, inr, refl, sym, ap, ◌∙◌, subst, ℕ, suc, ◌+◌, ◌/◌, ◌≤◌, ◌<◌, ℤ, List, []}
-use Rattle.std.proofs.Common.{◌∷◌, ◌++◌, append_assoc, length, Contains, length-append, arith}
-use Rattle.std.specs.List.{AllByRecursion}
-use Rattle.std.proofs.lemmas.List.{append-nil}
+use Rattle.std.proofs.Common.{◌≡◌, inr, refl, sym, ap, ◌∙◌, subst, ℕ, suc, ◌+◌, ◌/◌, ◌≤◌, ◌<◌, ℤ, List, [], ◌∷◌, ◌++◌}
+use Rattle.std.proofs.Common.{append_assoc, length, Contains, length-append, arith}
 use Rattle.std.proofs.lemmas.List.Elements.{Contains-append_left, Contains-append_right}
-use Rattle.std.proofs.lemmas.Grind.{flat_map-append}
-use Rattle.std.proofs.lemmas.Nat.{le-div}
 use Rattle.std.proofs.Math.Nat.{add-mul, div-mul-le_self}
-use Rattle.pcm_base.specs.declared.block.BlockRef.{BlockRef}
-use Rattle.pcm_base.specs.declared.piece.Piece.{Piece}
+use Rattle.std.proofs.{lemmas.List.append-nil, lemmas.Grind.flat_map-append, lemmas.Nat.le-div}
+use Rattle.std.specs.List.{AllByRecursion}
 use Rattle.pcm_base.specs.declared.piece.Piece.TheVariants.{Old, Scaled, Zero, Given}
-use Rattle.pcm_base.specs.Cells.{Project}
-use Rattle.pcm_base.specs.Edits.{as_cells}
-use Rattle.pcm_base.specs.Pieces.{Sources, stretch}
-use Rattle.pcm_base.specs.Step.{channel_tracks, new_track}
+use Rattle.pcm_base.specs.{declared.block.BlockRef.BlockRef, declared.piece.Piece.Piece, Cells.Project, Edits.as_cells}
+use Rattle.pcm_base.specs.{Pieces.Sources, Pieces.stretch, Step.channel_tracks, Step.new_track}
 use Rattle.block_sequence.specs.Origins.{AllFrom}
 use Rattle.clip_track.specs.Clips.{layout_blocks, layout_cells}
 use Rattle.edit_ops.specs.declared.types.NewBlock.{NewBlock}
 use Rattle.edit_ops.specs.Plans.{AllNewFrom, AreNew, AreWritten, ref_of}
-use Rattle.project_state.specs.declared.track.Track.{Track}
-use Rattle.record_body.specs.Kept.{current_tracks}
-use Rattle.project_state.specs.Meaning.{meant, meant_track, point_blocks}
-use Rattle.record_body.specs.Sound.{AllSoundTracks, IsSoundTrack}
-use Rattle.record_body.proofs.KeptBounds.{all_append, tagged_more}
+use Rattle.project_state.specs.{declared.track.Track.Track, Meaning.meant, Meaning.meant_track, Meaning.point_blocks}
+use Rattle.record_body.specs.{Saved.current_tracks, Valid.AllValidTracks, Valid.IsValidTrack}
+use Rattle.record_body.proofs.SavedBounds.{all_append, tagged_more}
 use Rattle.layout_uses.specs.Drawing.{HasNumbers}
-use Rattle.layout_uses.proofs.Draws.{numbers_more}
-use Rattle.layout_uses.proofs.Putting.{same_numbers}
-use Rattle.editor_state.specs.Core.{Core}
+use Rattle.layout_uses.proofs.{Draws.numbers_more, Putting.same_numbers}
+use Rattle.editor_state.specs.{Core.Core, Edits.AreAmong, Edits.alone, Edits.beside, Studios.IsGiven}
 use Rattle.editor_imports.specs.declared.growing.Growing.{Growing}
-use Rattle.editor_state.specs.Edits.{AreAmong, alone, beside}
 use Rattle.editor_imports.specs.Imports.{AddsChannel, AreGrown, parts_from, total_of, track_with}
-use Rattle.editor_state.specs.Studios.{IsGiven}
 use Rattle.editor_state.proofs.Blocks.BlockLists.{among_all, among_itself}
 use Rattle.editor_state.proofs.Lists.{all_left, all_right, all_so}
-use Rattle.editor_blocks.proofs.StudioBlocks.{IsNewId, refs, refs_ids}
-use Rattle.editor_blocks.proofs.PlanBlocks.{ids_clips, old_or_new}
-use Rattle.editor_blocks.proofs.LayoutBlocks.{layout_given, new_in}
-use Rattle.editor_commits.proofs.TrackLists.{above_less, given_below, more_rising, more_sound}
+use Rattle.editor_blocks.proofs.{StudioBlocks.IsNewId, StudioBlocks.refs, StudioBlocks.refs_ids, PlanBlocks.ids_clips}
+use Rattle.editor_blocks.proofs.{PlanBlocks.old_or_new, LayoutBlocks.layout_given, LayoutBlocks.new_in}
+use Rattle.editor_commits.proofs.TrackLists.{above_less, given_below, more_rising, more_valid}
 
 -- ---- lists one after another
 
@@ -120,7 +108,7 @@ grown_none s g point makes first brought number = record {
   point = point ∙ sym (append-nil (current_tracks s.history));
   ids = tt;
   many = refl;
-  sound = tt;
+  valid = tt;
   new = subst (AreNew s.block_size s.next_block) (sym makes) tt;
   origin = subst (λ (bs : List NewBlock). AllNewFrom [] g.brought bs) (sym makes) tt;
   names = tt;
@@ -146,14 +134,7 @@ div_more a b m some = le-div (a / m + b / m) (a + b) m some
 module _ {D : Type 0} (s : Core D) (some : 0 < s.block_size) (least : 16 ≤ s.next_block) (first : 1 ≤ s.next_track)
     (counts : List ℕ) (count : ℕ) (few : length counts < 64) (g h : Growing) (was : AreGrown s counts g)
     (a : AddsChannel s.block_size (s.next_track + length counts) count g h) where
-  abbrev m : ℕ
-  m = s.block_size
-
-  abbrev next : ℕ
-  next = s.next_block
-
-  abbrev id : ℕ
-  id = s.next_track
+  open s use {block_size as m, next_block as next, next_track as id}
 
   abbrev old : List Track
   old = current_tracks s.history
@@ -190,8 +171,8 @@ module _ {D : Type 0} (s : Core D) (some : 0 < s.block_size) (least : 16 ≤ s.n
       (λ b h. (omega (arith, h.0, least), omega (arith, h.1, long))) (refs ys) (refs_ids m n ys ys_new) in
       old_or_new (λ (b : BlockRef). IsGiven next' b.id) [] (layout_blocks a.plan.layout) ys a.is.plan.blocks tt ids
 
-  new_sound : IsSoundTrack m next' track' t
-  new_sound = record {
+  new_valid : IsValidTrack m next' track' t
+  new_valid = record {
     given = omega (arith, more);
     gain = omega arith;
     layout = a.is.layout;
@@ -199,17 +180,17 @@ module _ {D : Type 0} (s : Core D) (some : 0 < s.block_size) (least : 16 ≤ s.n
     blocks = ids_clips next' a.plan.layout given;
   }
 
-  old_sound : AllSoundTracks m next' track' was.news
-  old_sound =
+  old_valid : AllValidTracks m next' track' was.news
+  old_valid =
       (tagged_more m (next + length xs) (id + length counts) 0 next' track' 0 (was.news, 0) (omega (arith, long))
       (omega (arith, more)) (omega arith) (
         record {
           few = omega (arith, few, was.many);
           rising = above_less 1 id was.news first was.ids;
-          sound = was.sound;
+          valid = was.valid;
         },
         omega arith,
-      )).0.sound
+      )).0.valid
 
   every_names : AreAmong (refs xs ++ refs ys) (point_blocks (was.news ++ t ∷ []))
   every_names =
@@ -265,10 +246,10 @@ module _ {D : Type 0} (s : Core D) (some : 0 < s.block_size) (least : 16 ≤ s.n
   grown_more = record {
     news = was.news ++ t ∷ [];
     point = a.point ∙ ap (λ (z : List Track). z ++ t ∷ []) was.point ∙ append_assoc old was.news (t ∷ []);
-    ids = more_rising id was.news t was.ids (given_below m (next + length xs) (id + length counts) was.news was.sound)
+    ids = more_rising id was.news t was.ids (given_below m (next + length xs) (id + length counts) was.news was.valid)
         (omega arith);
     many = omega (arith, length-append was.news (t ∷ []), more, was.many);
-    sound = more_sound m next' track' was.news t old_sound new_sound;
+    valid = more_valid m next' track' was.news t old_valid new_valid;
     new = subst (AreNew m next) (sym a.makes) (new_append m next xs ys was.new ys_new);
     origin = subst (λ (bs : List NewBlock). AllNewFrom [] h.brought bs) (sym a.makes)
         (origin_append g.brought h.brought xs ys (omega (arith, a.brought)) was.origin

@@ -1,33 +1,24 @@
 -- The parts of what is brought come in order in the plan of new tracks. A plan means the same whichever samples come,
 -- so it does for samples that are their own places.
 use Rattle.std.proofs.Common.{◌≡◌, ◌≤◌, ◌<◌, ℕ, zero, suc, ◌+◌, ◌-◌, ℤ, pos, Bool, List, [], ◌∷◌, ◌++◌, length, get_or}
-use Rattle.std.proofs.Common.{map, replicate, nat_eq, if◌then◌else◌, refl, sym, ap, ap₂, subst, ◌∙◌, arith}
-use Rattle.std.proofs.Common.{⊎_elim, append_assoc, length-append, drop}
+use Rattle.std.proofs.Common.{map, replicate, nat_eq, if◌then◌else◌, refl, sym, ap, ap₂, subst, ◌∙◌, arith, ⊎_elim}
+use Rattle.std.proofs.Common.{append_assoc, length-append, drop}
+use Rattle.std.proofs.{lemmas.Bool.eq-eqb, lemmas.Bool.ne_eqb, lemmas.List.append-nil, Math.Seq.drop-append_seam}
 use Rattle.std.specs.Prelude.{Contains}
-use Rattle.std.proofs.lemmas.Bool.{eq-eqb, ne_eqb}
-use Rattle.std.proofs.lemmas.List.{append-nil}
-use Rattle.std.proofs.Math.Seq.{drop-append_seam}
-use Rattle.pcm_base.specs.declared.block.BlockRef.{BlockRef}
-use Rattle.pcm_base.specs.declared.piece.Piece.{Piece}
 use Rattle.pcm_base.specs.declared.piece.Piece.TheVariants.{Old, Scaled, Zero, Given}
-use Rattle.pcm_base.specs.declared.sound.Cell.{Cell}
 use Rattle.pcm_base.specs.declared.sound.Cell.TheVariants.{Gap, Sample}
-use Rattle.pcm_base.specs.Blocks.{block_samples}
-use Rattle.pcm_base.specs.Edits.{as_cells}
 use Rattle.pcm_base.specs.Pieces.{Sources, all_samples, piece_len, samples_of, stretch, total}
+use Rattle.pcm_base.specs.{declared.block.BlockRef.BlockRef, declared.piece.Piece.Piece, declared.sound.Cell.Cell}
+use Rattle.pcm_base.specs.{Blocks.block_samples, Edits.as_cells}
 use Rattle.pcm_base.proofs.Pieces.{drop-stretch, length-all_samples, length-samples, length-stretch, stretch_list}
 use Rattle.block_sequence.specs.Origins.{AllFrom, IsFrom}
 use Rattle.block_store.specs.Scans.{samples_among}
-use Rattle.clip_track.specs.declared.clips.Clip.{Clip}
-use Rattle.clip_track.specs.Clips.{cells_from, clip_end, layout_blocks}
-use Rattle.edit_ops.specs.declared.types.NewBlock.{NewBlock}
-use Rattle.edit_ops.specs.declared.types.Plan.{Plan}
+use Rattle.clip_track.specs.{declared.clips.Clip.Clip, Clips.cells_from, Clips.clip_end, Clips.layout_blocks}
 use Rattle.edit_ops.specs.Plans.{AllNewFrom, AreNew, AreOldOrNew, AreWritten, ref_of}
-use Rattle.piece_store.specs.Brought.{AreInOrder, LiesBetween}
-use Rattle.editor_state.specs.Edits.{beside}
-use Rattle.editor_imports.specs.Imports.{AddsChannel, IsChannelPlan}
-use Rattle.editor_imports.specs.declared.growing.Growing.{Growing}
-use Rattle.editor_state.specs.Made.{AllInOrder}
+use Rattle.edit_ops.specs.{declared.types.NewBlock.NewBlock, declared.types.Plan.Plan}
+use Rattle.block_writer.specs.Brought.{AreInOrder, LiesBetween}
+use Rattle.editor_state.specs.{Edits.beside, Made.AllInOrder}
+use Rattle.editor_imports.specs.{Imports.AddsChannel, Imports.IsChannelPlan, declared.growing.Growing.Growing}
 use Rattle.editor_blocks.proofs.PieceOrder.{order_append}
 
 none_held : {X : Type 0} (x : X) → Contains [] x → ⊥
@@ -195,8 +186,7 @@ pieces_order block count low n (p ∷ ps) rest of is =
       mid,
       omega arith,
       piece_order block count low n p (more ++ rest) of.0 parts,
-      subst (λ (k : ℕ). AreInOrder mid k ps) end
-          (pieces_order block count mid (n - piece_len p) ps rest of.1 after),
+      subst (λ (k : ℕ). AreInOrder mid k ps) end (pieces_order block count mid (n - piece_len p) ps rest of.1 after),
     )
 
 blocks_order : (block : ℕ → ℕ → ℤ) (count low n : ℕ) (bs : List NewBlock) → AllNewFrom [] count bs
@@ -213,8 +203,7 @@ blocks_order block count low n (b ∷ bs) of is =
     let end : mid + (n - total b.pieces) ≡ low + n = omega (arith, left.0, long) in (
       mid,
       pieces_order block count low n b.pieces (made_samples src bs) of.0 is,
-      subst (λ (k : ℕ). AllInOrder mid k bs) end
-          (blocks_order block count mid (n - total b.pieces) bs of.1 after),
+      subst (λ (k : ℕ). AllInOrder mid k bs) end (blocks_order block count mid (n - total b.pieces) bs of.1 after),
     )
 
 -- ---- the plan of a channel, and of all

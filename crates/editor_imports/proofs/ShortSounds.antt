@@ -1,12 +1,11 @@
 -- What is known of an import by samples that may have failed to come.
 use Rattle.std.proofs.Common.{◌⊎◌, ⊎_elim, IsTrue, sym, ◌∙◌, Result, Ok, Err}
-use Rattle.std.specs.Prelude.{IfErr, IfOk}
 use Rattle.std.proofs.lemmas.Bool.{true≢false}
-use Rattle.pcm_base.specs.declared.refusal.Refusal.{Refusal}
-use Rattle.pcm_base.specs.declared.refusal.Refusal.TheVariants as refusal
-use Rattle.pcm_base.specs.declared.wav.WavFault.TheVariants.{Truncated}
-use Rattle.piece_store.specs.Brought.{Brought}
+use Rattle.std.specs.Prelude.{IfErr, IfOk}
+use Rattle.pcm_base.specs.{declared.refusal.Refusal.Refusal, declared.wav.WavFault.TheVariants.Truncated}
+use Rattle.block_writer.specs.Brought.{Brought}
 use Rattle.editor_state.specs.Vaults.{IfCutShort, IsCutShort, IsInsideOr}
+use Rattle.pcm_base.specs.declared.refusal.Refusal.TheVariants as refusal
 
 -- where it is known which samples come no sound is cut short
 never_cut : {T : Type 0} (b : Brought) (r : Result T Refusal) → IsTrue b.tells → IfErr r (IsInsideOr b)

@@ -1,34 +1,23 @@
 -- New tracks of a sound's channels. What is brought is the samples of all channels, those of each after those of the
 -- one before.
-use Rattle.std.specs.Prelude.{◌≡◌, ℕ, ◌+◌, ◌/◌, ◌^◌, ◌<◌, ◌≤◌, nat_lt, ℤ, false, Option, List, [], ◌∷◌}
-use Rattle.std.specs.Prelude.{◌++◌, length, map}
+use Rattle.std.specs.Prelude.{◌≡◌, ℕ, ◌+◌, ◌/◌, ◌^◌, ◌<◌, ◌≤◌, nat_lt, ℤ, false, Option, List, [], ◌∷◌, ◌++◌, length}
+use Rattle.std.specs.Prelude.{map}
 use Rattle.std.specs.List.{AllByRecursion}
-use Rattle.pcm_base.specs.declared.limits.TheConstants.{MAX_TRACKS, UNITY_GAIN}
-use Rattle.pcm_base.specs.declared.piece.Piece.{Piece}
 use Rattle.pcm_base.specs.declared.piece.Piece.TheVariants.{Old, Scaled, Zero, Given}
-use Rattle.pcm_base.specs.declared.refusal.Refusal.{Refusal}
-use Rattle.pcm_base.specs.declared.refusal.Refusal.TheVariants as refusal
-use Rattle.pcm_base.specs.declared.sound.Side.TheVariants.{Both}
-use Rattle.pcm_base.specs.Edits.{as_cells}
-use Rattle.pcm_base.specs.Pieces.{Sources, stretch}
 use Rattle.pcm_base.specs.Refusals.{◌otherwise◌, length_limit, refused_if}
-use Rattle.pcm_base.specs.Sizes.{blocks_of_samples, blocks_of_tracks}
-use Rattle.pcm_base.specs.Step.{channel_tracks}
-use Rattle.clip_track.specs.declared.clips.Clip.{Clip}
-use Rattle.clip_track.specs.Clips.{IsLayout, layout_cells}
-use Rattle.edit_ops.specs.declared.types.NewBlock.{NewBlock}
-use Rattle.edit_ops.specs.declared.types.Plan.{Plan}
+use Rattle.pcm_base.specs.{declared.limits.TheConstants.MAX_TRACKS, declared.limits.TheConstants.UNITY_GAIN}
+use Rattle.pcm_base.specs.{declared.piece.Piece.Piece, declared.refusal.Refusal.Refusal}
+use Rattle.pcm_base.specs.{declared.sound.Side.TheVariants.Both, Edits.as_cells, Pieces.Sources, Pieces.stretch}
+use Rattle.pcm_base.specs.{Sizes.blocks_of_samples, Sizes.blocks_of_tracks, Step.channel_tracks}
+use Rattle.clip_track.specs.{declared.clips.Clip.Clip, Clips.IsLayout, Clips.layout_cells}
 use Rattle.edit_ops.specs.Plans.{AllNewFrom, AreNew, AreWritten, IsPlan, ref_of}
-use Rattle.project_state.specs.declared.track.Track.{Track}
-use Rattle.record_body.specs.Kept.{current_tracks}
-use Rattle.project_state.specs.Meaning.{meant, point_blocks}
-use Rattle.record_body.specs.Sound.{AllSoundTracks}
-use Rattle.project_state.specs.Tracks.{AreAbove}
+use Rattle.edit_ops.specs.{declared.types.NewBlock.NewBlock, declared.types.Plan.Plan}
+use Rattle.project_state.specs.{declared.track.Track.Track, Meaning.meant, Meaning.point_blocks, Tracks.AreAbove}
+use Rattle.record_body.specs.{Saved.current_tracks, Valid.AllValidTracks}
 use Rattle.layout_uses.specs.Drawing.{HasNumbers}
-use Rattle.editor_state.specs.Core.{Core}
-use Rattle.editor_state.specs.declared.planned.Planned.{Planned}
+use Rattle.editor_state.specs.{Core.Core, declared.planned.Planned.Planned, Edits.AreAmong, Edits.alone, Edits.beside}
 use Rattle.editor_imports.specs.declared.growing.Growing.{Growing}
-use Rattle.editor_state.specs.Edits.{AreAmong, alone, beside}
+use Rattle.pcm_base.specs.declared.refusal.Refusal.TheVariants as refusal
 
 -- ---- pieces of one channel, and of all
 
@@ -85,7 +74,7 @@ pub record AreGrown {D : Type 0} (s : Core D) (counts : List ℕ) (g : Growing) 
   pub point : g.point ≡ current_tracks s.history ++ news
   pub ids : AreAbove s.next_track news
   pub many : length news ≡ length counts
-  pub sound : AllSoundTracks s.block_size (s.next_block + length g.makes.items) (s.next_track + length counts) news
+  pub valid : AllValidTracks s.block_size (s.next_block + length g.makes.items) (s.next_track + length counts) news
   pub new : AreNew s.block_size s.next_block g.makes.items
   pub origin : AllNewFrom [] g.brought g.makes.items
   pub names : AreAmong (map ref_of g.makes.items) (point_blocks news)

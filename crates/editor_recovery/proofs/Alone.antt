@@ -2,15 +2,10 @@
 use Rattle.std.proofs.Common.{◌≡◌, inl, inr, ⊎_elim, ◌∙◌, ℕ, Bool, true, false, refl, sym, subst}
 use Rattle.std.specs.Prelude.{◌≤◌, ◌||◌, ◌↔◌, IsTrue}
 use Rattle.disk_model.specs.Disk.{Files, bytes_of}
-use Rattle.project_journal.specs.declared.fault.Damaged.{Damaged}
-use Rattle.project_journal.specs.Choice.{IsPicked}
-use Rattle.project_journal.specs.Header.{Form, IsForm, IsProject}
-use Rattle.project_journal.specs.Journal.{Log, HasLog}
-use Rattle.project_journal.specs.Start.{NoProject}
-use Rattle.project_journal.proofs.Chosen.{journal_project}
-use Rattle.project_journal.proofs.Picked.{zero_or_one}
-use Rattle.editor_recovery.specs.Opening.{HeaderFault}
-use Rattle.editor_recovery.specs.Standing.{HasNone, HasSome}
+use Rattle.project_journal.specs.{declared.fault.Damaged.Damaged, Choice.IsPicked, Header.Form, Header.IsForm}
+use Rattle.project_journal.specs.{Header.IsProject, Journal.Log, Journal.HasLog, Start.NoProject}
+use Rattle.project_journal.proofs.{Chosen.journal_project, Picked.zero_or_one}
+use Rattle.editor_recovery.specs.{Opening.HeaderFault, Standing.HasNone, Standing.HasSome}
 
 -- in one of both files
 pub some_in : (files : Files) (file : ℕ) → file ≤ 1 → IsProject (bytes_of (files file)) → HasSome files

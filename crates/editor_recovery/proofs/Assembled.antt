@@ -1,25 +1,18 @@
 -- What opening answers with the studio of the parts that were found, or with the store where there was no memory.
 use Rattle.std.proofs.Common.{◌≡◌, Result, Ok, Err, refl, sym, ap, ◌∙◌, subst}
 use Rattle.std.specs.Prelude.{IfErr, IfOk}
-use Rattle.disk_model.specs.Disk.{Files}
-use Rattle.disk_model.specs.declared.store.Store.{Ghosts}
-use Rattle.project_journal.specs.Header.{Form}
-use Rattle.project_journal.specs.Journal.{Log}
-use Rattle.record_body.specs.Kept.{Kept, opened}
+use Rattle.disk_model.specs.{Disk.Files, declared.store.Store.Ghosts}
+use Rattle.project_journal.specs.{Header.Form, Journal.Log}
+use Rattle.record_body.specs.Saved.{Saved, opened}
 use Rattle.project_state.specs.Meaning.{meant_history}
 use Rattle.record_body.proofs.Unnumbered.{history_meant_alike}
 use Rattle.sample_block.specs.Sources.{sources_of}
-use Rattle.editor_state.specs.Core.{Core}
-use Rattle.editor_core.specs.Core.{core_of}
-use Rattle.editor_core.specs.Parts.{assembled}
-use Rattle.editor_state.specs.Studios.{shown, studio_of}
-use Rattle.editor_core.specs.declared.assembly.Parts.{Parts}
-use Rattle.editor_core.specs.declared.studio.Studio.{Studio}
-use Rattle.editor_recovery.specs.declared.fault.OpenFault.{OpenFault}
+use Rattle.editor_state.specs.{Core.Core, Studios.shown, Studios.studio_of}
+use Rattle.editor_core.specs.{Core.core_of, Parts.assembled, declared.assembly.Parts.Parts}
+use Rattle.editor_core.specs.{declared.studio.Studio.Studio}
+use Rattle.editor_recovery.specs.{declared.fault.OpenFault.OpenFault, Found.Found, Found.IsNew, Found.found_by}
+use Rattle.editor_recovery.specs.{Found.found_in, Opening.IsFound, Stores.answer_of, Stores.store_of}
 use Rattle.editor_recovery.specs.declared.fault.OpenFault.TheVariants as fault
-use Rattle.editor_recovery.specs.Found.{Found, IsNew, found_by, found_in}
-use Rattle.editor_recovery.specs.Opening.{IsFound}
-use Rattle.editor_recovery.specs.Stores.{answer_of, store_of}
 
 module _ {D : Type 0} (store : D) (p : Parts) where
   pub same_store : {disk : Ghosts D} (r : Result (Studio D disk) (OpenFault × D))
@@ -43,7 +36,7 @@ module _ {D : Type 0} (store : D) (p : Parts) where
   new_studio = record { clipboard = refl; pins = refl; next_pin = refl; stopped = refl }
 
 -- what each image keeps is what the studio shows
-pub shows_found : {D : Type 0} (disk : Ghosts D) (s : Core D) (files : Files) (form : Form) (log : Log) (kept : Kept)
+pub shows_found : {D : Type 0} (disk : Ghosts D) (s : Core D) (files : Files) (form : Form) (log : Log) (kept : Saved)
     → IsFound files form log kept (found_by s) → disk.reads s.store ≡ files
     → opened log kept files ≡ shown (studio_of disk s)
 shows_found disk s files form log kept found same = λ i. record {

@@ -1,20 +1,15 @@
 -- An answer of blocks, as one of a check.
-use Rattle.std.proofs.Common.{◌≡◌, refl, sym, ap, subst, ℕ, zero, suc, ◌<◌, inl, List}
-use Rattle.std.proofs.Common.{[], ◌∷◌, length, take, get_or, Some, Result, Ok, Err, arith}
-use Rattle.std.specs.Prelude.{Contains, IfErr, IsOkUnless}
-use Rattle.std.specs.List.{AllByRecursion}
+use Rattle.std.proofs.Common.{◌≡◌, refl, sym, ap, subst, ℕ, zero, suc, ◌<◌, inl, List, [], ◌∷◌, length, take, get_or}
+use Rattle.std.proofs.Common.{Some, Result, Ok, Err, arith}
+use Rattle.std.specs.{Prelude.Contains, Prelude.IfErr, Prelude.IsOkUnless, List.AllByRecursion}
 use Rattle.pcm_base.specs.declared.block.BlockRef.{BlockRef}
-use Rattle.disk_model.specs.Frames.{Kept}
-use Rattle.disk_model.specs.declared.store.Store.{Ghosts}
-use Rattle.block_store.specs.declared.fault.BlockFault.{BlockFault}
-use Rattle.block_store.specs.declared.fault.BlockFault.TheVariants as block
-use Rattle.block_store.specs.Reads.{Counted}
+use Rattle.disk_model.specs.{Frames.Kept, declared.store.Store.Ghosts}
+use Rattle.block_store.specs.{declared.fault.BlockFault.BlockFault, Reads.Counted}
 use Rattle.editor_state.specs.Studios.{ids_of}
-use Rattle.editor_recovery.specs.declared.fault.OpenFault.{OpenFault}
-use Rattle.editor_recovery.specs.Blocks.{fault_of}
-use Rattle.editor_recovery.specs.Causes.{Causes}
-use Rattle.editor_recovery.specs.Checking.{IsCheckFault, IsSoundFault}
+use Rattle.editor_recovery.specs.Checking.{IsCheckFault, IsNotDamage}
+use Rattle.editor_recovery.specs.{declared.fault.OpenFault.OpenFault, Blocks.fault_of, Causes.Causes}
 use Rattle.editor_recovery.proofs.Listed.{contains_there}
+use Rattle.block_store.specs.declared.fault.BlockFault.TheVariants as block
 
 -- ---- an answer of blocks as one of a check
 
@@ -29,12 +24,12 @@ known (Ok done) told n is = subst (λ x. IfErr x IsCheckFault) (sym is) tt
 known (Err block.DiskFault) told n is = subst (λ x. IfErr x IsCheckFault) (sym is) tt
 known (Err (block.Damaged file found)) told n is = subst (λ x. IfErr x IsCheckFault) (sym is) tt
 
-pub sound_told : {T : Type 0} (r : Result T BlockFault) (told : Result ℕ OpenFault) (n : ℕ) → Tells r n told
+pub valid_told : {T : Type 0} (r : Result T BlockFault) (told : Result ℕ OpenFault) (n : ℕ) → Tells r n told
     → IsOkUnless r block.DiskFault
-    → IfErr told IsSoundFault
-sound_told (Ok done) told n is sound = subst (λ x. IfErr x IsSoundFault) (sym is) tt
-sound_told (Err block.DiskFault) told n is sound = subst (λ x. IfErr x IsSoundFault) (sym is) tt
-sound_told (Err (block.Damaged file found)) told n is sound = absurd cc
+    → IfErr told IsNotDamage
+valid_told (Ok done) told n is valid = subst (λ x. IfErr x IsNotDamage) (sym is) tt
+valid_told (Err block.DiskFault) told n is valid = subst (λ x. IfErr x IsNotDamage) (sym is) tt
+valid_told (Err (block.Damaged file found)) told n is valid = absurd cc
 
 pub cause_told : {D T : Type 0} (disk : Ghosts D) (old new : D) (r : Result T BlockFault) (told : Result ℕ OpenFault)
     (n : ℕ) → Tells r n told

@@ -1,35 +1,25 @@
 -- Blocks of a studio that are read one after another.
-use Rattle.std.proofs.Common.{◌≡◌, ◌∙◌, refl, sym, ap, subst, ℕ, zero, suc, ◌+◌, ◌≤◌, ◌<◌, ℤ, inl, inr, List}
-use Rattle.std.proofs.Common.{[], ◌∷◌, length, take, get_or, Some, None, Result, Ok, Err, IsTrue, arith}
-use Rattle.std.specs.Prelude.{Contains, IfOk, nat_lt}
-use Rattle.std.specs.List.{All, AllByRecursion}
-use Rattle.std.proofs.lemmas.Bool.{cases_Bool, ltb-false, ltb-true}
-use Rattle.std.proofs.lemmas.List.{length-map}
+use Rattle.std.proofs.Common.{◌≡◌, ◌∙◌, refl, sym, ap, subst, ℕ, zero, suc, ◌+◌, ◌≤◌, ◌<◌, ℤ, inl, inr, List, [], ◌∷◌}
+use Rattle.std.proofs.Common.{length, take, get_or, Some, None, Result, Ok, Err, IsTrue, arith}
 use Rattle.std.proofs.lemmas.List.Elements.{All-contains, All-contains_itself, All-from_recursion, All-get_or}
 use Rattle.std.proofs.lemmas.List.Elements.{recursion_from_All}
-use Rattle.pcm_base.specs.declared.block.BlockRef.{BlockRef}
-use Rattle.pcm_base.specs.History.{History}
-use Rattle.disk_model.specs.Disk.{Files}
-use Rattle.disk_model.specs.Frames.{Kept}
-use Rattle.disk_model.specs.declared.store.Store.{Ghosts}
-use Rattle.disk_model.proofs.Frames.{Fewer, kept_none, kept_turn}
-use Rattle.sample_block.specs.Blocks.{blocks}
-use Rattle.sample_block.specs.Sources.{AllWhole, IsWhole}
-use Rattle.block_store.specs.declared.fault.BlockFault.{BlockFault}
-use Rattle.block_store.specs.declared.fault.BlockFault.TheVariants as block
-use Rattle.block_store.specs.Reads.{CountedBy}
-use Rattle.project_state.specs.declared.track.Track.{Track}
-use Rattle.project_state.specs.Meaning.{history_blocks}
-use Rattle.editor_state.specs.Core.{Core}
+use Rattle.std.proofs.{lemmas.Bool.cases_Bool, lemmas.Bool.ltb-false, lemmas.Bool.ltb-true, lemmas.List.length-map}
+use Rattle.std.specs.{Prelude.Contains, Prelude.IfOk, Prelude.nat_lt, List.All, List.AllByRecursion}
+use Rattle.pcm_base.specs.{declared.block.BlockRef.BlockRef, History.History}
+use Rattle.disk_model.specs.{Disk.Files, Frames.Kept, declared.store.Store.Ghosts}
+use Rattle.disk_model.proofs.Frames.{tells_on, Fewer, kept_none, kept_turn}
+use Rattle.sample_block.specs.{Blocks.blocks, Sources.AllWhole, Sources.IsWhole}
+use Rattle.block_store.specs.{declared.fault.BlockFault.BlockFault, Reads.CountedBy}
+use Rattle.project_state.specs.{declared.track.Track.Track, Meaning.history_blocks}
+use Rattle.editor_state.specs.{Core.Core, Studios.IsHeld, Studios.IsStudio, Studios.ids_of}
 use Rattle.editor_views.specs.Scans.{AreListed, BlockScanned, HaveOneLength, ScansBlock}
-use Rattle.editor_state.specs.Studios.{IsHeld, IsStudio, ids_of}
 use Rattle.editor_state.proofs.Calls.SameStores.{rests_held, rests_keeps, rests_studio}
 use Rattle.editor_recovery.specs.declared.fault.OpenFault.{OpenFault}
-use Rattle.editor_recovery.specs.declared.fault.OpenFault.TheVariants as fault
-use Rattle.editor_recovery.specs.Checking.{AllScanned, ChecksAll, ChecksStudio, IsCountOf}
-use Rattle.editor_recovery.specs.Checking.{ScansAll}
+use Rattle.editor_recovery.specs.Checking.{AllScanned, ChecksAll, ChecksStudio, IsCountOf, ScansAll}
 use Rattle.editor_recovery.proofs.Counted.{no_fault}
-use Rattle.editor_recovery.proofs.CheckAnswers.{Tells, before, cause_told, id_there, known, of_id, some_is, sound_told}
+use Rattle.editor_recovery.proofs.CheckAnswers.{Tells, before, cause_told, id_there, known, of_id, some_is, valid_told}
+use Rattle.block_store.specs.declared.fault.BlockFault.TheVariants as block
+use Rattle.editor_recovery.specs.declared.fault.OpenFault.TheVariants as fault
 
 -- these blocks are whole, and nothing changed
 pub record SoFar {D : Type 0} (disk : Ghosts D) (old : Core D) (bs : List BlockRef) (now : Core D) : Type 0 where
@@ -58,9 +48,6 @@ module _ {D : Type 0} (disk : Ghosts D) (old : Core D) (is : IsStudio disk old) 
     pub far_studio : IsStudio disk now
     far_studio = subst (IsStudio disk) (sym far.same) (rests_studio disk old is now.store far.kept)
 
-    pub far_going : now.stopped ≡ None
-    far_going = ap (λ (s : Core D). s.stopped) far.same ∙ going
-
     far_held : IsHeld disk old → IsHeld disk now
     far_held held = subst (IsHeld disk) (sym far.same) (rests_held disk old is now.store far.kept held)
 
@@ -80,7 +67,7 @@ module _ {D : Type 0} (disk : Ghosts D) (old : Core D) (is : IsStudio disk old) 
     far_all done = record {
       scanned = far.whole;
       counted = far.counted;
-      sound = λ held. tt;
+      valid = λ held. tt;
       same = far.same;
       kept = far.kept;
       studio = far_studio;
@@ -96,7 +83,7 @@ module _ {D : Type 0} (disk : Ghosts D) (old : Core D) (is : IsStudio disk old) 
     told : {T : Type 0} (r : Result T BlockFault) → ScansBlock disk now b r next → IsTrue (disk.tells old.store)
         → BlockScanned (disk.reads old.store) b r
     told r scans tells = subst (λ (f : Files). BlockScanned f b r) far.kept.same_reads
-        (scans.scanned (subst IsTrue (sym far.kept.same_tells) tells))
+        (scans.scanned (tells_on far.kept tells))
 
     -- one block more is whole
     pub far_more : {T : Type 0} (done : T) → ScansBlock disk now b (Ok done) next
@@ -122,7 +109,7 @@ module _ {D : Type 0} (disk : Ghosts D) (old : Core D) (is : IsStudio disk old) 
         record {
           scanned = λ tells. (i, b, lt, here, far.whole tells, told (Err why) scans tells);
           counted = subst (λ (n : ℕ). CountedBy why n (disk.read_fault_count next.store)) far.counted scans.counted;
-          sound = λ held. scans.sound (far_held (take i all) now far held);
+          valid = λ held. scans.valid (far_held (take i all) now far held);
           same = same;
           kept = kept;
           studio = subst (IsStudio disk) (sym same) (rests_studio disk old is next.store kept);
@@ -159,8 +146,7 @@ module _ {D : Type 0} (disk : Ghosts D) (old : Core D) (listed : List BlockRef)
   one_whole : (files : Files) → AllWhole files bs → HaveOneLength bs
   one_whole files whole a b ha hb same =
       let at : (x : BlockRef) → Contains bs x
-      → IsWhole files x = λ x h. All-contains (IsWhole files) bs x
-      (All-from_recursion (IsWhole files) bs whole) h in
+      → IsWhole files x = λ x h. All-contains (IsWhole files) bs x (All-from_recursion (IsWhole files) bs whole) h in
       let wa = at a ha in
       let wb = at b hb in
       let e : Some wa.0 ≡ Some wb.0 = sym wa.1 ∙ ap (blocks files) same ∙ wb.1 in
@@ -220,7 +206,7 @@ module _ {D : Type 0} (disk : Ghosts D) (old : Core D) (listed : List BlockRef)
     tests = λ tells. checks_all (disk.reads old.store) r told (scans.scanned tells) is;
     faults = known r told (length listed) is;
     count = counts_all r told is;
-    sound = λ held. sound_told r told (length listed) is (scans.sound held);
+    valid = λ held. valid_told r told (length listed) is (scans.valid held);
     cause = cause_told disk old.store new.store r told (length listed) is scans.kept scans.counted;
     same = scans.same;
     kept = scans.kept;
@@ -239,7 +225,7 @@ checks_none disk old is going fewer =
       tests = λ tells. tt;
       faults = tt;
       count = λ one. tt;
-      sound = λ held. tt;
+      valid = λ held. tt;
       cause = no_fault disk old.store;
       same = refl;
       kept = kept;

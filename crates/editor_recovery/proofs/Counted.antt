@@ -3,13 +3,11 @@ use Rattle.std.proofs.Common.{◌≡◌, ℕ, inl, inr, ⊎_elim, Result, Ok, Er
 use Rattle.std.specs.Prelude.{IfErr, IsErrOf}
 use Rattle.pcm_base.specs.Causes.{Rose}
 use Rattle.disk_model.specs.declared.store.Store.{Ghosts}
-use Rattle.project_journal.specs.Answer.{NoFault, HasFault}
+use Rattle.project_journal.specs.{Answer.NoFault, Answer.HasFault, declared.fault.JournalFault.JournalFault}
+use Rattle.editor_recovery.specs.{declared.fault.OpenFault.OpenFault, Causes.Causes}
 use Rattle.project_journal.specs.Answer as journal
-use Rattle.project_journal.specs.declared.fault.JournalFault.{JournalFault}
 use Rattle.project_journal.specs.declared.fault.JournalFault.TheVariants as fault_of
-use Rattle.editor_recovery.specs.declared.fault.OpenFault.{OpenFault}
 use Rattle.editor_recovery.specs.declared.fault.OpenFault.TheVariants as fault
-use Rattle.editor_recovery.specs.Causes.{Causes}
 
 module _ {D : Type 0} (disk : Ghosts D) where
   pub none_turn : (old mid new : D) → NoFault disk old mid → NoFault disk mid new → NoFault disk old new
@@ -41,11 +39,7 @@ module _ {D : Type 0} (disk : Ghosts D) where
   pub causes_handed : (T U : Type 0) (old mid new : D) (e : OpenFault) → NoFault disk old mid
       → Causes {T = T} disk mid new (Err e) → Causes {T = U} disk old new (Err e)
   causes_handed T U old mid new fault.DiskFault f g = fault_after old mid new f g
-  causes_handed T U old mid new fault.Absent f g = none_turn old mid new f g
-  causes_handed T U old mid new fault.Exists f g = none_turn old mid new f g
-  causes_handed T U old mid new fault.NoMemory f g = none_turn old mid new f g
-  causes_handed T U old mid new (fault.Foreign file) f g = none_turn old mid new f g
-  causes_handed T U old mid new (fault.Damaged file at want have) f g = none_turn old mid new f g
+  causes_handed _ _ old mid new _ f g = none_turn old mid new f g
 
   -- what is worked out after them without the disk
   pub causes_none : {T : Type 0} (old new : D) (r : Result T OpenFault) → NoFault disk old new
@@ -58,25 +52,11 @@ module _ {D : Type 0} (disk : Ghosts D) where
   causes_none old new (Err (fault.Foreign file)) f not = f
   causes_none old new (Err (fault.Damaged file at want have)) f not = f
 
-  -- the same of a refusal that is handed on
-  pub refused_none : (T U : Type 0) (old new : D) (e : OpenFault) → NoFault disk old new
-      → (IsErrOf {T = T} (Err e) fault.DiskFault → ⊥) → Causes {T = U} disk old new (Err e)
-  refused_none T U old new fault.DiskFault f not = absurd (not refl)
-  refused_none T U old new fault.Absent f not = f
-  refused_none T U old new fault.Exists f not = f
-  refused_none T U old new fault.NoMemory f not = f
-  refused_none T U old new (fault.Foreign file) f not = f
-  refused_none T U old new (fault.Damaged file at want have) f not = f
-
   -- a refusal of the journal that is not the disk's
   pub journal_none : (T : Type 0) (old new : D) (e : JournalFault) → (e ≡ fault_of.DiskFault → ⊥)
       → journal.Causes {T = T} disk old new (Err e) → NoFault disk old new
   journal_none T old new fault_of.DiskFault not f = absurd (not refl)
-  journal_none T old new fault_of.Absent not f = f
-  journal_none T old new fault_of.Exists not f = f
-  journal_none T old new fault_of.NoMemory not f = f
-  journal_none T old new (fault_of.Damaged file at want have) not f = f
-  journal_none T old new (fault_of.SpaceSpent have need) not f = f
+  journal_none _ old new _ not f = f
 
   -- no call at all
   pub no_fault : (store : D) → NoFault disk store store

@@ -1,30 +1,22 @@
 -- A project is made, and an honest disk stays honest.
-use Rattle.std.proofs.Common.{◌≡◌, ◌≢◌, ℕ, zero, suc, ◌≤◌, true, false, inl, inr, ⊎_elim, ◌⊎◌, List, [], Option}
-use Rattle.std.proofs.Common.{Result, Ok, Err, refl, sym, subst, arith}
-use Rattle.std.specs.Prelude.{Contains, IsSome, IsTrue, IfErr, OnOk}
-use Rattle.disk_model.specs.MomentLaws.{upto_refl}
+use Rattle.std.proofs.Common.{◌≡◌, ◌≢◌, ℕ, zero, suc, ◌≤◌, true, false, inl, inr, ⊎_elim, ◌⊎◌, List, [], Option, Result}
+use Rattle.std.proofs.Common.{Ok, Err, refl, sym, subst, arith}
+use Rattle.std.specs.Prelude.{Contains, IsSome, IsTrue, OnOk}
 use Rattle.disk_model.specs.Disk.{Files, Follows, StaysStep, SameElsewhere}
-use Rattle.disk_model.specs.Frames.{Kept}
+use Rattle.disk_model.specs.{MomentLaws.upto_refl, Frames.Kept, declared.store.Store.Ghosts}
 use Rattle.disk_model.proofs.Frames.{kept_turn}
-use Rattle.disk_model.specs.declared.store.Store.{Ghosts}
-use Rattle.project_journal.specs.Header.{form_3}
-use Rattle.project_journal.specs.Gate.{EachNow}
 use Rattle.project_journal.specs.Journal.{HasLog, IsAt, fresh}
-use Rattle.project_journal.specs.Start.{NoProject}
+use Rattle.project_journal.specs.{Header.form_3, Gate.EachNow, Start.NoProject}
 use Rattle.project_journal.proofs.Kept.{each_has}
 use Rattle.record_body.proofs.NewProjects.{fresh_begins}
-use Rattle.record_body.specs.Kept as keeping
-use Rattle.record_body.specs.Kept.{new_project, Keeps}
+use Rattle.record_body.specs.Saved.{new_project, Keeps}
 use Rattle.project_state.specs.Meaning.{history_blocks}
-use Rattle.editor_recovery.specs.declared.fault.OpenFault.{OpenFault}
-use Rattle.editor_recovery.specs.declared.fault.OpenFault.TheVariants as fault
-use Rattle.editor_recovery.specs.Listing.{TellsForeign}
 use Rattle.editor_recovery.specs.Creating.{new_opened, HasNoForeign, Creates, LeavesRefused}
-use Rattle.editor_recovery.specs.Files.{is_foreign, NoForeign}
-use Rattle.editor_recovery.specs.Honest.{Names, IsHonest}
-use Rattle.editor_recovery.specs.Standing.{HasNone, Stands}
-use Rattle.editor_recovery.proofs.Alone.{none_log}
-use Rattle.editor_recovery.proofs.Honest.{same_kept}
+use Rattle.editor_recovery.specs.{declared.fault.OpenFault.OpenFault, Files.is_foreign, Honest.Names, Honest.IsHonest}
+use Rattle.editor_recovery.specs.{Standing.HasNone, Standing.Stands}
+use Rattle.editor_recovery.proofs.{Alone.none_log, Honest.same_saved}
+use Rattle.record_body.specs.Saved as saved
+use Rattle.editor_recovery.specs.declared.fault.OpenFault.TheVariants as fault
 
 -- the new journal is the new project
 pub keeps_new : (rate block_size depth : ℕ) (c : Files) → HasLog (form_3 0) (fresh rate block_size depth) c
@@ -62,9 +54,9 @@ no_names : (rate block_size depth : ℕ) (c : Files) (id : ℕ) → HasLog (form
     → Names c id → ⊥
 no_names rate block_size depth c id has names =
     let kept : names.kept ≡ new_project depth =
-    same_kept c names.form (form_3 0) names.log (fresh rate block_size depth) names.kept (new_project depth)
+    same_saved c names.form (form_3 0) names.log (fresh rate block_size depth) names.kept (new_project depth)
     names.stands (new_stands rate block_size depth c has) in
-    nothing (subst (λ (k : keeping.Kept). Contains (history_blocks k.history) names.block) kept names.named)
+    nothing (subst (λ (k : saved.Saved). Contains (history_blocks k.history) names.block) kept names.named)
   where
     nothing : Contains [] names.block → ⊥
     nothing (k, lt, e) = omega (arith, lt)
@@ -191,16 +183,6 @@ left_turn disk old mid new (Err fault.NoMemory) kept left = kept_turn kept left
 left_turn disk old mid new (Err (fault.Foreign file)) kept left = kept_turn kept left
 left_turn disk old mid new (Err (fault.Damaged file at want have)) kept left = kept_turn kept left
 
--- the answers
-pub foreign_told : (T : Type 0) (files : Files) (e : OpenFault) → TellsForeign files e
-    → HasNoForeign {T = T} files (Err e)
-foreign_told T files fault.Absent tells = absurd tells
-foreign_told T files fault.Exists tells = absurd tells
-foreign_told T files fault.DiskFault tells = tt
-foreign_told T files fault.NoMemory tells = tt
-foreign_told T files (fault.Foreign file) tells = tells
-foreign_told T files (fault.Damaged file at want have) tells = absurd tells
-
 pub none_there : {T : Type 0} (files : Files) (r : Result T OpenFault) → HasNone files → HasNoForeign files r
     → Creates files r
 none_there files (Ok x) none has = (none, has)
@@ -210,13 +192,3 @@ none_there files (Err fault.DiskFault) none has = tt
 none_there files (Err fault.NoMemory) none has = tt
 none_there files (Err (fault.Foreign file)) none has = (none, has)
 none_there files (Err (fault.Damaged file at want have)) none has = absurd has
-
-pub created : {U : Type 0} (files : Files) (r : Result U OpenFault) → HasNone files × NoForeign files
-    → IfErr r (λ e. e ≡ fault.DiskFault) → Creates files r
-created files (Ok y) creates e = creates
-created files (Err fault.Absent) creates is = absurd cc
-created files (Err fault.Exists) creates is = absurd cc
-created files (Err fault.DiskFault) creates is = tt
-created files (Err fault.NoMemory) creates is = tt
-created files (Err (fault.Foreign file)) creates is = absurd cc
-created files (Err (fault.Damaged file at want have)) creates is = absurd cc

@@ -1,33 +1,25 @@
 -- From the fold of a journal to what opening makes of it.
-use Rattle.std.proofs.Common.{◌≡◌, ◌≤◌, ◌+◌, ◌^◌, ℕ, ⊎_elim, List, [], ◌∷◌, map, length, Ok, Err, sym, ap, subst, ◌∙◌, arith}
+use Rattle.std.proofs.Common.{◌≡◌, ◌≤◌, ◌+◌, ◌^◌, ℕ, ⊎_elim, List, [], ◌∷◌, map, length, Ok, Err, sym, ap, subst, ◌∙◌}
+use Rattle.std.proofs.Common.{arith}
 use Rattle.std.proofs.lemmas.List.{length-map}
 use Rattle.disk_model.specs.declared.store.Store.{Ghosts}
-use Rattle.project_journal.specs.declared.base.Base.{Base}
-use Rattle.project_journal.specs.declared.fault.JournalFault.{JournalFault}
-use Rattle.project_journal.specs.declared.fault.JournalFault.TheVariants as journal
-use Rattle.project_journal.specs.declared.reader.Reader.{Reader}
-use Rattle.project_journal.specs.Header.{Form, IsForm, form_of}
 use Rattle.project_journal.specs.Journal.{Contents, IsHeader, IsJournal, body_at, log_of}
-use Rattle.project_journal.specs.Readable.{IsReadable}
-use Rattle.project_journal.specs.Reader.{IsLater, reader_form}
-use Rattle.project_journal.proofs.AnyFormats.{HasBase, base_sound}
-use Rattle.project_journal.proofs.Bases.{plain}
-use Rattle.project_journal.proofs.Found.{read_whole}
-use Rattle.project_journal.proofs.Parses.{form_least}
-use Rattle.project_journal.proofs.Readables.{readable}
-use Rattle.record_body.specs.Kept.{Kept, Begins, LeadIn, version_of}
-use Rattle.record_body.proofs.KeptBounds.{lead_sound}
-use Rattle.record_fold.specs.Bases.{base_by, base_of}
-use Rattle.record_fold.specs.Folds.{kept_of, FoldsStored, IsValid, Leads}
-use Rattle.record_fold.specs.Heads.{HasFault, ReadsOn}
-use Rattle.record_fold.specs.declared.project.Project.{Project}
-use Rattle.record_fold.proofs.Based.{begun_depth, begun_valid}
-use Rattle.record_fold.proofs.Commits.{lead_commits, told_few}
-use Rattle.record_fold.proofs.Stepping.{valid_by}
+use Rattle.project_journal.specs.{declared.base.Base.Base, declared.fault.JournalFault.JournalFault}
+use Rattle.project_journal.specs.{declared.reader.Reader.Reader, Header.Form, Header.IsForm, Header.form_of}
+use Rattle.project_journal.specs.{Readable.IsReadable, Reader.IsLater, Reader.reader_form}
+use Rattle.project_journal.proofs.AnyFormats.{HasBase, base_valid}
+use Rattle.project_journal.proofs.{Bases.plain, Found.read_whole, Parses.form_least, Readables.readable}
+use Rattle.record_body.specs.Saved.{Saved, Begins, LeadIn, version_of}
+use Rattle.record_body.proofs.SavedBounds.{lead_valid}
+use Rattle.journal_replay.specs.{Bases.base_by, Bases.base_of, Folds.saved_of, Folds.FoldsStored, Folds.IsValid}
+use Rattle.journal_replay.specs.{Folds.Leads, Heads.HasFault, Heads.ReadsOn, declared.project.Project.Project}
+use Rattle.journal_replay.proofs.{Based.begun_depth, Based.begun_valid, Commits.lead_commits, Commits.told_few}
+use Rattle.journal_replay.proofs.{Stepping.valid_by}
 use Rattle.editor_state.specs.Studios.{AreJournalNumbers}
 use Rattle.editor_recovery.specs.declared.disk.Folded.{Folded}
-use Rattle.editor_recovery.specs.Finding.{FoldsDisk, IsSoundFolded, records_fault}
-use Rattle.editor_recovery.proofs.SoundParts.{format_of}
+use Rattle.editor_recovery.specs.Finding.{FoldsDisk, IsValidFolded, records_fault}
+use Rattle.editor_recovery.proofs.ValidParts.{format_of}
+use Rattle.project_journal.specs.declared.fault.JournalFault.TheVariants as journal
 
 -- a reader that read on reads the same form
 pub later_form : (old new : Reader) → IsLater old new → reader_form new ≡ reader_form old
@@ -83,7 +75,7 @@ first_base j none =
     ap (λ (ps : List (List ℕ)). (base_by ps j.depth j.base).commit) none
 
 -- records lead to 2^62 commits at most
-few_commits : (form : Form) (bytes : List ℕ) (j : Contents) (kept : Kept) → IsForm form
+few_commits : (form : Form) (bytes : List ℕ) (j : Contents) (kept : Saved) → IsForm form
     → (is : IsJournal form bytes j) → IsReadable j → HasBase j.base → Begins (log_of j) (base_of j)
     → (base_of j).commit ≤ 2 ^ 62
     → LeadIn (version_of form) j.block_size (base_of j) (map body_at j.records) kept → kept.commit ≤ 2 ^ 62
@@ -139,7 +131,7 @@ module _ {D : Type 0} (disk : Ghosts D) (store : D) (reader : Reader) (f : Folde
       version = version;
       generation = generation_is;
       end = end ∙ l.end;
-      sound = l.fault;
+      valid = l.fault;
       early = l.early;
       begins = l.begins;
       leads = l.leads;
@@ -147,27 +139,27 @@ module _ {D : Type 0} (disk : Ghosts D) (store : D) (reader : Reader) (f : Folde
     },
   )
 
-  pub folded_sound : IsSoundFolded f
-  folded_sound =
+  pub folded_valid : IsValidFolded f
+  folded_valid =
       let known = l.stored.known in
       let is = read_whole form l.stored.bytes j l.stored.read l.early in
       let ready = readable form l.stored.bytes j known l.stored.few is in
       let head = is.spelled.header in
-      let bounds : HasBase j.base = subst HasBase head.base (base_sound form is.spelled.head known head.sound) in
+      let bounds : HasBase j.base = subst HasBase head.base (base_valid form is.spelled.head known head.valid) in
       let base = base_of j in
       let valid = begun_valid j.points (log_of j) base bounds l.begins in
-      let sound = lead_sound (version_of form) j.block_size base.history.depth base.commit base (kept_of f.project)
+      let so_valid = lead_valid (version_of form) j.block_size base.history.depth base.commit base (saved_of f.project)
       (map body_at j.records) l.leads valid in
       let same_size : f.block_size ≡ j.block_size = size ∙ l.block_size in
       let depth : f.project.numbered.history.history.depth ≡ j.depth =
-      sound.depth_is ∙ begun_depth j.points (log_of j) base l.begins in
+      so_valid.depth_is ∙ begun_depth j.points (log_of j) base l.begins in
       record {
         format = format_of f.rate j.rate f.block_size j.block_size f.project.numbered.history.history.depth j.depth
             (rate ∙ l.rate) same_size depth ready.format;
-        kept = subst (λ (m : ℕ). IsValid m (kept_of f.project)) (sym same_size)
+        kept = subst (λ (m : ℕ). IsValid m (saved_of f.project)) (sym same_size)
             (valid_by j.block_size base.history.depth (base.commit + length (map body_at j.records))
-            (kept_of f.project) sound);
-        commit = few_commits form l.stored.bytes j (kept_of f.project) known is ready bounds l.begins
+            (saved_of f.project) so_valid);
+        commit = few_commits form l.stored.bytes j (saved_of f.project) known is ready bounds l.begins
             (base_few j.points j.depth j.base bounds.commit) l.leads;
         journal = numbers form is.spelled.head j f.file f.version f.generation known l.stored.among head bounds file
             version generation_is;

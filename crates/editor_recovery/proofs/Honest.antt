@@ -1,55 +1,36 @@
 -- What opening an honest disk finds.
-use Rattle.std.proofs.Common.{◌≡◌, ℕ, ◌≤◌, ◌<◌, ◌^◌, ℤ, ⊎_elim, List, [], ◌∷◌, length, map}
-use Rattle.std.proofs.Common.{Option, Some, None, Result, Ok, Err, refl, sym, ap, subst, ◌∙◌, arith}
-use Rattle.std.specs.Prelude.{slice_index_or, unwrap_or, pos, Contains, IsSome, IsTrue}
-use Rattle.std.specs.Option.{option_or}
-use Rattle.std.specs.List.{AllByRecursion}
+use Rattle.std.proofs.Common.{◌≡◌, ℕ, ◌≤◌, ◌<◌, ◌^◌, ℤ, ⊎_elim, List, [], ◌∷◌, length, map, Option, Some, None, Result}
+use Rattle.std.proofs.Common.{Ok, Err, refl, sym, ap, subst, ◌∙◌, arith}
 use Rattle.std.proofs.lemmas.List.Elements.{All-from_recursion, recursion_from_All, All-contains, All-contains_itself}
+use Rattle.std.specs.Prelude.{slice_index_or, unwrap_or, pos, Contains, IsSome, IsTrue}
+use Rattle.std.specs.{Option.option_or, List.AllByRecursion}
 use Rattle.pcm_base.specs.declared.block.BlockRef.{BlockRef}
-use Rattle.disk_model.specs.MomentLaws.{upto_refl}
 use Rattle.disk_model.specs.Disk.{Files, bytes_of, Follows, StaysStep}
-use Rattle.disk_model.specs.declared.store.Store.{Ghosts}
-use Rattle.sample_block.specs.Blocks.{blocks}
-use Rattle.sample_block.proofs.BlockLaws.{blocks_have}
-use Rattle.sample_block.proofs.Spellings.{spelled_size}
-use Rattle.sample_block.specs.Spelling.{size_of}
-use Rattle.project_journal.specs.declared.base.Base.{Base}
-use Rattle.project_journal.specs.declared.fault.Damaged.{Damaged}
-use Rattle.project_journal.specs.declared.fault.JournalFault.TheVariants as journal
-use Rattle.project_journal.specs.Fields.{field}
-use Rattle.project_journal.specs.Gate.{Each}
+use Rattle.disk_model.specs.{MomentLaws.upto_refl, declared.store.Store.Ghosts}
+use Rattle.sample_block.specs.{Blocks.blocks, Spelling.size_of, Sources.sources_of, Sources.IsWhole}
+use Rattle.sample_block.proofs.{BlockLaws.blocks_have, Spellings.spelled_size}
 use Rattle.project_journal.specs.Header.{Form, IsForm, form_of}
 use Rattle.project_journal.specs.Journal.{Log, HasLog, IsAt, IsRead, Contents, log_of, body_at}
+use Rattle.project_journal.specs.{declared.base.Base.Base, declared.fault.Damaged.Damaged, Fields.field, Gate.Each}
 use Rattle.project_journal.proofs.AnyFormats.{HasBase, any_base, any_format}
-use Rattle.project_journal.proofs.Chosen.{one_journal}
 use Rattle.project_journal.proofs.Found.{form_told, found_header, log_picked, whole_log}
-use Rattle.project_journal.proofs.Kept.{each_has}
-use Rattle.project_journal.proofs.Picked.{picked_once}
-use Rattle.project_journal.proofs.ReadOnce.{read_form}
-use Rattle.record_body.specs.Kept as keeping
-use Rattle.record_body.specs.Kept.{Begins, Kept, LeadIn, Keeps, opened, version_of}
+use Rattle.project_journal.proofs.{Chosen.one_journal, Kept.each_has, Picked.picked_once, ReadOnce.read_form}
+use Rattle.record_body.specs.Saved.{Begins, Saved, LeadIn, Keeps, opened, version_of}
 use Rattle.project_state.specs.Meaning.{history_blocks}
-use Rattle.sample_block.specs.Sources.{sources_of, IsWhole}
-use Rattle.record_body.proofs.KeptBounds.{all_append}
-use Rattle.record_body.proofs.KeptOnce.{begins_once}
-use Rattle.record_body.proofs.Leading.{lead_once_in}
+use Rattle.record_body.proofs.{SavedBounds.all_append, SavedOnce.begins_once, Leading.lead_once_in}
+use Rattle.record_body.proofs.{Unnumbered.history_blocks_alike}
 use Rattle.project_state.proofs.Meanings.{same_meaning, IsSame}
-use Rattle.record_body.proofs.Unnumbered.{history_blocks_alike}
-use Rattle.record_fold.specs.Bases.{base_of}
-use Rattle.record_fold.specs.Faults.{first_fault_in, journal_fault}
-use Rattle.record_fold.proofs.HeaderSound.{points_sound}
-use Rattle.record_fold.proofs.Sound.{leading_sound_in}
-use Rattle.editor_core.specs.Parts.{HasParts, assembled}
+use Rattle.journal_replay.specs.{Bases.base_of, Faults.first_fault_in, Faults.journal_fault}
+use Rattle.journal_replay.proofs.{HeaderValid.points_valid, Valid.leading_valid_in}
+use Rattle.editor_core.specs.{Parts.HasParts, Parts.assembled, declared.assembly.Parts.Parts}
 use Rattle.editor_state.specs.Studios.{SameBlocks, named_blocks}
-use Rattle.editor_core.specs.declared.assembly.Parts.{Parts}
-use Rattle.editor_recovery.specs.declared.fault.OpenFault.{OpenFault}
-use Rattle.editor_recovery.specs.declared.fault.OpenFault.TheVariants as fault
-use Rattle.editor_recovery.specs.Found.{Found, found_in}
-use Rattle.editor_recovery.specs.Sizes.{HasSize, AllHaveSize}
 use Rattle.editor_recovery.specs.Opening.{HeaderFault, RecordFault, SizeFault, FirstFault, Finds, IsFound, Opens}
-use Rattle.editor_recovery.specs.Honest.{Names, IsHonest, OpensHonest}
-use Rattle.editor_recovery.specs.Standing.{Stands}
+use Rattle.editor_recovery.specs.{declared.fault.OpenFault.OpenFault, Found.Found, Found.found_in, Sizes.HasSize}
+use Rattle.editor_recovery.specs.{Sizes.AllHaveSize, Honest.Names, Honest.IsHonest, Honest.OpensHonest, Standing.Stands}
 use Rattle.editor_recovery.proofs.Alone.{none_log, none_some}
+use Rattle.project_journal.specs.declared.fault.JournalFault.TheVariants as journal
+use Rattle.record_body.specs.Saved as saved
+use Rattle.editor_recovery.specs.declared.fault.OpenFault.TheVariants as fault
 
 -- a whole block's file has its size
 pub whole_size : (files : Files) (b : BlockRef) → IsWhole files b → HasSize files b
@@ -63,12 +44,12 @@ all_sizes files [] all = tt
 all_sizes files (b ∷ bs) all = (whole_size files b all.0, all_sizes files bs all.1)
 
 -- a disk has one project at most in its journal
-pub record IsOne (f g : Form) (a b : Log) (k l : Kept) : Type 0 where
+pub record IsOne (f g : Form) (a b : Log) (k l : Saved) : Type 0 where
   pub form : f ≡ g
   pub log : a ≡ b
   pub kept : k ≡ l
 
-pub stands_once : (files : Files) (f g : Form) (a b : Log) (k l : Kept) → Stands files f a k → Stands files g b l
+pub stands_once : (files : Files) (f g : Form) (a b : Log) (k l : Saved) → Stands files f a k → Stands files g b l
     → IsOne f g a b k l
 stands_once files f g a b k l p q =
     let same = one_journal f g a b files p.known q.known p.few q.few p.there q.there in
@@ -77,7 +58,7 @@ stands_once files f g a b k l p q =
     let base : p.base ≡ q.base = begins_once b format (any_base g b files q.known q.there) p.base q.base begins q.begins in
     let version = version_of g in
     let led : LeadIn version b.block_size q.base b.bodies k =
-    subst (λ (x : Kept). LeadIn version b.block_size x b.bodies k) base
+    subst (λ (x : Saved). LeadIn version b.block_size x b.bodies k) base
     (subst (λ (x : Log). LeadIn version x.block_size p.base x.bodies k) same.log
     (subst (λ (x : Form). LeadIn (version_of x) a.block_size p.base a.bodies k) same.form p.told)) in
     record {
@@ -87,18 +68,18 @@ stands_once files f g a b k l p q =
           led q.told;
     }
 
-pub same_kept : (files : Files) (f g : Form) (a b : Log) (k l : Kept) → Stands files f a k → Stands files g b l → k ≡ l
-same_kept files f g a b k l p q = (stands_once files f g a b k l p q).kept
+pub same_saved : (files : Files) (f g : Form) (a b : Log) (k l : Saved) → Stands files f a k → Stands files g b l → k ≡ l
+same_saved files f g a b k l p q = (stands_once files f g a b k l p q).kept
 
 -- A project whose blocks are whole.
-pub record KeepsLog (form : Form) (log : Log) (kept : Kept) (files : Files) : Type 0 where
+pub record KeepsLog (form : Form) (log : Log) (kept : Saved) (files : Files) : Type 0 where
   pub stands : Stands files form log kept
   pub whole : AllByRecursion (IsWhole files) (history_blocks kept.history)
 
 -- what a disk keeps
-pub stands_kept : (files : Files) (found : keeping.Opened) → (keeps : Keeps files found)
+pub stands_saved : (files : Files) (found : saved.Opened) → (keeps : Keeps files found)
     → Stands files keeps.form keeps.keeps.log keeps.keeps.kept
-stands_kept files found keeps = record {
+stands_saved files found keeps = record {
   known = keeps.known;
   few = keeps.few;
   there = keeps.keeps.there;
@@ -108,17 +89,17 @@ stands_kept files found keeps = record {
 }
 
 -- is what stands in its journal
-pub keeps_log : (form : Form) (log : Log) (kept : Kept) (files : Files) (found : keeping.Opened)
+pub keeps_log : (form : Form) (log : Log) (kept : Saved) (files : Files) (found : saved.Opened)
     → Stands files form log kept → Keeps files found → KeepsLog form log kept files
 keeps_log form log kept files found stands keeps = record {
   stands = stands;
-  whole = subst (λ (k : Kept). AllByRecursion (IsWhole files) (history_blocks k.history))
-      (same_kept files keeps.form form keeps.keeps.log log keeps.keeps.kept kept (stands_kept files found keeps) stands)
+  whole = subst (λ (k : Saved). AllByRecursion (IsWhole files) (history_blocks k.history))
+      (same_saved files keeps.form form keeps.keeps.log log keeps.keeps.kept kept (stands_saved files found keeps) stands)
       keeps.keeps.whole;
 }
 
 -- and back
-keeps_as : (form : Form) (log : Log) (kept : Kept) (files : Files) (found : keeping.Opened)
+keeps_as : (form : Form) (log : Log) (kept : Saved) (files : Files) (found : saved.Opened)
     → KeepsLog form log kept files → found ≡ opened log kept files → Keeps files found
 keeps_as form log kept files found is same = record {
   form = form;
@@ -136,15 +117,15 @@ keeps_as form log kept files found is same = record {
   };
 }
 
-pub no_header_fault : (files : Files) (form : Form) (log : Log) (kept : Kept) (file : ℕ) (d : Damaged)
+pub no_header_fault : (files : Files) (form : Form) (log : Log) (kept : Saved) (file : ℕ) (d : Damaged)
     → Stands files form log kept → HeaderFault files file d → ⊥
 no_header_fault files form log kept file d stands =
     found_header form log files (Err (journal.Damaged file d.at d.want d.have)) stands.known stands.few stands.there
 
 -- points and records that lead to a project have no fault
-records_sound : (files : Files) (form : Form) (log : Log) (kept : Kept) (j : Contents) → Stands files form log kept
+records_valid : (files : Files) (form : Form) (log : Log) (kept : Saved) (j : Contents) → Stands files form log kept
     → IsRead form (bytes_of (files form.file)) j → journal_fault form j ≡ None
-records_sound files form log kept j stands is =
+records_valid files form log kept j stands is =
     let known = stands.known in
     let whole = whole_log form log files j known stands.there is in
     let format = any_format form log files known stands.there in
@@ -156,16 +137,16 @@ records_sound files form log kept j stands is =
     subst (λ (l : Log). LeadIn (version_of form) l.block_size stands.base l.bodies kept) (sym whole.says) stands.told in
     let least : 4 ≤ j.block_size = omega (arith, size, format.block_least) in
     let most : j.block_size < 2 ^ 32 = omega (arith, size, format.block_most) in
-    let points = points_sound form j stands.base least most
+    let points = points_valid form j stands.base least most
     (subst (λ (b : Base). HasBase b) (sym (ap (λ (l : Log). l.base) whole.says)) bounds) begins in
     let none : first_fault_in (version_of form) j.block_size (base_of j) j.records ≡ None =
-    subst (λ (k : Kept). first_fault_in (version_of form) j.block_size k j.records ≡ None) points.same
-    (leading_sound_in (version_of form) j.block_size stands.base kept j.records least most lead) in
+    subst (λ (k : Saved). first_fault_in (version_of form) j.block_size k j.records ≡ None) points.same
+    (leading_valid_in (version_of form) j.block_size stands.base kept j.records least most lead) in
     ap (λ (o : Option Damaged). option_or o
     (option_or (first_fault_in (version_of form) j.block_size (base_of j) j.records) j.early)) points.none
     ∙ ap (λ (o : Option Damaged). option_or o j.early) none ∙ whole.early
 
-pub no_record_fault : (files : Files) (form : Form) (log : Log) (kept : Kept) (file : ℕ) (d : Damaged)
+pub no_record_fault : (files : Files) (form : Form) (log : Log) (kept : Saved) (file : ℕ) (d : Damaged)
     → Stands files form log kept → RecordFault files file d → ⊥
 no_record_fault files form log kept file d stands f =
     let picked = log_picked form log files stands.known stands.few stands.there in
@@ -176,27 +157,27 @@ no_record_fault files form log kept file d stands f =
     subst (λ (x : Form). IsRead x (bytes_of (files x.file)) f.journal) same f.read in
     let first : journal_fault form f.journal ≡ Some d =
     subst (λ (x : Form). journal_fault x f.journal ≡ Some d) same f.first in
-    let e : None ≡ Some d = sym (records_sound files form log kept f.journal stands read) ∙ first in
+    let e : None ≡ Some d = sym (records_valid files form log kept f.journal stands read) ∙ first in
     absurd cc
 
-no_size_fault : (form : Form) (log : Log) (kept : Kept) (files : Files) (file : ℕ) (d : Damaged)
+no_size_fault : (form : Form) (log : Log) (kept : Saved) (files : Files) (file : ℕ) (d : Damaged)
     → KeepsLog form log kept files → SizeFault files file d → ⊥
 no_size_fault form log kept files file d keeps f =
-    let one : kept ≡ f.kept = same_kept files form f.form log f.log kept f.kept keeps.stands f.stands in
+    let one : kept ≡ f.kept = same_saved files form f.form log f.log kept f.kept keeps.stands f.stands in
     let whole : AllByRecursion (IsWhole files) (history_blocks f.kept.history) =
-    subst (λ (k : Kept). AllByRecursion (IsWhole files) (history_blocks k.history)) one keeps.whole in
+    subst (λ (k : Saved). AllByRecursion (IsWhole files) (history_blocks k.history)) one keeps.whole in
     f.first.wrong (All-contains (HasSize files) (history_blocks f.kept.history) f.block
     (All-from_recursion (HasSize files) (history_blocks f.kept.history)
     (all_sizes files (history_blocks f.kept.history) whole)) f.first.named)
 
 -- a disk that keeps a project has no fault
-pub no_fault : (files : Files) (found : keeping.Opened) (file : ℕ) (d : Damaged) → Keeps files found
+pub no_fault : (files : Files) (found : saved.Opened) (file : ℕ) (d : Damaged) → Keeps files found
     → FirstFault files file d → ⊥
 no_fault files found file d keeps f =
     let form = keeps.form in
     let log = keeps.keeps.log in
     let kept = keeps.keeps.kept in
-    let stands = stands_kept files found keeps in
+    let stands = stands_saved files found keeps in
     ⊎_elim (no_header_fault files form log kept file d stands) (⊎_elim
     (no_record_fault files form log kept file d stands)
     (no_size_fault form log kept files file d (record { stands = stands; whole = keeps.keeps.whole }))) f
@@ -204,7 +185,7 @@ no_fault files found file d keeps f =
 samples_same : (c d : Files) (id : ℕ) → blocks c id ≡ blocks d id → (sources_of c).block id ≡ (sources_of d).block id
 samples_same c d id e = ap (λ (b : Option (List ℤ)). λ (i : ℕ). slice_index_or (unwrap_or b []) i (pos 0)) e
 
-names : (form : Form) (log : Log) (kept : Kept) (files : Files) → KeepsLog form log kept files → (b : BlockRef)
+names : (form : Form) (log : Log) (kept : Saved) (files : Files) → KeepsLog form log kept files → (b : BlockRef)
     → Contains (history_blocks kept.history) b → Names files b.id
 names form log kept files is b has =
     record { form = form; log = log; kept = kept; stands = is.stands; block = b; named = has; is = refl }
@@ -213,7 +194,7 @@ each_of : (P : BlockRef → Type 0) (bs : List BlockRef) → ((b : BlockRef) →
 each_of P bs f = recursion_from_All P bs (λ k d lt. f (slice_index_or bs k d) (All-contains_itself bs k d lt))
 
 -- each block that both name is the same in both
-pub opened_same : (form : Form) (log : Log) (kept : Kept) (c d : Files)
+pub opened_same : (form : Form) (log : Log) (kept : Saved) (c d : Files)
     → ((id : ℕ) → Names c id → Names d id → blocks c id ≡ blocks d id) → KeepsLog form log kept c
     → KeepsLog form log kept d → opened log kept c ≡ opened log kept d
 opened_same form log kept c d same p q =
@@ -257,7 +238,7 @@ module _ {D : Type 0} (disk : Ghosts D) (old new : D) (honest : IsHonest disk ol
       subst (disk.may_leave old (disk.clock old)) (sym d.2) d.1
 
   -- each image with this journal keeps the same records and their blocks, as they read
-  image_leads : (form : Form) (log : Log) (kept : Kept) (c : Files) → KeepsLog form log kept (disk.reads old)
+  image_leads : (form : Form) (log : Log) (kept : Saved) (c : Files) → KeepsLog form log kept (disk.reads old)
       → disk.may_leave old (disk.clock old) c → HasLog form log c → KeepsLog form log kept c
   image_leads form log kept c keeps image has =
       let stands : Stands c form log kept = record {
@@ -268,11 +249,11 @@ module _ {D : Type 0} (disk : Ghosts D) (old new : D) (honest : IsHonest disk ol
         begins = keeps.stands.begins;
         told = keeps.stands.told;
       } in
-      let found : (found : keeping.Opened) × Keeps c found = ⊎_elim
+      let found : (found : saved.Opened) × Keeps c found = ⊎_elim
       (λ none. absurd (none_log c form log stands.known stands.few has none)) (λ f. f) (honest.whole c image) in
       keeps_log form log kept c found.0 stands found.1
 
-  image_blocks : (form : Form) (log : Log) (kept : Kept) (c : Files) → KeepsLog form log kept (disk.reads old)
+  image_blocks : (form : Form) (log : Log) (kept : Saved) (c : Files) → KeepsLog form log kept (disk.reads old)
       → disk.may_leave old (disk.clock old) c → HasLog form log c
       → SameBlocks (history_blocks kept.history) (disk.reads old) c
   image_blocks form log kept c keeps image has =
@@ -285,7 +266,7 @@ module _ {D : Type 0} (disk : Ghosts D) (old new : D) (honest : IsHonest disk ol
       (names form log kept files keeps b there)))
 
   -- and so the same project
-  image_keeps : (form : Form) (log : Log) (kept : Kept) (c : Files) → KeepsLog form log kept (disk.reads old)
+  image_keeps : (form : Form) (log : Log) (kept : Saved) (c : Files) → KeepsLog form log kept (disk.reads old)
       → disk.may_leave old (disk.clock old) c → HasLog form log c → Keeps c (opened log kept (disk.reads old))
   image_keeps form log kept c keeps image has =
       let is = image_leads form log kept c keeps image has in
@@ -297,16 +278,16 @@ module _ {D : Type 0} (disk : Ghosts D) (old new : D) (honest : IsHonest disk ol
       → KeepsLog opens.form opens.log opens.kept (disk.reads old)
   found_leads f opens =
       let stands = opens.project.stands in
-      let found : (found : keeping.Opened) × Keeps (disk.reads old) found =
+      let found : (found : saved.Opened) × Keeps (disk.reads old) found =
       ⊎_elim (λ none. absurd (none_log (disk.reads old) opens.form opens.log stands.known stands.few stands.there none))
       (λ f. f) (honest.whole (disk.reads old) here) in
       keeps_log opens.form opens.log opens.kept (disk.reads old) found.0 stands found.1
 
-  pub found_kept : (r : Result Found OpenFault) → Opens (disk.reads old) r
+  pub found_saved : (r : Result Found OpenFault) → Opens (disk.reads old) r
       → ((form : Form) (log : Log) → IsForm form → form.file ≤ 1 → HasLog form log (disk.reads old) → (f : Found)
       → r ≡ Ok f → Each (disk.may_leave new (disk.clock new)) (HasLog form log))
       → OpensHonest disk old new r
-  found_kept (Ok f) opens rest =
+  found_saved (Ok f) opens rest =
       let form = opens.form in
       let log = opens.log in
       let kept = opens.kept in
@@ -321,13 +302,13 @@ module _ {D : Type 0} (disk : Ghosts D) (old new : D) (honest : IsHonest disk ol
             (rest form log stands.known stands.few stands.there f refl c now);
         found = opens.found;
       }
-  found_kept (Err fault.Absent) opens rest = opens
-  found_kept (Err fault.Exists) opens rest = opens
-  found_kept (Err fault.DiskFault) opens rest = tt
-  found_kept (Err fault.NoMemory) opens rest = tt
-  found_kept (Err (fault.Foreign file)) opens rest =
+  found_saved (Err fault.Absent) opens rest = opens
+  found_saved (Err fault.Exists) opens rest = opens
+  found_saved (Err fault.DiskFault) opens rest = tt
+  found_saved (Err fault.NoMemory) opens rest = tt
+  found_saved (Err (fault.Foreign file)) opens rest =
       honest.foreign (disk.reads old) here file opens.1.there opens.1.foreign
-  found_kept (Err (fault.Damaged file at want have)) opens rest =
+  found_saved (Err (fault.Damaged file at want have)) opens rest =
       ⊎_elim (λ none. none_some (disk.reads old) none opens.0) (λ found. no_fault (disk.reads old) found.0 file (record {
         at = at;
         want = want;

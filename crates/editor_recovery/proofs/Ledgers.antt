@@ -1,31 +1,23 @@
 -- The counts of files, and of the layouts of a history.
-use Rattle.std.proofs.Common.{◌≡◌, ◌⊎◌, ℕ, ◌+◌, ◌≤◌, ◌<◌, ◌^◌, ◌*◌, ⊎_elim, List, [], ◌∷◌, ◌++◌, length}
-use Rattle.std.proofs.Common.{length-append, map, if◌then◌else◌, Option, Some, None, refl, sym, ap, subst, ◌∙◌, arith}
-use Rattle.std.proofs.Common.{◌-◌}
-use Rattle.std.specs.Prelude.{Contains, IsSome, find, if◌then◌else◌}
-use Rattle.std.specs.List.{AllByRecursion, flat_map}
-use Rattle.std.proofs.lemmas.Bool.Decides.{eqb_tells}
-use Rattle.std.proofs.lemmas.List.{append-nil}
-use Rattle.std.proofs.lemmas.Grind.{flat_map-append}
-use Rattle.pcm_base.specs.declared.block.BlockRef.{BlockRef}
-use Rattle.pcm_base.specs.History.{History}
+use Rattle.std.proofs.Common.{◌≡◌, ◌⊎◌, ℕ, ◌+◌, ◌≤◌, ◌<◌, ◌^◌, ⊎_elim, List, [], ◌∷◌, length, if◌then◌else◌, Option}
+use Rattle.std.proofs.Common.{Some, None, refl, sym, ap, subst, arith, ◌-◌}
+use Rattle.std.proofs.{lemmas.Bool.Decides.eqb_tells, lemmas.List.append-nil}
+use Rattle.std.specs.{Prelude.Contains, Prelude.IsSome, Prelude.find, Prelude.if◌then◌else◌, List.AllByRecursion}
+use Rattle.pcm_base.specs.{declared.block.BlockRef.BlockRef, History.History}
 use Rattle.disk_model.specs.Disk.{Files}
-use Rattle.block_ledger.specs.Counts.{Counts, occurrences}
-use Rattle.block_ledger.specs.Entries.{count_of}
-use Rattle.clip_track.specs.Clips.{layout_blocks}
-use Rattle.project_state.specs.declared.track.Track.{Track}
-use Rattle.project_state.specs.Meaning.{history_blocks, point_blocks}
-use Rattle.record_body.specs.KeptSound.{IsSoundTagged}
-use Rattle.layout_uses.specs.declared.tally.Tally.{Tally}
-use Rattle.layout_uses.specs.Layouts.{history_tracks, points_tracks, track_blocks}
-use Rattle.layout_uses.specs.Occurrences.{HasIds, times_named}
+use Rattle.block_ledger.specs.{Counts.Counts, Counts.occurrences, Entries.count_of}
+use Rattle.project_state.specs.{declared.track.Track.Track, Meaning.history_blocks, Meaning.point_blocks}
+use Rattle.record_body.specs.SavedValid.{IsValidTagged}
 use Rattle.layout_uses.specs.Tallies.{AreCounts, Comes, IsTally}
+use Rattle.layout_uses.specs.{declared.tally.Tally.Tally, Layouts.history_tracks, Layouts.track_blocks}
+use Rattle.layout_uses.specs.{Occurrences.HasIds, Occurrences.times_named}
 use Rattle.editor_state.specs.Studios.{IsGiven}
 use Rattle.editor_state.proofs.Blocks.BlockNumbers.{named_most, point_few}
-use Rattle.editor_recovery.specs.Files.{is_foreign, IsAbove}
-use Rattle.editor_recovery.specs.Listing.{AreFiles}
+use Rattle.editor_state.proofs.Blocks.NamedBlocks.{points_few as points_short, history_named}
 use Rattle.editor_recovery.specs.Ledgers.{AreCounted, AreNoted, IsLedgerOf}
+use Rattle.editor_recovery.specs.{Files.is_foreign, Files.IsAbove, Listing.AreFiles}
 use Rattle.editor_recovery.proofs.Highest.{listed_high}
+use Rattle.editor_edits.proofs.EditClipboard.{points_few as parts_few}
 
 -- ---- files that are noted
 
@@ -51,19 +43,6 @@ noted_tally files uses counts none noted = record {
 
 -- ---- the blocks of a history
 
--- the blocks that points name are those of their tracks
-pub tracks_named : (h : History (List Track)) → track_blocks (history_tracks h) ≡ history_blocks h
-tracks_named h = points_named h.points
-  where
-    points_named : (ps : List (List Track × ℕ))
-        → track_blocks (points_tracks (map (λ (p : List Track × ℕ). p.0) ps))
-        ≡ flat_map (λ (p : List Track × ℕ). point_blocks p.0) ps
-    points_named [] = refl
-    points_named (p ∷ ps) =
-        flat_map-append (λ (t : Track). layout_blocks t.layout) p.0
-        (points_tracks (map (λ (q : List Track × ℕ). q.0) ps))
-        ∙ ap (λ (bs : List BlockRef). point_blocks p.0 ++ bs) (points_named ps)
-
 -- each block that is named is there
 named_there : (P : ℕ → Type 0) (bs : List BlockRef) (id : ℕ) → AllByRecursion (λ (b : BlockRef). P b.id) bs
     → 0 < times_named id bs → P id
@@ -79,7 +58,7 @@ module _ (files : List ℕ) (h : History (List Track))
   pub points_there : HasIds counts (track_blocks (history_tracks h))
   points_there id some =
       let here = named_there (λ (n : ℕ). (2 ≤ n) × Contains files n) (history_blocks h) id named
-      (subst (λ (bs : List BlockRef). 0 < times_named id bs) (tracks_named h) some) in
+      (subst (λ (bs : List BlockRef). 0 < times_named id bs) (history_named h) some) in
       noted_some files counts noted id here.1 here.0
 
   pub points_few : ((id : ℕ) → times_named id (history_blocks h) < 2 ^ 128) → (id : ℕ)
@@ -88,7 +67,7 @@ module _ (files : List ℕ) (h : History (List Track))
     arith,
     few id,
     noted_zero files counts noted id,
-    ap (times_named id) (tracks_named h),
+    ap (times_named id) (history_named h),
   )
 
 -- ---- the counts then
@@ -130,19 +109,8 @@ given files counts last next is known above id has =
 
 -- ---- how many there are
 
-parts_few : (ps : List (List Track × ℕ))
-    → AllByRecursion (λ (p : List Track × ℕ). length (point_blocks p.0) ≤ 2 ^ 38) ps
-    → length (flat_map (λ (p : List Track × ℕ). point_blocks p.0) ps) ≤ length ps * 2 ^ 38
-parts_few [] h = omega arith
-parts_few (p ∷ ps) h = omega (
-  arith,
-  h.0,
-  parts_few ps h.1,
-  length-append (point_blocks p.0) (flat_map (λ (q : List Track × ℕ). point_blocks q.0) ps),
-)
-
 each_few : (m block track commit : ℕ) (ps : List (List Track × ℕ))
-    → AllByRecursion (IsSoundTagged m block track commit) ps
+    → AllByRecursion (IsValidTagged m block track commit) ps
     → AllByRecursion (λ (p : List Track × ℕ). length (point_blocks p.0) ≤ 2 ^ 38) ps
 each_few m block track commit [] all = tt
 each_few m block track commit (p ∷ ps) all =
@@ -150,7 +118,7 @@ each_few m block track commit (p ∷ ps) all =
 
 -- no id is named more often than a count can say
 pub times_few : (m block track commit : ℕ) (h : History (List Track))
-    → AllByRecursion (IsSoundTagged m block track commit) h.points → length h.points ≤ 65536 → (id : ℕ)
+    → AllByRecursion (IsValidTagged m block track commit) h.points → length h.points ≤ 65536 → (id : ℕ)
     → times_named id (history_blocks h) < 2 ^ 128
 times_few m block track commit h all few id = omega (
   arith,
@@ -159,25 +127,15 @@ times_few m block track commit h all few id = omega (
   parts_few h.points (each_few m block track commit h.points all),
 )
 
-points_short : (ps : List (List Track × ℕ)) → AllByRecursion (λ (p : List Track × ℕ). length p.0 ≤ 64) ps
-    → length (points_tracks (map (λ (p : List Track × ℕ). p.0) ps)) ≤ length ps * 64
-points_short [] h = omega arith
-points_short (p ∷ ps) h = omega (
-  arith,
-  h.0,
-  points_short ps h.1,
-  length-append p.0 (points_tracks (map (λ (q : List Track × ℕ). q.0) ps)),
-)
-
 each_short : (m block track commit : ℕ) (ps : List (List Track × ℕ))
-    → AllByRecursion (IsSoundTagged m block track commit) ps
+    → AllByRecursion (IsValidTagged m block track commit) ps
     → AllByRecursion (λ (p : List Track × ℕ). length p.0 ≤ 64) ps
 each_short m block track commit [] all = tt
 each_short m block track commit (p ∷ ps) all = (all.0.0.few, each_short m block track commit ps all.1)
 
 -- and no more tracks are there
 pub tracks_few : (m block track commit : ℕ) (h : History (List Track))
-    → AllByRecursion (IsSoundTagged m block track commit) h.points → length h.points ≤ 65536
+    → AllByRecursion (IsValidTagged m block track commit) h.points → length h.points ≤ 65536
     → length (history_tracks h) < 2 ^ 128
 tracks_few m block track commit h all few =
     omega (arith, few, points_short h.points (each_short m block track commit h.points all))

@@ -5,7 +5,7 @@ pub mod Searched
 pub mod Points
 pub mod Ledgers
 pub mod Plain
-pub mod SoundParts
+pub mod ValidParts
 pub mod Opens
 pub mod Alone
 pub mod Honest

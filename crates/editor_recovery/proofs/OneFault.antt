@@ -3,20 +3,16 @@ use Rattle.std.proofs.Common.{◌≡◌, ℕ, List, inl, inr, Option, Some, None
 use Rattle.pcm_base.specs.declared.block.BlockRef.{BlockRef}
 use Rattle.disk_model.specs.Disk.{Files, bytes_of}
 use Rattle.sample_block.specs.Spelling.{size_of}
-use Rattle.project_journal.specs.declared.fault.Damaged.{Damaged}
-use Rattle.project_journal.specs.Choice.{FailsIn}
-use Rattle.project_journal.specs.Fields.{field}
 use Rattle.project_journal.specs.Header.{Form, first_failed, form_of}
-use Rattle.project_journal.specs.Journal.{IsRead}
+use Rattle.project_journal.specs.{declared.fault.Damaged.Damaged, Choice.FailsIn, Fields.field, Journal.IsRead}
 use Rattle.project_journal.proofs.Picked.{no_choice_fault, picked_once}
-use Rattle.project_journal.proofs.ReadOnce.{read_form, read_once, read_sound}
-use Rattle.record_body.specs.Kept.{Kept}
+use Rattle.project_journal.proofs.ReadOnce.{read_form, read_once, read_valid}
+use Rattle.record_body.specs.Saved.{Saved}
 use Rattle.project_state.specs.Meaning.{history_blocks}
-use Rattle.record_fold.specs.Faults.{journal_fault}
-use Rattle.editor_recovery.specs.Laws.{HasOneFault}
-use Rattle.editor_recovery.specs.Opening.{HeaderFault, RecordFault, SizeFault}
-use Rattle.editor_recovery.specs.Sizes.{IsUpTo, IsFirstWrong, file_size}
-use Rattle.editor_recovery.proofs.Honest.{no_header_fault, no_record_fault, same_kept}
+use Rattle.journal_replay.specs.Faults.{journal_fault}
+use Rattle.editor_recovery.specs.{Laws.HasOneFault, Opening.HeaderFault, Opening.RecordFault, Opening.SizeFault}
+use Rattle.editor_recovery.specs.{Sizes.IsUpTo, Sizes.IsFirstWrong, Sizes.file_size}
+use Rattle.editor_recovery.proofs.Honest.{no_header_fault, no_record_fault, same_saved}
 
 some_is : (d e : Damaged) → Some d ≡ Some e → d ≡ e
 some_is d e same = cc
@@ -55,9 +51,9 @@ module _ (files : Files) (f g : ℕ) (d e : Damaged) where
   header_records (inr p) q =
       let bytes = bytes_of (files q.form.file) in
       let form = read_form q.form bytes q.journal q.known q.read in
-      let sound : header_fails files q.form.file ≡ None =
-      ap (λ (x : Form). first_failed (x.tests bytes)) form ∙ read_sound q.form bytes q.journal q.known q.read in
-      let no : None ≡ Some d = sym sound
+      let valid : header_fails files q.form.file ≡ None =
+      ap (λ (x : Form). first_failed (x.tests bytes)) form ∙ read_valid q.form bytes q.journal q.known q.read in
+      let no : None ≡ Some d = sym valid
       ∙ sym (ap (header_fails files) (picked_once f q.form.file files p.picked q.picked)) ∙ p.fails in
       absurd cc
 
@@ -85,9 +81,9 @@ module _ (files : Files) (f g : ℕ) (d e : Damaged) where
 
   sizes : SizeFault files f d → SizeFault files g e → (f ≡ g) × (d ≡ e)
   sizes p q =
-      let one : p.kept ≡ q.kept = same_kept files p.form q.form p.log q.log p.kept q.kept p.stands q.stands in
+      let one : p.kept ≡ q.kept = same_saved files p.form q.form p.log q.log p.kept q.kept p.stands q.stands in
       let first : IsFirstWrong files (history_blocks q.kept.history) p.block =
-      subst (λ (k : Kept). IsFirstWrong files (history_blocks k.history) p.block) one p.first in
+      subst (λ (k : Saved). IsFirstWrong files (history_blocks k.history) p.block) one p.first in
       let block : p.block ≡ q.block = same_block p.block q.block (first.first q.block q.first.named q.first.wrong)
       (q.first.first p.block first.named first.wrong) in (
         p.tells.0 ∙ ap (λ (b : BlockRef). b.id) block ∙ sym q.tells.0,

@@ -2,52 +2,28 @@
 use Rattle.std.proofs.Common.{◌≡◌, ℕ, inl, inr, List, None, Result, Ok, Err, sym, ap, subst, ◌∙◌, arith}
 use Rattle.std.specs.Prelude.{⊤, IfErr, IfOk, IsTrue}
 use Rattle.pcm_base.specs.declared.block.BlockRef.{BlockRef}
-use Rattle.disk_model.specs.Disk.{Files, bytes_of}
-use Rattle.disk_model.specs.declared.store.Store.{Ghosts}
-use Rattle.project_journal.specs.Choice.{IsNewest, IsPicked}
-use Rattle.project_journal.specs.Header.{Form}
-use Rattle.project_journal.specs.Journal as journal
+use Rattle.disk_model.specs.{Disk.Files, Disk.bytes_of, declared.store.Store.Ghosts}
 use Rattle.project_journal.specs.Journal.{Contents, HasLog, log_of}
-use Rattle.project_journal.specs.Opening.{IsOpened}
-use Rattle.project_journal.specs.Reader.{IsStored}
-use Rattle.project_journal.specs.declared.fault.Damaged.{Damaged}
-use Rattle.project_journal.specs.declared.reader.Reader.{Reader}
+use Rattle.project_journal.specs.{Choice.IsNewest, Choice.IsPicked, Header.Form, Opening.IsOpened, Reader.IsStored}
+use Rattle.project_journal.specs.{declared.fault.Damaged.Damaged, declared.reader.Reader.Reader}
 use Rattle.project_journal.proofs.Found.{journal_generation, log_there, read_whole, stored_here}
-use Rattle.project_state.specs.Meaning.{history_blocks}
-use Rattle.project_state.specs.Numbers.{unnumbered_history}
+use Rattle.project_state.specs.{Meaning.history_blocks, Numbers.unnumbered_history}
 use Rattle.record_body.proofs.Unnumbered.{history_blocks_alike}
-use Rattle.record_fold.specs.Bases.{base_of}
-use Rattle.record_fold.specs.Folds.{kept_of}
-use Rattle.editor_recovery.specs.declared.disk.Disk.{Disk}
-use Rattle.editor_recovery.specs.declared.disk.Folded.{Folded}
-use Rattle.editor_core.specs.declared.assembly.Parts.{Parts}
-use Rattle.editor_recovery.specs.declared.fault.OpenFault.{OpenFault}
-use Rattle.editor_recovery.specs.declared.fault.OpenFault.TheVariants as fault
-use Rattle.editor_recovery.specs.Listing.{AreFiles, Lists, TellsForeign}
-use Rattle.editor_recovery.specs.Files.{NoForeign}
-use Rattle.editor_recovery.specs.Found.{answer_in, found_in}
-use Rattle.editor_recovery.specs.Finding.{ArePartsOf, FoldsDisk, IsFoldOf, IsSoundFolded, TestsMeasured, TestsSizes}
-use Rattle.editor_recovery.specs.Opening.{HeaderFault, Opens}
+use Rattle.journal_replay.specs.{Bases.base_of, Folds.saved_of}
+use Rattle.editor_recovery.specs.Finding.{ArePartsOf, FoldsDisk, IsFoldOf, IsValidFolded, TestsMeasured, TestsSizes}
 use Rattle.editor_recovery.specs.Reading.{IsRead, ReadsDisk, Refuses}
 use Rattle.editor_recovery.specs.Sizes.{AllHaveSize, IsFirstWrong, file_size}
-use Rattle.editor_recovery.specs.Standing.{Stands}
-use Rattle.editor_recovery.proofs.Alone.{some_picked, some_refused}
-use Rattle.editor_recovery.proofs.Ledgers.{ledger_of}
-use Rattle.editor_recovery.proofs.Listed.{next_block}
-use Rattle.editor_recovery.proofs.SoundParts.{parts_numbered}
-use Rattle.editor_recovery.proofs.Wrong.{all_right, one_wrong}
+use Rattle.editor_recovery.specs.{declared.disk.Disk.Disk, declared.disk.Folded.Folded}
+use Rattle.editor_recovery.specs.{declared.fault.OpenFault.OpenFault, Listing.AreFiles, Listing.Lists, Files.NoForeign}
+use Rattle.editor_recovery.specs.{Found.answer_in, Found.found_in, Opening.HeaderFault, Opening.Opens, Standing.Stands}
+use Rattle.editor_core.specs.declared.assembly.Parts.{Parts}
+use Rattle.editor_recovery.proofs.{Alone.some_picked, Alone.some_refused, Ledgers.ledger_of, Listed.next_block}
+use Rattle.editor_recovery.proofs.{ValidParts.parts_numbered, Wrong.all_right, Wrong.one_wrong}
+use Rattle.project_journal.specs.Journal as journal
+use Rattle.editor_recovery.specs.declared.fault.OpenFault.TheVariants as fault
 
 abbrev pub damaged : ℕ → ℕ → ℕ → Damaged
 damaged at want have = record { at = at; want = want; have = have }
-
--- a disk that was not read
-pub unread : (files : Files) (e : OpenFault) → ReadsDisk files (Err e) → Opens files (Err e)
-unread files fault.Absent read = read
-unread files fault.Exists read = read
-unread files fault.DiskFault read = tt
-unread files fault.NoMemory read = tt
-unread files (fault.Foreign file) read = read
-unread files (fault.Damaged file at want have) read = (read.0, read.1, inl read.2)
 
 -- a journal that is stored in the file that is chosen, as its files are read
 pub stored_read : {D : Type 0} (disk : Ghosts D) (store : D) (files : Files) (form : Form) (j : Contents)
@@ -97,7 +73,7 @@ log_of_read files form j listed is early =
     (journal_generation form bytes j is.known whole) is.picked.newest)
 
 stands_read : (files : Files) (form : Form) (j : Contents) (listed : List ℕ) (f : Folded) → IsRead files form j listed
-    → IsFoldOf form j f → Stands files form (log_of j) (kept_of f.project)
+    → IsFoldOf form j f → Stands files form (log_of j) (saved_of f.project)
 stands_read files form j listed f is fold = record {
   known = is.known;
   few = is.picked.few;
@@ -134,7 +110,7 @@ unsized files form j listed f (fault.Damaged file at want have) is fold tests = 
   inr (inr (record {
     form = form;
     log = log_of j;
-    kept = kept_of f.project;
+    kept = saved_of f.project;
     stands = stands_read files form j listed f is fold;
     block = tests.0;
     first = subst (λ (bs : List BlockRef). IsFirstWrong files bs tests.0)
@@ -145,15 +121,15 @@ unsized files form j listed f (fault.Damaged file at want have) is fold tests = 
 
 -- and none
 parts_open : (files : Files) (form : Form) (j : Contents) (listed : List ℕ) (f : Folded) (p : Parts)
-    → IsRead files form j listed → IsFoldOf form j f → IsSoundFolded f
+    → IsRead files form j listed → IsFoldOf form j f → IsValidFolded f
     → AllHaveSize files (history_blocks f.project.numbered.history.history)
     → ArePartsOf listed f p → Opens files (Ok (found_in p))
-parts_open files form j listed f p is fold sound sizes parts =
-    let numbers = parts_numbered listed f p sound parts in
+parts_open files form j listed f p is fold valid sizes parts =
+    let numbers = parts_numbered listed f p valid parts in
     record {
       form = form;
       log = log_of j;
-      kept = kept_of f.project;
+      kept = saved_of f.project;
       project = record {
         stands = stands_read files form j listed f is fold;
         sizes = subst (AllHaveSize files) (sym (history_blocks_alike f.project.numbered.history.history)) sizes;
@@ -162,7 +138,7 @@ parts_open files form j listed f p is fold sound sizes parts =
         rate = parts.rate ∙ fold.rate;
         block_size = parts.block_size ∙ fold.block_size;
         history = ap unnumbered_history parts.history;
-        layouts = omega (arith, parts.next_layout, parts.end, sound.layouts);
+        layouts = omega (arith, parts.next_layout, parts.end, valid.layouts);
         layouts_least = numbers.least;
         layouts_few = omega (arith, parts.next_layout, parts.end, fold.end, fold.few);
         numbered = numbers.numbered;
@@ -180,12 +156,12 @@ parts_open files form j listed f p is fold sound sizes parts =
     }
 
 pub parts_result : (files : Files) (form : Form) (j : Contents) (listed : List ℕ) (f : Folded)
-    (r : Result Parts OpenFault) → IsRead files form j listed → IsFoldOf form j f → IsSoundFolded f
+    (r : Result Parts OpenFault) → IsRead files form j listed → IsFoldOf form j f → IsValidFolded f
     → AllHaveSize files (history_blocks f.project.numbered.history.history)
     → IfOk r (ArePartsOf listed f) → IfErr r (λ e. e ≡ fault.NoMemory) → Opens files (answer_in r)
-parts_result files form j listed f (Ok p) is fold sound sizes parts memory =
-    parts_open files form j listed f p is fold sound sizes parts
-parts_result files form j listed f (Err e) is fold sound sizes parts memory =
+parts_result files form j listed f (Ok p) is fold valid sizes parts memory =
+    parts_open files form j listed f p is fold valid sizes parts
+parts_result files form j listed f (Err e) is fold valid sizes parts memory =
     subst (λ (x : OpenFault). Opens files (Err x)) (sym memory) tt
 
 -- a listing beside a header without faults
@@ -220,12 +196,3 @@ with_fault files file at want have (Err (fault.Damaged file' at' want' have')) r
         have = sym refuses.4 i;
       }) read),
 )
-
-pub refuses_list : (files : Files) (file at want have : ℕ) (e : OpenFault) → TellsForeign files e
-    → Refuses files file at want have (Err e)
-refuses_list files file at want have fault.Absent tells = absurd tells
-refuses_list files file at want have fault.Exists tells = absurd tells
-refuses_list files file at want have fault.DiskFault tells = tt
-refuses_list files file at want have fault.NoMemory tells = tt
-refuses_list files file at want have (fault.Foreign other) tells = tells
-refuses_list files file at want have (fault.Damaged file' at' want' have') tells = absurd tells

@@ -1,14 +1,11 @@
--- A project whose layouts have numbers is as sound as the same one without them.
+-- A project whose layouts have numbers is as valid as the same one without them.
 use Rattle.std.proofs.Common.{ℕ, List, [], ◌∷◌, map, refl}
-use Rattle.std.specs.List.{AllByRecursion}
 use Rattle.std.proofs.lemmas.List.Elements.{All-from_recursion, recursion_from_All}
-use Rattle.project_state.specs.declared.track.Track.{Track}
-use Rattle.project_state.specs.Numbers.{unnumbered}
-use Rattle.record_body.specs.Kept.{Kept}
-use Rattle.record_body.specs.KeptSound.{IsSoundTagged}
+use Rattle.std.specs.List.{AllByRecursion}
+use Rattle.project_state.specs.{declared.track.Track.Track, Numbers.unnumbered}
+use Rattle.record_body.specs.{Saved.Saved, SavedValid.IsValidTagged}
 use Rattle.record_body.proofs.Unnumbered.{sound_back}
-use Rattle.record_fold.specs.declared.project.Project.{Project}
-use Rattle.record_fold.specs.Folds.{IsValid, kept_of}
+use Rattle.journal_replay.specs.{declared.project.Project.Project, Folds.IsValid, Folds.saved_of}
 
 -- a point with its tag
 abbrev pub Tagged : Type 0
@@ -18,14 +15,14 @@ abbrev plain_point : Tagged → Tagged
 plain_point p = (map unnumbered p.0, p.1)
 
 points_back : (m block track commit : ℕ) (ps : List Tagged)
-    → AllByRecursion (IsSoundTagged m block track commit) (map plain_point ps)
-    → AllByRecursion (IsSoundTagged m block track commit) ps
+    → AllByRecursion (IsValidTagged m block track commit) (map plain_point ps)
+    → AllByRecursion (IsValidTagged m block track commit) ps
 points_back m block track commit [] all = tt
 points_back m block track commit (p ∷ ps) all =
     ((sound_back m block track p.0 all.0.0, all.0.1), points_back m block track commit ps all.1)
 
 -- with the numbers
-abbrev pub numbered_kept : Project → Kept
+abbrev pub numbered_kept : Project → Saved
 numbered_kept p = record {
   history = p.numbered.history.history;
   next_block = p.next_block;
@@ -33,10 +30,10 @@ numbered_kept p = record {
   commit = p.commit;
 }
 
-pub valid_back : (m : ℕ) (p : Project) → IsValid m (kept_of p) → IsValid m (numbered_kept p)
+pub valid_back : (m : ℕ) (p : Project) → IsValid m (saved_of p) → IsValid m (numbered_kept p)
 valid_back m p valid =
     let ps : List Tagged = p.numbered.history.history.points in
-    let Q : Tagged → Type 0 = IsSoundTagged m p.next_block p.next_track p.commit in
+    let Q : Tagged → Type 0 = IsValidTagged m p.next_block p.next_track p.commit in
     record {
       points = All-from_recursion Q ps (points_back m p.next_block p.next_track p.commit ps
           (recursion_from_All Q (map plain_point ps) valid.points));

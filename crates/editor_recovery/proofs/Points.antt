@@ -1,29 +1,24 @@
 -- The points of a history, one by one.
-use Rattle.std.proofs.Common.{◌≡◌, ℕ, zero, suc, ◌+◌, ◌<◌, ◌≤◌, List, [], ◌∷◌, ◌++◌, length, map, drop, get_or}
-use Rattle.std.proofs.Common.{Some, None, refl, sym, ap, subst, ◌∙◌, arith}
-use Rattle.std.specs.Prelude.{slice_get, Contains}
-use Rattle.std.specs.Option.{option_map}
-use Rattle.std.specs.List.{All, AllByRecursion, flat_map}
+use Rattle.std.proofs.Common.{◌≡◌, ℕ, ◌+◌, ◌<◌, ◌≤◌, List, [], ◌∷◌, ◌++◌, length, map, drop, get_or, Some, None, refl}
+use Rattle.std.proofs.Common.{sym, ap, subst, ◌∙◌, arith, ⊎_elim}
 use Rattle.std.proofs.lemmas.List.{length-map}
 use Rattle.std.proofs.lemmas.Option.{slice_get_within, slice_get-get_or, slice_get-map}
 use Rattle.std.proofs.lemmas.List.Elements.{All-from_recursion, recursion_from_All, All-get_or, All-contains}
-use Rattle.std.proofs.lemmas.List.Elements.{Contains-append_right}
+use Rattle.std.specs.List.{All, AllByRecursion, flat_map}
+use Rattle.std.specs.{Prelude.slice_get, Prelude.Contains, Option.option_map}
 use Rattle.project_state.proofs.Points.{drop_some}
-use Rattle.pcm_base.specs.declared.block.BlockRef.{BlockRef}
-use Rattle.pcm_base.specs.History.{point_of}
+use Rattle.pcm_base.specs.{declared.block.BlockRef.BlockRef, History.point_of}
 use Rattle.sample_block.specs.Spelling.{IsBlock}
-use Rattle.project_state.specs.declared.track.Track.{Track}
-use Rattle.project_state.specs.Meaning.{point_blocks}
-use Rattle.record_body.proofs.KeptBounds.{all_append, IsBlockRef}
+use Rattle.project_state.specs.{declared.track.Track.Track, Meaning.point_blocks}
+use Rattle.record_body.proofs.SavedBounds.{all_append, IsBlockRef}
 use Rattle.editor_recovery.specs.Sizes.{first_wrong}
 use Rattle.editor_recovery.proofs.Wrong.{found_wrong, FoundOne, Found}
-use Rattle.std.proofs.Common.{⊎_elim}
 
 -- the blocks of points
 abbrev pub all_blocks : List (List Track × ℕ) → List BlockRef
 all_blocks ps = flat_map (λ p. point_blocks p.0) ps
 
-some_is : {X : Type 0} (x y : X) → Some x ≡ Some y → x ≡ y
+pub some_is : {X : Type 0} (x y : X) → Some x ≡ Some y → x ≡ y
 some_is x y e = cc
 
 -- the point at a place
@@ -104,12 +99,3 @@ pub wrong_few : (sizes : ℕ → ℕ) (ps : List (List Track × ℕ)) (b : Block
 wrong_few sizes ps b all some =
     (All-contains IsBlockRef (all_blocks ps) b (All-from_recursion IsBlockRef (all_blocks ps)
     (all_flat IsBlockRef ps all)) (wrong_named sizes (all_blocks ps) b some)).few
-
--- the blocks of later points are among all
-pub blocks_among : (ps : List (List Track × ℕ)) (i : ℕ) (b : BlockRef) → Contains (all_blocks (drop i ps)) b
-    → Contains (all_blocks ps) b
-blocks_among [] zero b has = has
-blocks_among [] (suc i) b has = has
-blocks_among (p ∷ ps) zero b has = has
-blocks_among (p ∷ ps) (suc i) b has =
-    Contains-append_right (point_blocks p.0) (all_blocks ps) b (blocks_among ps i b has)

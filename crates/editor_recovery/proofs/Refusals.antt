@@ -1,12 +1,11 @@
 -- What may refuse an opening, by what its steps tell.
-use Rattle.std.proofs.Common.{◌≡◌, ◌∙◌, refl, sym, ap, subst, ℕ, Bool, true, false, cond, List, [], ◌∷◌, Option, Some, Result}
-use Rattle.std.proofs.Common.{Err, IfErr, Ok}
+use Rattle.std.proofs.Common.{◌≡◌, ◌∙◌, refl, sym, ap, subst, ℕ, Bool, true, false, cond, List, [], ◌∷◌, Option, Some}
+use Rattle.std.proofs.Common.{Result, Err, IfErr, Ok}
 use Rattle.std.specs.Prelude.{find}
 use Rattle.pcm_base.specs.declared.block.BlockRef.{BlockRef}
-use Rattle.editor_recovery.specs.declared.fault.OpenFault.{OpenFault}
-use Rattle.editor_recovery.specs.declared.fault.OpenFault.TheVariants as fault
-use Rattle.editor_recovery.specs.Finding.{TestsMeasured}
 use Rattle.editor_recovery.specs.Listing.{IsOpenRefusal, IsRefusal}
+use Rattle.editor_recovery.specs.{declared.fault.OpenFault.OpenFault, Finding.TestsMeasured}
+use Rattle.editor_recovery.specs.declared.fault.OpenFault.TheVariants as fault
 
 pub refusal_opens : (e : OpenFault) → IsRefusal e → IsOpenRefusal e
 refusal_opens fault.DiskFault is = tt

@@ -1,28 +1,16 @@
 -- A journal that is at rest stays so while nothing is written.
 use Rattle.std.proofs.Common.{◌≡◌, ◌≤◌, ⊎_elim, ℕ, [], Result, Ok, Err, sym, ap, subst, ◌∙◌, arith}
 use Rattle.std.specs.Prelude.{IfOk, OnOk, IsTrue}
-use Rattle.disk_model.specs.Disk.{Files}
-use Rattle.disk_model.specs.Frames.{Kept}
-use Rattle.disk_model.specs.declared.store.Store.{Ghosts}
-use Rattle.project_journal.specs.Choice.{IsNewest, other_file}
-use Rattle.project_journal.specs.Gate.{IsDurable}
-use Rattle.project_journal.specs.Header.{Form, IsForm}
+use Rattle.disk_model.specs.{Disk.Files, Frames.Kept, declared.store.Store.Ghosts}
 use Rattle.project_journal.specs.Journal.{Log, HasLog, IsAt, log_of}
-use Rattle.project_journal.specs.Opening.{IsOpened}
-use Rattle.project_journal.specs.Reader.{IsHeading, reader_form}
-use Rattle.project_journal.specs.declared.reader.Reader.{Reader}
-use Rattle.project_journal.proofs.FirstReadings.{heading_kept}
+use Rattle.project_journal.specs.{Choice.IsNewest, Choice.other_file, Gate.IsDurable, Header.Form, Header.IsForm}
+use Rattle.project_journal.specs.{Opening.IsOpened, Reader.IsHeading, Reader.reader_form, declared.reader.Reader.Reader}
 use Rattle.project_journal.proofs.Found.{found_form, whole_log, stored_here, stored_rest}
-use Rattle.project_journal.proofs.Kept.{SameJournals, is_at_still}
-use Rattle.project_journal.proofs.Picked.{zero_or_one}
-use Rattle.editor_recovery.specs.declared.disk.Disk.{Disk}
-use Rattle.editor_recovery.specs.declared.disk.Folded.{Folded}
+use Rattle.project_journal.proofs.{FirstReadings.heading_kept, Kept.is_at_still, Picked.zero_or_one}
+use Rattle.editor_recovery.specs.{declared.disk.Disk.Disk, declared.disk.Folded.Folded}
+use Rattle.editor_recovery.specs.{declared.fault.OpenFault.OpenFault, Finding.FoldsDisk}
 use Rattle.editor_core.specs.declared.assembly.Parts.{Parts}
-use Rattle.editor_recovery.specs.declared.fault.OpenFault.{OpenFault}
-use Rattle.editor_recovery.specs.Finding.{FoldsDisk}
-
-both_same : (file : ℕ) (d c : Files) → c ≡ d → SameJournals file d c
-both_same file d c same = (ap (λ (f : Files). f file) same, ap (λ (f : Files). f (other_file file)) same)
+use Rattle.editor_state.proofs.Calls.LookCalls.{same_journals}
 
 one_durable : {D : Type 0} (disk : Ghosts D) (store : D) (file : ℕ) → file ≤ 1 → IsDurable disk store 0
     → IsDurable disk store 1 → IsDurable disk store file
@@ -35,8 +23,8 @@ module _ {D : Type 0} {disk : Ghosts D} where
   still_at : (form : Form) (mid new : D) (at : ℕ) (log : Log) → Kept disk mid new → IsAt form disk mid at log
       → IsAt form disk new at log
   still_at form mid new at log kept here =
-      is_at_still {form = form} (both_same form.file)
-      (both_same form.file (disk.reads mid) (disk.reads new) kept.same_reads) kept.same_images here
+      is_at_still {form = form} (same_journals form.file)
+      (same_journals form.file (disk.reads mid) (disk.reads new) kept.same_reads) kept.same_images here
 
   -- a file that is on the disk stays so
   pub still_durable : (mid new : D) (file : ℕ) → Kept disk mid new → IsDurable disk mid file → IsDurable disk new file

@@ -1,20 +1,18 @@
 -- Blocks that were searched bring nothing new, and so do layouts whose numbers the point before has.
-use Rattle.std.proofs.Common.{◌≡◌, ◌==◌, ℕ, zero, suc, ◌+◌, Bool, true, false, inl, inr, ◌⊎◌, ⊎_elim, List}
-use Rattle.std.proofs.Common.{[], ◌∷◌, ◌++◌, Option, Some, None, refl, sym, ap, subst, ◌∙◌, arith}
+use Rattle.std.proofs.Common.{◌≡◌, ◌==◌, ℕ, zero, suc, ◌+◌, Bool, true, false, inl, inr, ◌⊎◌, ⊎_elim, List, [], ◌∷◌}
+use Rattle.std.proofs.Common.{◌++◌, Option, Some, None, refl, sym, ap, subst, ◌∙◌, arith}
+use Rattle.std.proofs.lemmas.Bool.{and_from, or_left, or_right, eq-eqb, eqb-true, lt-ltb, le-leb}
 use Rattle.std.specs.Prelude.{nat_lt, nat_le, ◌&&◌, if◌then◌else◌, slice_get}
 use Rattle.std.specs.List.{AllByRecursion}
-use Rattle.std.proofs.lemmas.Bool.{and_from, or_left, or_right, eq-eqb, eqb-true, lt-ltb, le-leb}
 use Rattle.pcm_base.specs.declared.block.BlockRef.{BlockRef}
 use Rattle.sample_block.specs.Spelling.{size_of}
-use Rattle.clip_track.specs.declared.clips.Clip.{Clip}
-use Rattle.clip_track.specs.Clips.{layout_blocks}
-use Rattle.project_state.specs.declared.track.Track.{Track}
-use Rattle.project_state.specs.Meaning.{point_blocks}
-use Rattle.layout_uses.specs.Laws.{AreAmong, IsAmong}
-use Rattle.layout_uses.specs.Layouts.{Agree, AgreesWith, AreNumbered}
-use Rattle.layout_uses.proofs.Numbers.{among_agrees}
+use Rattle.clip_track.specs.{declared.clips.Clip.Clip, Clips.layout_blocks}
+use Rattle.project_state.specs.{declared.track.Track.Track, Meaning.point_blocks}
+use Rattle.layout_uses.specs.{Laws.AreAmong, Laws.IsAmong, Layouts.AgreesWith, Layouts.AreNumbered}
+use Rattle.layout_uses.proofs.Numbers.{among_agrees, agrees_one}
 use Rattle.editor_recovery.specs.Sizes.{IsUpTo, is_up_to, earlier, one_more, first_wrong, IsSearched, AreSearched}
 use Rattle.editor_recovery.proofs.Wrong.{IsRight, order_trans, earlier_new, earlier_old}
+use Rattle.editor_recovery.proofs.Points.{some_is}
 
 -- ---- one block
 
@@ -133,16 +131,9 @@ track_holds P (u ∷ us) (suc i) t here all = track_holds P us i t here all.1
 
 -- ---- layouts of one number
 
-agree_one : (t u : Track) (ts : List Track) → AgreesWith t ts → IsAmong u ts → Agree t u
-agree_one t u [] agree among = absurd among
-agree_one t u (v ∷ vs) agree among = ⊎_elim
-    (λ same. subst (λ (x : Track). Agree t x) same agree.0)
-    (λ there. agree_one t u vs agree.1 there)
-    among
-
 agree_each : (t : Track) (us ts : List Track) → AgreesWith t ts → AreAmong us ts → AgreesWith t us
 agree_each t [] ts agree all = tt
-agree_each t (u ∷ us) ts agree all = (agree_one t u ts agree all.0, agree_each t us ts agree all.1)
+agree_each t (u ∷ us) ts agree all = (agrees_one t u ts agree all.0, agree_each t us ts agree all.1)
 
 -- the tracks of two points of one history agree
 pub agree_points : (xs ys ts : List Track) → AreNumbered ts → AreAmong xs ts → AreAmong ys ts
@@ -173,9 +164,6 @@ layout_searched sizes found (v ∷ vs) t u agree searched among same =
     among
 
 -- ---- the point that was searched last
-
-some_is : {X : Type 0} (x y : X) → Some x ≡ Some y → x ≡ y
-some_is x y e = cc
 
 pub last_searched : (sizes : ℕ → ℕ) (found after : Option BlockRef) (ps : List (List Track)) (i : ℕ) (ts : List Track)
     → slice_get ps i ≡ Some ts → after ≡ first_wrong sizes found (point_blocks ts)

@@ -1,33 +1,25 @@
 -- The calls of a studio leave an honest disk honest.
-use Rattle.std.proofs.Common.{◌≡◌, ◌⊎◌, ◌∙◌, inl, inr, ⊎_elim, sym, ap, subst, refl, ℕ, ◌++◌, ◌≤◌, ◌<◌, Bool}
-use Rattle.std.proofs.Common.{true, false, Option, Some, None, List, [], ◌∷◌, arith}
-use Rattle.std.specs.Prelude.{Contains, IsSome, IsTrue, if◌then◌else◌, nat_le, nat_lt, ◌&&◌, ◌||◌}
-use Rattle.std.specs.List.{AllByRecursion}
+use Rattle.std.proofs.Common.{◌≡◌, ◌⊎◌, ◌∙◌, inl, inr, ⊎_elim, sym, ap, subst, refl, ℕ, ◌++◌, ◌≤◌, ◌<◌, Bool, true}
+use Rattle.std.proofs.Common.{false, Option, Some, None, List, [], ◌∷◌, arith}
 use Rattle.std.proofs.lemmas.Bool.{leb-true, ltb-true}
 use Rattle.std.proofs.lemmas.List.Elements.{All-contains, All-from_recursion}
-use Rattle.std.specs.Option.{option_and_then}
+use Rattle.std.specs.Prelude.{Contains, IsSome, IsTrue, if◌then◌else◌, nat_le, nat_lt, ◌&&◌, ◌||◌}
+use Rattle.std.specs.{List.AllByRecursion, Option.option_and_then}
 use Rattle.pcm_base.specs.declared.limits.TheConstants.{COUNTER_LIMIT, FIRST_BLOCK}
 use Rattle.pcm_base.specs.declared.block.BlockRef.{BlockRef}
-use Rattle.disk_model.specs.Disk.{Files}
-use Rattle.disk_model.specs.MomentLaws.{upto_refl}
-use Rattle.disk_model.specs.declared.store.Store.{Ghosts}
+use Rattle.disk_model.specs.{Disk.Files, MomentLaws.upto_refl, declared.store.Store.Ghosts}
 use Rattle.sample_block.specs.Blocks.{block_in, blocks}
 use Rattle.project_journal.specs.Gate.{EachNow}
-use Rattle.project_journal.proofs.Kept.{each_has}
-use Rattle.project_journal.proofs.Parses.{form_known}
-use Rattle.record_body.specs.Kept as keeping
+use Rattle.project_journal.proofs.{Kept.each_has, Parses.form_known}
 use Rattle.project_state.specs.Meaning.{history_blocks}
 use Rattle.record_body.proofs.Unnumbered.{history_blocks_alike}
-use Rattle.editor_state.specs.Core.{Core, form_at}
-use Rattle.editor_state.specs.Left.{LeavesOthers, MayRemove}
 use Rattle.editor_state.specs.Studios.{IsDurable, IsHeld, IsStudio, clip_blocks, pin_blocks, shown, studio_of}
-use Rattle.editor_state.specs.Took.{Exchange, Took}
-use Rattle.editor_recovery.specs.Files.{NoForeign, is_foreign}
-use Rattle.editor_recovery.specs.Honest.{IsHonest, Names}
-use Rattle.editor_recovery.specs.StayingHonest.{IsHonestImage, StaysHonest}
-use Rattle.editor_recovery.specs.Standing.{HasNone, Stands}
-use Rattle.editor_recovery.proofs.Created.{not_journal}
-use Rattle.editor_recovery.proofs.Honest.{same_kept}
+use Rattle.editor_state.specs.{Core.Core, Core.form_at, Left.LeavesOthers, Left.MayRemove, Took.Exchange, Took.Took}
+use Rattle.editor_recovery.specs.{Files.NoForeign, Files.is_foreign, Honest.IsHonest, Honest.Names}
+use Rattle.editor_recovery.specs.{StayingHonest.IsHonestImage, StayingHonest.StaysHonest, Standing.HasNone}
+use Rattle.editor_recovery.specs.{Standing.Stands}
+use Rattle.editor_recovery.proofs.{Created.not_journal, Honest.same_saved}
+use Rattle.record_body.specs.Saved as saved
 
 -- ---- no foreign file comes
 
@@ -82,11 +74,11 @@ module _ {D : Type 0} (disk : Ghosts D) (s : Core D) (few : s.file ≤ 1) (durab
         told = durable.told;
       } in
       let kept : names.kept ≡ durable.kept =
-      same_kept c names.form (form_at s) names.log durable.log names.kept durable.kept names.stands stands in
+      same_saved c names.form (form_at s) names.log durable.log names.kept durable.kept names.stands stands in
       let blocks_are = ap history_blocks durable.history ∙ history_blocks_alike s.history in
       let there : Contains (history_blocks s.history) names.block =
       subst (λ (bs : List BlockRef). Contains bs names.block) blocks_are
-      (subst (λ (k : keeping.Kept). Contains (history_blocks k.history) names.block) kept names.named) in
+      (subst (λ (k : saved.Saved). Contains (history_blocks k.history) names.block) kept names.named) in
       let Same : BlockRef → Type 0 = λ b. c b.id ≡ disk.reads s.store b.id in
       let all = front_of Same (history_blocks s.history) (pin_blocks s.pins ++ clip_blocks s.clipboard)
       (durable.blocks c now) in
@@ -138,7 +130,7 @@ pub alone_honest : {D : Type 0} (disk : Ghosts D) (store : D) (files : Files) �
 alone_honest disk store files image model alone = record {
   model = model;
   foreign = λ c now. subst NoForeign (sym (alone c now)) image.foreign;
-  whole = λ c now. subst (λ (f : Files). HasNone f ⊎ ((found : keeping.Opened) × keeping.Keeps f found))
+  whole = λ c now. subst (λ (f : Files). HasNone f ⊎ ((found : saved.Opened) × saved.Keeps f found))
       (sym (alone c now)) image.whole;
   same = λ c nc d nd id p q. ap (λ (f : Files). blocks f id) (alone c nc ∙ sym (alone d nd));
 }

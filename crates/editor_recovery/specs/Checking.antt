@@ -2,22 +2,17 @@
 use Rattle.std.specs.Prelude.{◌≡◌, ℕ, ◌<◌, IsTrue, List, length, take, slice_index_or, Contains, Result, Ok, Err, IfErr}
 use Rattle.std.specs.Prelude.{IfOk, IsOkUnless}
 use Rattle.pcm_base.specs.declared.block.BlockRef.{BlockRef}
-use Rattle.disk_model.specs.Disk.{Files}
-use Rattle.disk_model.specs.Frames.{Kept}
-use Rattle.disk_model.specs.declared.store.Store.{Ghosts}
+use Rattle.disk_model.specs.{Disk.Files, Frames.Kept, declared.store.Store.Ghosts}
 use Rattle.sample_block.specs.Sources.{IsWhole, AllWhole}
-use Rattle.block_store.specs.declared.fault.BlockFault.{BlockFault}
-use Rattle.block_store.specs.declared.fault.BlockFault.TheVariants as block
-use Rattle.block_store.specs.Reads.{Counted}
+use Rattle.block_store.specs.{declared.fault.BlockFault.BlockFault, Reads.Counted}
 use Rattle.project_journal.specs.Gate.{EachSince}
-use Rattle.record_body.specs.Kept.{Keeps}
+use Rattle.record_body.specs.Saved.{Keeps}
 use Rattle.project_state.specs.Meaning.{history_blocks}
-use Rattle.editor_state.specs.Core.{Core}
+use Rattle.editor_state.specs.{Core.Core, Studios.IsHeld, Studios.IsStudio, Studios.shown, Studios.studio_of}
 use Rattle.editor_views.specs.Scans.{AreIdsOf, BlockScanned, Differs, HaveOneLength}
-use Rattle.editor_state.specs.Studios.{IsHeld, IsStudio, shown, studio_of}
-use Rattle.editor_recovery.specs.declared.fault.OpenFault.{OpenFault}
+use Rattle.editor_recovery.specs.{declared.fault.OpenFault.OpenFault, Causes.Causes}
+use Rattle.block_store.specs.declared.fault.BlockFault.TheVariants as block
 use Rattle.editor_recovery.specs.declared.fault.OpenFault.TheVariants as fault
-use Rattle.editor_recovery.specs.Causes.{Causes}
 
 -- this many ids these blocks have
 abbrev pub IsCountOf : List BlockRef → ℕ → Type 0
@@ -46,10 +41,10 @@ IsCheckFault fault.NoMemory = Unit {0}
 IsCheckFault _ = ⊥
 
 -- no damage was found
-abbrev pub IsSoundFault : OpenFault → Type 0
-IsSoundFault fault.DiskFault = Unit {0}
-IsSoundFault fault.NoMemory = Unit {0}
-IsSoundFault _ = ⊥
+abbrev pub IsNotDamage : OpenFault → Type 0
+IsNotDamage fault.DiskFault = Unit {0}
+IsNotDamage fault.NoMemory = Unit {0}
+IsNotDamage _ = ⊥
 
 -- The files of the blocks that points name are read whole, one after another. Nothing of the studio or of its disk
 -- changes, whatever the disk tells, but for the count of failed reads.
@@ -59,7 +54,7 @@ pub record ChecksStudio {D : Type 0} (disk : Ghosts D) (old : Core D) (result : 
   pub faults : IfErr result IsCheckFault
   pub count : HaveOneLength (history_blocks old.history) → IfOk result (IsCountOf (history_blocks old.history))
   -- a disk that holds what the studio stands for has no damaged block
-  pub sound : IsHeld disk old → IfErr result IsSoundFault
+  pub valid : IsHeld disk old → IfErr result IsNotDamage
   pub cause : Causes disk old.store new.store result
   pub same : new ≡ record old { store = new.store }
   pub kept : Kept disk old.store new.store
@@ -81,7 +76,7 @@ pub record ScansAll {D T : Type 0} (disk : Ghosts D) (old : Core D) (bs : List B
     (new : Core D) : Type 0 where
   pub scanned : IsTrue (disk.tells old.store) → AllScanned (disk.reads old.store) bs result
   pub counted : Counted result (disk.read_fault_count old.store) (disk.read_fault_count new.store)
-  pub sound : IsHeld disk old → IsOkUnless result block.DiskFault
+  pub valid : IsHeld disk old → IsOkUnless result block.DiskFault
   pub same : new ≡ record old { store = new.store }
   pub kept : Kept disk old.store new.store
   pub studio : IsStudio disk new

@@ -1,14 +1,11 @@
 -- When each answer of a creation comes.
 use Rattle.std.specs.Prelude.{ℕ, [], Result, Ok, Err}
 use Rattle.pcm_base.specs.History.{history_of_one}
-use Rattle.disk_model.specs.Disk.{Files}
-use Rattle.disk_model.specs.Frames.{Kept}
-use Rattle.disk_model.specs.declared.store.Store.{Ghosts}
-use Rattle.record_body.specs.Kept.{Opened}
-use Rattle.editor_recovery.specs.declared.fault.OpenFault.{OpenFault}
+use Rattle.disk_model.specs.{Disk.Files, Frames.Kept, declared.store.Store.Ghosts}
+use Rattle.record_body.specs.Saved.{Opened}
+use Rattle.editor_recovery.specs.{declared.fault.OpenFault.OpenFault, Files.IsFirstForeign, Files.NoForeign}
+use Rattle.editor_recovery.specs.{Standing.HasNone, Standing.HasSome}
 use Rattle.editor_recovery.specs.declared.fault.OpenFault.TheVariants as fault
-use Rattle.editor_recovery.specs.Files.{IsFirstForeign, NoForeign}
-use Rattle.editor_recovery.specs.Standing.{HasNone, HasSome}
 
 -- a project without commits, whose one point has no tracks
 abbrev pub new_opened : ℕ → ℕ → ℕ → Opened

@@ -2,31 +2,22 @@
 use Rattle.std.specs.Prelude.{◌≡◌, ℕ, ◌+◌, ◌*◌, ◌≤◌, None, Some, List, [], map, Result, Ok, Err}
 use Rattle.pcm_base.specs.declared.limits.TheConstants.{COUNTER_LIMIT, LEAST_END}
 use Rattle.pcm_base.specs.declared.block.BlockRef.{BlockRef}
-use Rattle.disk_model.specs.Disk.{Files}
+use Rattle.disk_model.specs.{Disk.Files, declared.store.Store.Ghosts}
 use Rattle.sample_block.specs.Spelling.{size_of}
-use Rattle.disk_model.specs.declared.store.Store.{Ghosts}
-use Rattle.project_journal.specs.declared.fault.JournalFault.{JournalFault}
-use Rattle.project_journal.specs.declared.fault.JournalFault.TheVariants as journal
-use Rattle.project_journal.specs.Header.{Form, IsFormat}
-use Rattle.project_journal.specs.Journal.{Contents, body_at, log_of}
-use Rattle.project_journal.specs.Reader.{IsStored}
+use Rattle.project_journal.specs.{declared.fault.JournalFault.JournalFault, Header.Form, Header.IsFormat}
+use Rattle.project_journal.specs.{Journal.Contents, Journal.body_at, Journal.log_of, Reader.IsStored}
 use Rattle.block_ledger.specs.Entries.{count_of}
-use Rattle.record_body.specs.Kept.{Begins, LeadIn, version_of}
-use Rattle.layout_uses.specs.Layouts.{history_tracks}
-use Rattle.layout_uses.specs.Tallies.{IsTally}
-use Rattle.record_fold.specs.Bases.{base_of}
-use Rattle.record_fold.specs.Faults.{journal_fault}
-use Rattle.record_fold.specs.Folds.{kept_of, HasLayoutNumbers, IsValid}
-use Rattle.record_fold.specs.Heads.{HasFault}
-use Rattle.editor_recovery.specs.declared.disk.Folded.{Folded}
-use Rattle.editor_recovery.specs.declared.finding.TheConstants.{PAGES}
+use Rattle.record_body.specs.Saved.{Begins, LeadIn, version_of}
+use Rattle.layout_uses.specs.{Layouts.history_tracks, Tallies.IsTally}
+use Rattle.journal_replay.specs.Folds.{saved_of, HasLayoutNumbers, IsValid}
+use Rattle.journal_replay.specs.{Bases.base_of, Faults.journal_fault, Heads.HasFault}
+use Rattle.editor_recovery.specs.Sizes.{AllHaveSize, IsFirstWrong, file_size, first_wrong}
+use Rattle.editor_recovery.specs.{declared.disk.Folded.Folded, declared.finding.TheConstants.PAGES}
+use Rattle.editor_recovery.specs.{declared.fault.OpenFault.OpenFault, Files.IsAbove, Ledgers.AreCounted}
 use Rattle.editor_state.specs.Studios.{AreJournalNumbers}
 use Rattle.editor_core.specs.declared.assembly.Parts.{Parts}
-use Rattle.editor_recovery.specs.declared.fault.OpenFault.{OpenFault}
+use Rattle.project_journal.specs.declared.fault.JournalFault.TheVariants as journal
 use Rattle.editor_recovery.specs.declared.fault.OpenFault.TheVariants as fault
-use Rattle.editor_recovery.specs.Files.{IsAbove}
-use Rattle.editor_recovery.specs.Ledgers.{AreCounted}
-use Rattle.editor_recovery.specs.Sizes.{AllHaveSize, IsFirstWrong, file_size, first_wrong}
 
 -- what a journal of this form says whose points and records have no fault
 pub record IsFoldOf (form : Form) (j : Contents) (f : Folded) : Type 0 where
@@ -36,10 +27,10 @@ pub record IsFoldOf (form : Form) (j : Contents) (f : Folded) : Type 0 where
   pub version : f.version ≡ version_of form
   pub generation : f.generation ≡ j.base.generation
   pub end : f.end ≡ j.end
-  pub sound : journal_fault form j ≡ None
+  pub valid : journal_fault form j ≡ None
   pub early : j.early ≡ None
   pub begins : Begins (log_of j) (base_of j)
-  pub leads : LeadIn (version_of form) j.block_size (base_of j) (map body_at j.records) (kept_of f.project)
+  pub leads : LeadIn (version_of form) j.block_size (base_of j) (map body_at j.records) (saved_of f.project)
   -- for each number of a layout there are 9 bytes of the journal
   pub few : 9 * f.project.numbered.next + 16 * j.base.count + form.header_size ≤ 9 + j.end
 
@@ -59,10 +50,10 @@ records_fault journal.DiskFault = fault.DiskFault
 records_fault journal.NoMemory = fault.NoMemory
 records_fault _ = fault.Exists
 
--- whatever the store tells, a project that was folded is sound
-pub record IsSoundFolded (f : Folded) : Type 0 where
+-- whatever the store tells, a project that was folded is valid
+pub record IsValidFolded (f : Folded) : Type 0 where
   pub format : IsFormat f.rate f.block_size f.project.numbered.history.history.depth
-  pub kept : IsValid f.block_size (kept_of f.project)
+  pub kept : IsValid f.block_size (saved_of f.project)
   pub commit : f.project.commit ≤ COUNTER_LIMIT
   pub journal : AreJournalNumbers f.file f.version f.generation
   pub end_least : LEAST_END ≤ f.end

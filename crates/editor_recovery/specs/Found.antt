@@ -1,8 +1,7 @@
 -- What opening finds of a project, as its parts show it and a studio of them.
 use Rattle.std.specs.Prelude.{◌≡◌, ℕ, List, [], None, Result, Ok, Err}
 use Rattle.pcm_base.specs.History.{History}
-use Rattle.block_ledger.specs.Counts.{Counts}
-use Rattle.block_ledger.specs.Entries.{count_of}
+use Rattle.block_ledger.specs.{Counts.Counts, Entries.count_of}
 use Rattle.project_state.specs.declared.track.Track.{Track}
 use Rattle.editor_state.specs.Core.{Core}
 use Rattle.editor_core.specs.declared.assembly.Parts.{Parts}

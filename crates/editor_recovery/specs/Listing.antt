@@ -2,8 +2,8 @@
 use Rattle.std.specs.Prelude.{◌↔◌, ℕ, IsTrue, IsSome, Contains, Result, Ok, Err, List}
 use Rattle.disk_model.specs.Disk.{Files}
 use Rattle.editor_recovery.specs.declared.fault.OpenFault.{OpenFault}
-use Rattle.editor_recovery.specs.declared.fault.OpenFault.TheVariants as fault
 use Rattle.editor_recovery.specs.Files.{IsFirstForeign, NoForeign, is_foreign}
+use Rattle.editor_recovery.specs.declared.fault.OpenFault.TheVariants as fault
 
 -- these are the numbers of the files
 abbrev pub AreFiles : Files → List ℕ → Type 0

@@ -3,27 +3,20 @@ use Rattle.std.specs.Prelude.{◌≡◌, ◌⊎◌, ℕ, ◌+◌, ◌*◌, ◌�
 use Rattle.pcm_base.specs.declared.block.BlockRef.{BlockRef}
 use Rattle.disk_model.specs.Disk.{Files, bytes_of}
 use Rattle.sample_block.specs.Spelling.{size_of}
-use Rattle.project_journal.specs.declared.fault.Damaged.{Damaged}
-use Rattle.project_journal.specs.Choice.{HasChoiceFault, IsPicked}
-use Rattle.project_journal.specs.Header.{Form, IsForm}
-use Rattle.project_journal.specs.Journal.{Log, Contents, IsRead}
-use Rattle.project_journal.specs.Opening.{HasHeaderFault}
-use Rattle.record_body.specs.Kept.{Kept, version_of}
-use Rattle.project_state.specs.Meaning.{history_blocks}
-use Rattle.project_state.specs.Numbers.{unnumbered_history}
-use Rattle.layout_uses.specs.Layouts.{AreDrawn, AreNumbered, history_tracks}
-use Rattle.layout_uses.specs.Tallies.{AreCounts}
-use Rattle.record_fold.specs.Faults.{journal_fault}
-use Rattle.editor_recovery.specs.declared.fault.OpenFault.{OpenFault}
-use Rattle.editor_recovery.specs.declared.fault.OpenFault.TheVariants as fault
-use Rattle.editor_recovery.specs.Found.{Found}
+use Rattle.project_journal.specs.{declared.fault.Damaged.Damaged, Choice.HasChoiceFault, Choice.IsPicked, Header.Form}
+use Rattle.project_journal.specs.{Header.IsForm, Journal.Log, Journal.Contents, Journal.IsRead, Opening.HasHeaderFault}
+use Rattle.record_body.specs.Saved.{Saved, version_of}
+use Rattle.project_state.specs.{Meaning.history_blocks, Numbers.unnumbered_history}
+use Rattle.layout_uses.specs.{Layouts.AreDrawn, Layouts.AreNumbered, Layouts.history_tracks, Tallies.AreCounts}
+use Rattle.journal_replay.specs.Faults.{journal_fault}
 use Rattle.editor_recovery.specs.Files.{IsFirstForeign, NoForeign, IsNextBlock}
 use Rattle.editor_recovery.specs.Sizes.{IsFirstWrong, AllHaveSize, file_size}
 use Rattle.editor_recovery.specs.Standing.{HasNone, HasSome, Stands}
-use Rattle.editor_recovery.specs.Ledgers.{IsLedgerOf}
+use Rattle.editor_recovery.specs.{declared.fault.OpenFault.OpenFault, Found.Found, Ledgers.IsLedgerOf}
+use Rattle.editor_recovery.specs.declared.fault.OpenFault.TheVariants as fault
 
 -- a project stands in a disk's journal, and each file of a block that its points name has its size
-pub record HasProject (files : Files) (form : Form) (log : Log) (kept : Kept) : Type 0 where
+pub record HasProject (files : Files) (form : Form) (log : Log) (kept : Saved) : Type 0 where
   pub stands : Stands files form log kept
   pub sizes : AllHaveSize files (history_blocks kept.history)
 
@@ -45,7 +38,7 @@ pub record RecordFault (files : Files) (file : ℕ) (d : Damaged) : Type 0 where
 pub record SizeFault (files : Files) (file : ℕ) (d : Damaged) : Type 0 where
   pub form : Form
   pub log : Log
-  pub kept : Kept
+  pub kept : Saved
   pub stands : Stands files form log kept
   pub block : BlockRef
   pub first : IsFirstWrong files (history_blocks kept.history) block
@@ -55,7 +48,7 @@ abbrev pub FirstFault : Files → ℕ → Damaged → Type 0
 FirstFault files file d = HeaderFault files file d ⊎ (RecordFault files file d ⊎ SizeFault files file d)
 
 -- what was found of a disk with a project
-pub record IsFound (files : Files) (form : Form) (log : Log) (kept : Kept) (f : Found) : Type 0 where
+pub record IsFound (files : Files) (form : Form) (log : Log) (kept : Saved) (f : Found) : Type 0 where
   pub rate : f.rate ≡ log.rate
   pub block_size : f.block_size ≡ log.block_size
   pub history : unnumbered_history f.history ≡ kept.history
@@ -79,7 +72,7 @@ pub record IsFound (files : Files) (form : Form) (log : Log) (kept : Kept) (f : 
 pub record Finds (files : Files) (f : Found) : Type 0 where
   pub form : Form
   pub log : Log
-  pub kept : Kept
+  pub kept : Saved
   pub project : HasProject files form log kept
   pub found : IsFound files form log kept f
   pub foreign : NoForeign files

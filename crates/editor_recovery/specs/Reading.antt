@@ -1,18 +1,12 @@
 -- What reading the journal and listing the files answers.
 use Rattle.std.specs.Prelude.{◌≡◌, ℕ, List, Result, Ok, Err}
 use Rattle.disk_model.specs.Disk.{Files, bytes_of}
-use Rattle.project_journal.specs.Choice.{IsPicked}
-use Rattle.project_journal.specs.Header.{Form, IsForm}
+use Rattle.project_journal.specs.{Choice.IsPicked, Header.Form, Header.IsForm, Journal.Contents, Opening.IsOpened}
+use Rattle.editor_recovery.specs.{declared.disk.Disk.Disk, declared.fault.OpenFault.OpenFault, Listing.AreFiles}
+use Rattle.editor_recovery.specs.{Files.IsFirstForeign, Files.NoForeign, Opening.HeaderFault, Standing.HasNone}
+use Rattle.editor_recovery.specs.{Standing.HasSome}
 use Rattle.project_journal.specs.Journal as journal
-use Rattle.project_journal.specs.Journal.{Contents}
-use Rattle.project_journal.specs.Opening.{IsOpened}
-use Rattle.editor_recovery.specs.declared.disk.Disk.{Disk}
-use Rattle.editor_recovery.specs.declared.fault.OpenFault.{OpenFault}
 use Rattle.editor_recovery.specs.declared.fault.OpenFault.TheVariants as fault
-use Rattle.editor_recovery.specs.Listing.{AreFiles}
-use Rattle.editor_recovery.specs.Files.{IsFirstForeign, NoForeign}
-use Rattle.editor_recovery.specs.Opening.{HeaderFault}
-use Rattle.editor_recovery.specs.Standing.{HasNone, HasSome}
 
 -- a fault of the choice or of a header, where no file is foreign
 abbrev pub Refuses : Files → (file at want have : ℕ) → Result Disk OpenFault → Type 0

@@ -2,9 +2,8 @@
 use Rattle.std.specs.Prelude.{◌⊎◌, ◌≤◌}
 use Rattle.disk_model.specs.Disk.{Files, bytes_of}
 use Rattle.project_journal.specs.Header.{Form, IsForm, IsProject}
-use Rattle.project_journal.specs.Journal.{Log, HasLog}
-use Rattle.project_journal.specs.Start.{NoProject}
-use Rattle.record_body.specs.Kept.{Kept, Begins, LeadIn, version_of}
+use Rattle.project_journal.specs.{Journal.Log, Journal.HasLog, Start.NoProject}
+use Rattle.record_body.specs.Saved.{Saved, Begins, LeadIn, version_of}
 
 -- a project is there, or none
 abbrev pub HasSome : Files → Type 0
@@ -14,10 +13,10 @@ abbrev pub HasNone : Files → Type 0
 HasNone files = NoProject 0 files × NoProject 1 files
 
 -- A disk has a journal of this form. It begins with a project, from which its records lead to this one.
-pub record Stands (files : Files) (form : Form) (log : Log) (kept : Kept) : Type 0 where
+pub record Stands (files : Files) (form : Form) (log : Log) (kept : Saved) : Type 0 where
   pub known : IsForm form
   pub few : form.file ≤ 1
   pub there : HasLog form log files
-  pub base : Kept
+  pub base : Saved
   pub begins : Begins log base
   pub told : LeadIn (version_of form) log.block_size base log.bodies kept

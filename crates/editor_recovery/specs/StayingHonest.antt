@@ -1,15 +1,10 @@
 -- What the calls of a studio leave of an honest disk.
 use Rattle.std.specs.Prelude.{◌≡◌, ◌⊎◌, IsTrue, IsSome, None}
-use Rattle.disk_model.specs.Disk.{Files}
-use Rattle.disk_model.specs.declared.store.Store.{Ghosts}
+use Rattle.disk_model.specs.{Disk.Files, declared.store.Store.Ghosts}
 use Rattle.project_journal.specs.Gate.{EachNow, EachSince}
-use Rattle.record_body.specs.Kept.{Opened, Keeps}
-use Rattle.editor_state.specs.Core.{Core}
-use Rattle.editor_state.specs.Studios.{IsHeld, IsStudio}
-use Rattle.editor_state.specs.Took.{Exchange, Took}
-use Rattle.editor_recovery.specs.Files.{NoForeign}
-use Rattle.editor_recovery.specs.Honest.{IsHonest}
-use Rattle.editor_recovery.specs.Standing.{HasNone}
+use Rattle.record_body.specs.Saved.{Opened, Keeps}
+use Rattle.editor_state.specs.{Core.Core, Studios.IsHeld, Studios.IsStudio, Took.Exchange, Took.Took}
+use Rattle.editor_recovery.specs.{Files.NoForeign, Honest.IsHonest, Standing.HasNone}
 
 -- what an honest disk asks of one image: no foreign file, and no project or one that it keeps
 pub record IsHonestImage (files : Files) : Type 0 where

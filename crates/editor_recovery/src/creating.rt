@@ -9,7 +9,7 @@ ghost use Rattle.project_journal.specs.Header.{IsFormat, IsProject, form_3};
 ghost use Rattle.project_journal.specs.Journal.{HasLog, IsAt, fresh};
 ghost use Rattle.project_journal.specs.Rooms.{create_room};
 ghost use Rattle.project_journal.specs.Start.{NoProject, IsFront};
-ghost use Rattle.record_body.specs.Kept.{Keeps};
+ghost use Rattle.record_body.specs.Saved.{Keeps};
 ghost use Rattle.editor_recovery.specs.Causes.{Causes};
 ghost use Rattle.editor_recovery.specs.Creating.{Creates, HasNoForeign, IsCreateRefusal, LeavesRefused, new_opened};
 ghost use Rattle.editor_recovery.specs.Honest.{IsHonest};

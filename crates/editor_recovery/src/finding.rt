@@ -12,11 +12,11 @@ ghost use Rattle.project_journal.specs.Reader.{IsHeading, reader_form};
 ghost use Rattle.project_state.specs.Meaning.{point_blocks, history_blocks};
 ghost use Rattle.layout_uses.specs.Layouts.{AreNumbered, history_tracks};
 ghost use Rattle.disk_model.specs.Frames.{Kept};
-ghost use Rattle.editor_recovery.specs.Bounds.{IsSoundParts};
+ghost use Rattle.editor_recovery.specs.Bounds.{IsValidParts};
 ghost use Rattle.editor_recovery.specs.Listing.{AreFiles, IsOpenRefusal};
 ghost use Rattle.editor_recovery.specs.Files.{is_foreign, NoForeign};
 ghost use Rattle.editor_recovery.specs.Found.{answer_in};
-ghost use Rattle.editor_recovery.specs.Finding.{FoldsDisk, IsFoldOf, IsSoundFolded, records_fault, TestsMeasured};
+ghost use Rattle.editor_recovery.specs.Finding.{FoldsDisk, IsFoldOf, IsValidFolded, records_fault, TestsMeasured};
 ghost use Rattle.editor_recovery.specs.Finding.{TestsSizes, ArePartsOf};
 ghost use Rattle.editor_recovery.specs.Measured.{size_in};
 ghost use Rattle.editor_recovery.specs.Causes.{Causes};
@@ -32,11 +32,11 @@ use super::measuring::measure;
 use super::sizes::{Sizes, wrong_block};
 use disk_model::Store;
 use editor_core::Parts;
+use journal_replay::{fold_journal, version_in};
 use layout_uses::Numbered;
 use pcm_base::BlockRef;
 use project_journal::{JournalFault, Reader};
 use project_state::Point;
-use record_fold::{fold_journal, version_in};
 use sample_block::file_size;
 use std::alloc::Global;
 use undo_history::History;
@@ -75,7 +75,7 @@ fn fold_disk<S: Store>(alloc: Global, store: &mut S, reader: Reader) -> Result<F
     requires { IsHeading S.Store store.old reader [] }
     ensures folds { FoldsDisk S.Store store.new (reader_form reader) result }
     ensures opening { IfErr result IsOpenRefusal }
-    ensures sound { IfOk result IsSoundFolded }
+    ensures valid { IfOk result IsValidFolded }
     ensures kept { Kept S.Store store.old store.new }
     ensures cause { Causes S.Store store.old store.new result }
 {
@@ -148,7 +148,7 @@ fn test_files<S: Store>(
 fn parts_of(alloc: Global, files: &[u64], folded: Folded) -> Result<Parts, OpenFault>
     requires known { find is_foreign files.now ≡ None }
     requires rising { IsStrictlyIncreasing files.now }
-    requires sound { IsSoundFolded folded }
+    requires valid { IsValidFolded folded }
     requires block { folded.project.next_block ≤ COUNTER_LIMIT }
     requires named { All (λ p. All (λ b. (2 ≤ b.id) × Contains files.now b.id) (point_blocks p.0))
         folded.project.numbered.history.history.points }
@@ -197,10 +197,10 @@ fn size_parts<S: Store>(
 ) -> Result<Parts, OpenFault>
     requires known { find is_foreign files.now ≡ None }
     requires rising { IsStrictlyIncreasing files.now }
-    requires sound { IsSoundFolded folded }
+    requires valid { IsValidFolded folded }
     ensures opens { (form : Form) (j : Contents) → IsTrue (S.tells store.old)
         → IsRead (S.reads store.old) form j files.now → IsFoldOf form j folded → Opens (S.reads store.old) (answer_in result) }
-    ensures sound { IfOk result IsSoundParts }
+    ensures valid { IfOk result IsValidParts }
     ensures opening { IfErr result IsOpenRefusal }
     ensures end { IfOk result (λ p. p.journal_end ≡ folded.end) }
     ensures kept { Kept S.Store store.old store.new }
@@ -228,7 +228,7 @@ pub(crate) fn find_parts<S: Store>(
         → IsOpened (S.reads store.old) disk.reader
         → IfOk result (λ p. (form : Form) (log : Log) → IsForm form → form.file ≤ 1
         → HasLog form log (S.reads store.old) → IsAt form S.Store store.new p.journal_end log) }
-    ensures sound { IfOk result IsSoundParts }
+    ensures valid { IfOk result IsValidParts }
     ensures opening { IfErr result IsOpenRefusal }
     ensures kept { Kept S.Store store.old store.new }
     ensures cause { Causes S.Store store.old store.new result }

@@ -5,13 +5,13 @@ ghost use Rattle.disk_model.specs.Frames.{Changed};
 ghost use Rattle.project_journal.specs.Header.{Form, IsForm};
 ghost use Rattle.project_journal.specs.Journal.{Log, HasLog, IsAt};
 ghost use Rattle.project_journal.specs.Gate.{EachNow, IsDurable};
-ghost use Rattle.record_body.specs.Kept.{Keeps};
+ghost use Rattle.record_body.specs.Saved.{Keeps};
 ghost use Rattle.project_state.specs.Meaning.{history_blocks};
 ghost use Rattle.editor_core.specs.Core.{core_of};
 ghost use Rattle.editor_core.specs.Parts.{AreParts, HasParts, assembled};
 ghost use Rattle.editor_views.specs.Scans.{HaveOneLength};
 ghost use Rattle.editor_state.specs.Studios.{IsHeld, IsStudio, shown, studio_of};
-ghost use Rattle.editor_recovery.specs.Bounds.{IsSoundParts};
+ghost use Rattle.editor_recovery.specs.Bounds.{IsValidParts};
 ghost use Rattle.editor_recovery.specs.Causes.{Causes};
 ghost use Rattle.editor_recovery.specs.Found.{IsNew, answer_in};
 ghost use Rattle.editor_recovery.specs.Honest.{IsHonest, OpensHonest};
@@ -32,7 +32,7 @@ fn open_parts<S: Store>(alloc: Global, store: &mut S) -> Result<Parts, OpenFault
     ensures at_rest { IsTrue (S.tells store.old)
         → IfOk result (λ p. (form : Form) (log : Log) → IsForm form → form.file ≤ 1
         → HasLog form log (S.reads store.old) → IsAt form S.Store store.new p.journal_end log) }
-    ensures sound { IfOk result IsSoundParts }
+    ensures valid { IfOk result IsValidParts }
     ensures opening { IfErr result IsOpenRefusal }
     ensures durable { OnOk result (IsDurable S.Store store.new 0) }
     ensures other { OnOk result (IsDurable S.Store store.new 1) }

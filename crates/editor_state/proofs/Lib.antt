@@ -1,5 +1,6 @@
 -- What holds of each element of a list, and of a studio over another store.
 pub mod Lists
+pub mod SameStudios
 -- The blocks that a studio names and counts, and the pages of them that it keeps.
 pub mod Blocks
 -- What a studio stands for, and the project that each image keeps.

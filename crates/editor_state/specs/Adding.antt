@@ -1,25 +1,15 @@
 -- What the parts of a commit do.
-use Rattle.std.specs.Prelude.{◌≡◌, ◌⊎◌, ℕ, suc, ◌+◌, ◌≤◌, ◌<◌, IsTrue, Option, Some, None, List, Result, Ok}
-use Rattle.std.specs.Prelude.{Err}
+use Rattle.std.specs.Prelude.{◌≡◌, ◌⊎◌, ℕ, suc, ◌+◌, ◌≤◌, ◌<◌, IsTrue, Option, Some, None, List, Result, Ok, Err}
 use Rattle.std.specs.Prelude.{MatchResult, OnOk}
-use Rattle.pcm_base.specs.Causes.{Rose}
-use Rattle.pcm_base.specs.Counters.{no_room, record_test}
-use Rattle.pcm_base.specs.Refusals.{◌otherwise◌}
-use Rattle.pcm_base.specs.Run.{stop_of}
-use Rattle.pcm_base.specs.declared.limits.TheConstants.{COUNTER_LIMIT, LONGEST_BODY}
-use Rattle.pcm_base.specs.Studio.{fault_sum}
-use Rattle.pcm_base.specs.declared.refusal.Refusal.{Refusal}
-use Rattle.pcm_base.specs.declared.refusal.Refusal.TheVariants as refusal
-use Rattle.disk_model.specs.Disk.{SameElsewhere}
-use Rattle.disk_model.specs.Frames.{Changed}
-use Rattle.disk_model.specs.declared.store.Store.{Ghosts}
-use Rattle.project_journal.specs.Gate.{EachSince}
+use Rattle.pcm_base.specs.{Causes.Rose, Counters.no_room, Counters.record_test, Refusals.◌otherwise◌, Run.stop_of}
+use Rattle.pcm_base.specs.{declared.limits.TheConstants.COUNTER_LIMIT, declared.limits.TheConstants.LONGEST_BODY}
+use Rattle.pcm_base.specs.{Studio.fault_sum, declared.refusal.Refusal.Refusal}
+use Rattle.disk_model.specs.{Disk.SameElsewhere, Frames.Changed, declared.store.Store.Ghosts}
 use Rattle.project_journal.specs.Journal.{Log, IsAt, HasOneOf, rows_length, with_bodies}
-use Rattle.project_journal.specs.Rooms.{append_room}
-use Rattle.project_journal.specs.declared.fault.JournalFault.{JournalFault}
+use Rattle.project_journal.specs.{Gate.EachSince, Rooms.append_room, declared.fault.JournalFault.JournalFault}
+use Rattle.editor_state.specs.{Bodies.Writing, Bodies.all_bytes, Bodies.whole_len, Core.Core, Core.form_at}
+use Rattle.pcm_base.specs.declared.refusal.Refusal.TheVariants as refusal
 use Rattle.project_journal.specs.declared.fault.JournalFault.TheVariants as journal
-use Rattle.editor_state.specs.Bodies.{Writing, all_bytes, whole_len}
-use Rattle.editor_state.specs.Core.{Core, form_at}
 
 -- the first that refuses a commit that needs `tracks` track ids: that the studio is stopped, its own tests, or that a
 -- counter has no room

@@ -1,31 +1,17 @@
 -- What a call does that may name a sound of a vault.
 use Rattle.std.specs.Prelude.{◌≡◌, ◌⊎◌, ◌<◌, ℕ, Bool, IsTrue, IsSome, Option, Some, None, List, Result, Ok, Err, IfErr}
 use Rattle.std.specs.Prelude.{IfOk, ◌-◌}
-use Rattle.pcm_base.specs.declared.answer.Answer.{Answer}
-use Rattle.pcm_base.specs.declared.answer.Reply.{Reply}
-use Rattle.pcm_base.specs.declared.answer.Reply.TheVariants as reply
-use Rattle.pcm_base.specs.declared.command.Call.{Call}
-use Rattle.pcm_base.specs.declared.command.Call.TheVariants.{Line}
-use Rattle.pcm_base.specs.declared.command.Command.TheVariants.{Import}
-use Rattle.pcm_base.specs.declared.entry.SoundMove.{SoundMove}
-use Rattle.pcm_base.specs.declared.refusal.Refusal.{Refusal}
-use Rattle.pcm_base.specs.declared.refusal.Refusal.TheVariants as refusal
-use Rattle.pcm_base.specs.declared.wav.WavFault.TheVariants.{Truncated}
-use Rattle.pcm_base.specs.Outside.{Sounds}
-use Rattle.pcm_base.specs.Run.{Heard, name_in}
-use Rattle.disk_model.specs.Frames.{Changed}
-use Rattle.disk_model.specs.declared.store.Store.{Ghosts}
-use Rattle.editor_state.specs.Core.{Core}
-use Rattle.editor_state.specs.Exports.{moved_from}
-use Rattle.editor_state.specs.Vaults.{IsCutShort, left_as}
+use Rattle.pcm_base.specs.{declared.answer.Answer.Answer, declared.answer.Reply.Reply, declared.command.Call.Call}
+use Rattle.pcm_base.specs.{declared.command.Call.TheVariants.Line, declared.command.Command.TheVariants.Import}
+use Rattle.pcm_base.specs.{declared.entry.SoundMove.SoundMove, declared.refusal.Refusal.Refusal}
+use Rattle.pcm_base.specs.{declared.wav.WavFault.TheVariants.Truncated, Outside.Sounds, Run.Heard, Run.name_in}
+use Rattle.disk_model.specs.{Frames.Changed, declared.store.Store.Ghosts}
 use Rattle.editor_state.specs.Left.{CountsIds, Left, LeavesOthers, MayRemove, Stops, Untouched}
-use Rattle.editor_state.specs.Packing.{packed_by}
-use Rattle.editor_state.specs.Purges.{Purges}
-use Rattle.editor_state.specs.Records.{Records}
-use Rattle.editor_state.specs.Removals.{Frees}
-use Rattle.editor_state.specs.Spent.{NamesGiven}
-use Rattle.editor_state.specs.Studios.{IsStudio}
 use Rattle.editor_state.specs.Took.{Exchange, Took, asks, exchange_of, number_behind, silent, with_sound}
+use Rattle.editor_state.specs.{Core.Core, Exports.moved_from, Vaults.IsCutShort, Vaults.left_as, Packing.packed_by}
+use Rattle.editor_state.specs.{Purges.Purges, Records.Records, Removals.Frees, Spent.NamesGiven, Studios.IsStudio}
+use Rattle.pcm_base.specs.declared.answer.Reply.TheVariants as reply
+use Rattle.pcm_base.specs.declared.refusal.Refusal.TheVariants as refusal
 
 -- what becomes of the sound that a call names, where a vault has these sounds before it and after it
 abbrev pub move_of : Option (List ℕ) → Sounds → Sounds → SoundMove

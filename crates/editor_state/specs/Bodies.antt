@@ -1,13 +1,10 @@
 -- The body of a record as the studio's journal has it.
 use Rattle.std.specs.Prelude.{◌≡◌, ◌⊎◌, ℕ, zero, suc, ◌+◌, List, [], ◌∷◌, length}
 use Rattle.project_journal.specs.Journal.{rows_length}
-use Rattle.record_body.specs.declared.body.Body.{Body}
 use Rattle.record_body.specs.declared.body.Body.TheVariants.{Edit, Undo, Redo, Purge}
+use Rattle.record_body.specs.{declared.body.Body.Body, Batches.with_point, Changes.spelling_in, Spelling.spelling}
+use Rattle.record_body.specs.{Saved.current_tracks}
 use Rattle.project_state.specs.declared.track.Track.{Track}
-use Rattle.record_body.specs.Batches.{with_point}
-use Rattle.record_body.specs.Changes.{spelling_in}
-use Rattle.record_body.specs.Spelling.{spelling}
-use Rattle.record_body.specs.Kept.{current_tracks}
 use Rattle.editor_state.specs.Core.{Core}
 
 -- its bytes, by the version and the current point: in version 2 an edit is written by this point

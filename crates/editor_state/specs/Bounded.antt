@@ -2,8 +2,7 @@
 use Rattle.pcm_base.specs.Pieces.{Sources}
 use Rattle.disk_model.specs.declared.store.Store.{Ghosts}
 use Rattle.model_laws.specs.Bounds.{IsBoundedStudio}
-use Rattle.editor_state.specs.Core.{Core}
-use Rattle.editor_state.specs.Studios.{studio_by}
+use Rattle.editor_state.specs.{Core.Core, Studios.studio_by}
 
 -- whatever samples its blocks have
 abbrev pub IsBounded : {D : Type 0} → Ghosts D → Core D → Type 0

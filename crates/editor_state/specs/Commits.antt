@@ -1,12 +1,9 @@
 -- Calls that are commits.
 use Rattle.std.specs.Prelude.{◌≡◌, ℕ, suc, IsTrue, Option}
-use Rattle.pcm_base.specs.declared.answer.Reply.TheVariants.{Done}
-use Rattle.pcm_base.specs.declared.command.Call.{Call}
-use Rattle.pcm_base.specs.declared.entry.SoundMove.{SoundMove}
 use Rattle.pcm_base.specs.Counters.{commits_of, tracks_of, pins_of}
 use Rattle.pcm_base.specs.Run.{Leaves, may_change, stop_of, stop_test}
-use Rattle.pcm_base.specs.State.{State}
-use Rattle.pcm_base.specs.Step.{MayAnswer, sound_after}
+use Rattle.pcm_base.specs.{declared.answer.Reply.TheVariants.Done, declared.command.Call.Call}
+use Rattle.pcm_base.specs.{declared.entry.SoundMove.SoundMove, State.State, Step.MayAnswer, Step.sound_after}
 use Rattle.pcm_base.specs.Studio as model
 
 -- A call that is this many commits and one, and what it does but for its edit: it gives this many track ids, and leaves

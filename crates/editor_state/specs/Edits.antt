@@ -3,41 +3,28 @@
 use Rattle.std.specs.Prelude.{◌≡◌, ◌⊎◌, ℕ, suc, ◌+◌, ◌^◌, ◌≤◌, ◌<◌, ℤ, pos, Option, Some, None, List, ◌++◌, length, map}
 use Rattle.std.specs.Prelude.{Result, Ok, Err, Contains, true, false, IsTrue}
 use Rattle.std.specs.List.{AllByRecursion}
-use Rattle.pcm_base.specs.declared.block.BlockRef.{BlockRef}
-use Rattle.pcm_base.specs.declared.command.Call.{Call}
-use Rattle.pcm_base.specs.declared.entry.SoundMove.{SoundMove}
-use Rattle.pcm_base.specs.declared.refusal.Refusal.{Refusal}
-use Rattle.pcm_base.specs.declared.refusal.Refusal.TheVariants as refusal
-use Rattle.pcm_base.specs.declared.wav.WavFault.TheVariants.{Truncated}
 use Rattle.pcm_base.specs.Counters.{Needs, RecordsNeed, layouts_of, no_room}
-use Rattle.pcm_base.specs.History.{History, recorded}
-use Rattle.pcm_base.specs.Outside.{Outside}
-use Rattle.pcm_base.specs.Pieces.{Sources}
-use Rattle.pcm_base.specs.Refusals.{◌otherwise◌, call_tests}
-use Rattle.pcm_base.specs.Run.{outside}
-use Rattle.pcm_base.specs.declared.limits.TheConstants.{COUNTER_LIMIT, LONGEST_BODY}
-use Rattle.pcm_base.specs.State.{State}
-use Rattle.pcm_base.specs.Step.{after}
-use Rattle.pcm_base.specs.Studio as model
+use Rattle.pcm_base.specs.{declared.block.BlockRef.BlockRef, declared.command.Call.Call}
+use Rattle.pcm_base.specs.{declared.entry.SoundMove.SoundMove, declared.refusal.Refusal.Refusal}
+use Rattle.pcm_base.specs.{declared.wav.WavFault.TheVariants.Truncated, History.History, History.recorded}
+use Rattle.pcm_base.specs.{Outside.Outside, Pieces.Sources, Refusals.◌otherwise◌, Refusals.call_tests, Run.outside}
+use Rattle.pcm_base.specs.{declared.limits.TheConstants.COUNTER_LIMIT, declared.limits.TheConstants.LONGEST_BODY}
+use Rattle.pcm_base.specs.{State.State, Step.after}
 use Rattle.disk_model.specs.declared.store.Store.{Ghosts}
 use Rattle.clip_track.specs.declared.items.Item.{Item}
 use Rattle.edit_ops.specs.declared.types.NewBlock.{NewBlock}
 use Rattle.edit_ops.specs.Plans.{AreNew, AreWritten, AllNewFrom, ref_of}
-use Rattle.piece_store.specs.Brought.{Brought}
+use Rattle.block_writer.specs.Brought.{Brought}
 use Rattle.project_journal.specs.Journal.{rows_length}
-use Rattle.project_state.specs.declared.track.Track.{Track}
-use Rattle.record_body.specs.Kept.{current_tracks}
-use Rattle.project_state.specs.Meaning.{meant_history, point_blocks}
-use Rattle.record_body.specs.KeptSound.{IsSoundPoint}
+use Rattle.project_state.specs.{declared.track.Track.Track, Meaning.meant_history, Meaning.point_blocks}
+use Rattle.record_body.specs.{Saved.current_tracks, SavedValid.IsValidPoint}
 use Rattle.layout_uses.specs.Drawing.{HasNumbers}
-use Rattle.editor_state.specs.declared.planned.Planned.{Planned}
-use Rattle.editor_state.specs.Adding.{Adds, OutgrowsBy}
-use Rattle.editor_state.specs.Commits.{IsCommitCall}
-use Rattle.editor_state.specs.Core.{Core}
-use Rattle.editor_state.specs.Exchanges.{may_begin, reads_sound}
-use Rattle.editor_state.specs.Made.{PiecesReadable, batch_of, ids_from}
-use Rattle.editor_state.specs.Makes.{AreSynced, Making, Stuck}
 use Rattle.editor_state.specs.Studios.{MayPaste, clip_blocks, clip_cells, named_blocks, studio_by}
+use Rattle.editor_state.specs.{declared.planned.Planned.Planned, Adding.Adds, Adding.OutgrowsBy, Commits.IsCommitCall}
+use Rattle.editor_state.specs.{Core.Core, Exchanges.may_begin, Exchanges.reads_sound, Made.PiecesReadable}
+use Rattle.editor_state.specs.{Made.batch_of, Made.ids_from, Makes.AreSynced, Makes.Making, Makes.Stuck}
+use Rattle.pcm_base.specs.declared.refusal.Refusal.TheVariants as refusal
+use Rattle.pcm_base.specs.Studio as model
 
 -- ---- what is planned
 
@@ -85,7 +72,7 @@ pub record IsPlanned {D : Type 0} (s : Core D) (e : TaggedEdit) : Type 0 where
   pub tag_given : e.tag ≤ s.commit_number
   pub tag_counts : 0 < e.more → 1 ≤ e.tag
   pub layouts : HasNumbers (current_tracks s.history) s.next_layout e.plan.point (s.next_layout + e.plan.layouts)
-  pub sound : IsSoundPoint s.block_size (s.next_block + length e.plan.makes) (s.next_track + e.plan.tracks) e.plan.point
+  pub valid : IsValidPoint s.block_size (s.next_block + length e.plan.makes) (s.next_track + e.plan.tracks) e.plan.point
   pub names : AreAmong (blocks_with s e.plan.makes) (point_blocks e.plan.point)
   pub used : AreAmong (point_blocks e.plan.point) (map ref_of e.plan.makes)
   pub clip_names : AreAmong (blocks_with s e.plan.makes) (clip_blocks (clip_behind s e.plan))

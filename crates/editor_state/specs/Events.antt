@@ -1,30 +1,18 @@
 -- A list of events, carried out one after another.
 use Rattle.std.specs.Prelude.{◌≡◌, ◌⊎◌, ℕ, ◌-◌, ◌≤◌, Bool, None, List, [], ◌∷◌, ◌++◌, Result, Ok, Err}
 use Rattle.std.specs.List.{AllByRecursion}
-use Rattle.pcm_base.specs.declared.answer.Answer.{Answer}
-use Rattle.pcm_base.specs.declared.answer.Reply.{Reply}
-use Rattle.pcm_base.specs.declared.command.Call.{Call}
-use Rattle.pcm_base.specs.declared.command.Call.TheVariants as call
-use Rattle.pcm_base.specs.declared.entry.Entry.{Entry}
-use Rattle.pcm_base.specs.declared.entry.Event.{Event}
-use Rattle.pcm_base.specs.declared.refusal.Refusal.{Refusal}
-use Rattle.pcm_base.specs.declared.refusal.Refusal.TheVariants as refusal
-use Rattle.pcm_base.specs.Form.{IsCallInForm}
-use Rattle.pcm_base.specs.Outside.{Sounds}
-use Rattle.pcm_base.specs.Run.{Follows, Run, result_of}
-use Rattle.pcm_base.specs.Studio as model
-use Rattle.disk_model.specs.Disk.{Files}
-use Rattle.disk_model.specs.Frames.{Changed}
-use Rattle.disk_model.specs.Room.{Room, together}
-use Rattle.disk_model.specs.declared.store.Store.{Ghosts}
+use Rattle.pcm_base.specs.{declared.answer.Answer.Answer, declared.answer.Reply.Reply, declared.command.Call.Call}
+use Rattle.pcm_base.specs.{declared.entry.Entry.Entry, declared.entry.Event.Event, declared.refusal.Refusal.Refusal}
+use Rattle.pcm_base.specs.{Form.IsCallInForm, Outside.Sounds, Run.Follows, Run.Run, Run.result_of}
+use Rattle.disk_model.specs.{Disk.Files, Frames.Changed, Room.Room, Room.together, declared.store.Store.Ghosts}
 use Rattle.project_journal.specs.Gate.{EachNow, EachSince}
-use Rattle.record_body.specs.Kept.{Keeps}
+use Rattle.record_body.specs.Saved.{Keeps}
 use Rattle.editor_state.specs.Applied.{Applies, IsTold, Span, exchange_over, spanned}
-use Rattle.editor_state.specs.Core.{Core}
-use Rattle.editor_state.specs.Left.{LeavesForeign}
-use Rattle.editor_state.specs.Packing.{packed_by}
 use Rattle.editor_state.specs.Studios.{IsHeld, IsStudio, shown, studio_of}
-use Rattle.editor_state.specs.Took.{InFlight, asks}
+use Rattle.editor_state.specs.{Core.Core, Left.LeavesForeign, Packing.packed_by, Took.InFlight, Took.asks}
+use Rattle.pcm_base.specs.declared.command.Call.TheVariants as call
+use Rattle.pcm_base.specs.declared.refusal.Refusal.TheVariants as refusal
+use Rattle.pcm_base.specs.Studio as model
 
 -- each call is in form, where this many commits were made at least
 abbrev pub AreInForm : ℕ → List Event → Type 0

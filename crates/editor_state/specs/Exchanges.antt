@@ -1,23 +1,20 @@
 -- A call of a studio, and what comes of it.
 use Rattle.std.specs.Prelude.{ℕ, Bool, true, false, if◌then◌else◌, None, List, [], Result, Ok, Err}
-use Rattle.pcm_base.specs.declared.answer.Reply.{Reply}
-use Rattle.pcm_base.specs.declared.command.Call.{Call}
-use Rattle.pcm_base.specs.declared.command.Call.TheVariants.{Line}
-use Rattle.pcm_base.specs.declared.command.Command.TheVariants.{Import}
-use Rattle.pcm_base.specs.declared.entry.SoundMove.{SoundMove}
-use Rattle.pcm_base.specs.declared.refusal.Refusal.{Refusal}
-use Rattle.pcm_base.specs.declared.refusal.Refusal.TheVariants as refusal
-use Rattle.pcm_base.specs.declared.wav.WavFault.TheVariants.{Truncated}
 use Rattle.pcm_base.specs.Causes.{Cause, Test, Damage, Disk, Vault, Memory, cause_of}
+use Rattle.pcm_base.specs.{declared.answer.Reply.Reply, declared.command.Call.Call}
+use Rattle.pcm_base.specs.{declared.command.Call.TheVariants.Line, declared.command.Command.TheVariants.Import}
+use Rattle.pcm_base.specs.{declared.entry.SoundMove.SoundMove, declared.refusal.Refusal.Refusal}
+use Rattle.pcm_base.specs.{declared.wav.WavFault.TheVariants.Truncated}
+use Rattle.pcm_base.specs.declared.refusal.Refusal.TheVariants as refusal
 
 -- no sound was named
 abbrev pub silent : SoundMove
 silent = record { before = None; after = None }
 
 -- an answer as a reply
-abbrev pub told_by : {A : Type 0} → (A → Reply) → Result A Refusal → Result Reply Refusal
-told_by f (Ok x) = Ok (f x)
-told_by f (Err why) = Err why
+abbrev pub as_reply : {A : Type 0} → (A → Reply) → Result A Refusal → Result Reply Refusal
+as_reply f (Ok x) = Ok (f x)
+as_reply f (Err why) = Err why
 
 -- A call, and what comes of it: what becomes of the sound that it names, what it returns, and the ids of the blocks
 -- whose files are removed, one after another.

@@ -1,22 +1,15 @@
 -- What a call leaves of all that it is not about, on every store: of other files, and of the studio that refused it.
-use Rattle.std.specs.Prelude.{◌≡◌, ◌↔◌, ◌⊎◌, ℕ, ◌≤◌, ◌<◌, IsTrue, IsSome, Some, None, Result, Err, IfErr, false}
-use Rattle.std.specs.Prelude.{List, Contains}
+use Rattle.std.specs.Prelude.{◌≡◌, ◌↔◌, ◌⊎◌, ℕ, ◌≤◌, ◌<◌, IsTrue, IsSome, Some, None, Result, Err, IfErr, false, List}
+use Rattle.std.specs.Prelude.{Contains}
 use Rattle.pcm_base.specs.declared.limits.TheConstants.{COUNTER_LIMIT, FIRST_BLOCK}
-use Rattle.pcm_base.specs.declared.command.Call.{Call}
-use Rattle.pcm_base.specs.declared.command.Call.TheVariants.{Line}
-use Rattle.pcm_base.specs.declared.command.Command.TheVariants.{Reclaim}
-use Rattle.pcm_base.specs.declared.refusal.Refusal.{Refusal}
-use Rattle.pcm_base.specs.declared.refusal.Refusal.TheVariants as refusal
-use Rattle.disk_model.specs.Disk.{Files}
-use Rattle.disk_model.specs.Frames.{Kept}
-use Rattle.disk_model.specs.declared.store.Store.{Ghosts}
+use Rattle.pcm_base.specs.{declared.command.Call.Call, declared.command.Call.TheVariants.Line}
+use Rattle.pcm_base.specs.{declared.command.Command.TheVariants.Reclaim, declared.refusal.Refusal.Refusal}
+use Rattle.disk_model.specs.{Disk.Files, Frames.Kept, declared.store.Store.Ghosts}
 use Rattle.block_ledger.specs.Counts.{Counts}
 use Rattle.envelope_view.specs.Answers.{IsDamagedIn}
 use Rattle.editor_state.specs.Adding.{HasFailed, stopped_by}
-use Rattle.editor_state.specs.Core.{Core}
-use Rattle.editor_state.specs.Exchanges.{may_have_begun}
-use Rattle.editor_state.specs.Makes.{HasMissed}
-use Rattle.editor_state.specs.Studios.{named_blocks}
+use Rattle.editor_state.specs.{Core.Core, Exchanges.may_have_begun, Makes.HasMissed, Studios.named_blocks}
+use Rattle.pcm_base.specs.declared.refusal.Refusal.TheVariants as refusal
 
 -- ---- other files
 

@@ -3,10 +3,8 @@ use Rattle.std.specs.Prelude.{◌≡◌, ◌⊎◌, ℕ, ℤ, ◌+◌, ◌≤◌
 use Rattle.std.specs.List.{AllByRecursion}
 use Rattle.disk_model.specs.Disk.{Files}
 use Rattle.sample_block.specs.Sources.{sources_with, IsWhole}
-use Rattle.edit_ops.specs.declared.types.NewBlock.{NewBlock}
-use Rattle.edit_ops.specs.Plans.{AreWritten, ref_of}
-use Rattle.piece_store.specs.Brought.{AreInOrder}
-use Rattle.piece_store.specs.Reading.{AllReadable, AllThere}
+use Rattle.edit_ops.specs.{declared.types.NewBlock.NewBlock, Plans.AreWritten, Plans.ref_of}
+use Rattle.block_writer.specs.{Brought.AreInOrder, Reading.AllReadable, Reading.AllThere}
 
 -- the disk has the blocks that the pieces of new blocks name
 abbrev pub PiecesThere : Files → List NewBlock → Type 0

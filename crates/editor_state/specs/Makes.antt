@@ -1,29 +1,20 @@
 -- New blocks that are written and then synced before a record names them, and what a failure leaves.
 use Rattle.std.specs.Prelude.{◌≡◌, ◌↔◌, ◌⊎◌, ℕ, ◌+◌, ◌*◌, ◌≤◌, ◌<◌, IsTrue, IsSome, Some, None, List, length, Contains}
 use Rattle.std.specs.Prelude.{Result, MatchResult, ℤ}
-use Rattle.pcm_base.specs.Causes.{Rose}
-use Rattle.pcm_base.specs.declared.wav.WavFault.TheVariants.{Truncated}
-use Rattle.pcm_base.specs.Pieces.{all_samples}
-use Rattle.pcm_base.specs.declared.refusal.Refusal.{Refusal}
-use Rattle.pcm_base.specs.declared.refusal.Refusal.TheVariants as refusal
-use Rattle.pcm_base.specs.declared.piece.Piece.{Piece}
+use Rattle.pcm_base.specs.{Causes.Rose, declared.wav.WavFault.TheVariants.Truncated, Pieces.all_samples}
+use Rattle.pcm_base.specs.{declared.refusal.Refusal.Refusal, declared.piece.Piece.Piece}
 use Rattle.disk_model.specs.Disk.{Files, SameElsewhere, StaysStep}
-use Rattle.disk_model.specs.Frames.{Kept, Changed}
-use Rattle.disk_model.specs.Room.{Room}
-use Rattle.disk_model.specs.declared.store.Store.{Ghosts}
-use Rattle.sample_block.specs.Blocks.{blocks}
-use Rattle.sample_block.specs.Sources.{sources_with}
-use Rattle.sample_block.specs.Spelling.{size_of}
+use Rattle.disk_model.specs.{Frames.Kept, Frames.Changed, Room.Room, declared.store.Store.Ghosts}
+use Rattle.sample_block.specs.{Blocks.blocks, Sources.sources_with, Spelling.size_of}
 use Rattle.block_ledger.specs.Counts.{Counts, occurrences}
-use Rattle.block_store.specs.declared.fault.BlockFault.TheVariants as fault
 use Rattle.project_journal.specs.Gate.{EachNow}
 use Rattle.edit_ops.specs.declared.types.NewBlock.{NewBlock}
-use Rattle.piece_store.specs.declared.fault.BringFault.TheVariants as bring
-use Rattle.piece_store.specs.Brought.{Brought, IsNotBrought}
-use Rattle.piece_store.specs.Reading.{AllThere, IsFaultAmong}
-use Rattle.editor_state.specs.Adding.{HasFailed, stopped_by}
-use Rattle.editor_state.specs.Core.{Core}
+use Rattle.block_writer.specs.{Brought.Brought, Brought.IsNotBrought, Reading.AllThere, Reading.IsFaultAmong}
 use Rattle.editor_state.specs.Made.{AreAbsent, AreMade, Batch, IdRange, PiecesThere, SameInside, SameOutside, ids_from}
+use Rattle.editor_state.specs.{Adding.HasFailed, Adding.stopped_by, Core.Core}
+use Rattle.pcm_base.specs.declared.refusal.Refusal.TheVariants as refusal
+use Rattle.block_store.specs.declared.fault.BlockFault.TheVariants as fault
+use Rattle.block_writer.specs.declared.fault.BringFault.TheVariants as bring
 
 -- no occurrence comes or goes, and the ids from one number on, this many, are there too
 pub record AddsFree (next n : ℕ) (old new : Counts) : Type 0 where
@@ -174,7 +165,7 @@ pub record Stuck {D : Type 0} (disk : Ghosts D) (old : Core D) (batch : Batch) (
   pub block : NewBlock
   pub stands : Contains batch.blocks block
   pub damaged : IsTrue (disk.tells mid.store) → IsDamageAmong (disk.reads mid.store) block.pieces why
-  pub sound : IsTrue (disk.tells old.store) → PiecesThere (disk.reads old.store) batch.blocks
+  pub valid : IsTrue (disk.tells old.store) → PiecesThere (disk.reads old.store) batch.blocks
       → AreAbsent old.next_block (length batch.blocks) (disk.reads old.store) → IsOfDevices why
 
 -- all are written, or the next one was not

@@ -1,19 +1,14 @@
 -- What a studio's journal is put into: one header with its history, in the next generation.
 use Rattle.std.specs.Prelude.{ℕ, ◌+◌, ◌-◌, List, [], ◌∷◌, ◌++◌, length, map}
-use Rattle.pcm_base.specs.declared.command.Call.{Call}
-use Rattle.pcm_base.specs.declared.command.Call.TheVariants.{Line}
-use Rattle.pcm_base.specs.declared.command.Command.TheVariants.{Compact}
-use Rattle.pcm_base.specs.Cells.{Project}
-use Rattle.pcm_base.specs.History.{History}
-use Rattle.pcm_base.specs.Sizes.{project_body_most}
-use Rattle.pcm_base.specs.Studio as model
-use Rattle.project_journal.specs.declared.base.Base.{Base}
-use Rattle.project_journal.specs.Choice.{other_file}
+use Rattle.pcm_base.specs.{declared.command.Call.Call, declared.command.Call.TheVariants.Line}
+use Rattle.pcm_base.specs.{declared.command.Command.TheVariants.Compact, Cells.Project, History.History}
+use Rattle.pcm_base.specs.{Sizes.project_body_most}
 use Rattle.project_journal.specs.Journal.{Log, points_size}
-use Rattle.project_journal.specs.Packing.{header_row}
+use Rattle.project_journal.specs.{declared.base.Base.Base, Choice.other_file, Packing.header_row}
 use Rattle.project_state.specs.declared.track.Track.{Track}
-use Rattle.record_body.specs.Kept.{point_bytes}
+use Rattle.record_body.specs.Saved.{point_bytes}
 use Rattle.editor_state.specs.Core.{Core}
+use Rattle.pcm_base.specs.Studio as model
 
 -- the points of a history as they stand in a header
 abbrev pub points_in : History (List Track) → List (List ℕ)

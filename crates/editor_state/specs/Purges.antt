@@ -1,13 +1,9 @@
 -- How many points a purge to a size drops, as its answer says.
 use Rattle.std.specs.Prelude.{ℕ, List, Result, Ok, Err}
-use Rattle.pcm_base.specs.declared.answer.Reply.{Reply}
-use Rattle.pcm_base.specs.declared.answer.Reply.TheVariants.{Purged}
-use Rattle.pcm_base.specs.declared.command.Call.{Call}
-use Rattle.pcm_base.specs.declared.command.Call.TheVariants.{Line}
-use Rattle.pcm_base.specs.declared.command.Command.TheVariants.{PurgeTo}
-use Rattle.pcm_base.specs.declared.refusal.Refusal.{Refusal}
-use Rattle.pcm_base.specs.declared.refusal.Refusal.TheVariants.{BadRange}
-use Rattle.pcm_base.specs.History.{History}
+use Rattle.pcm_base.specs.{declared.answer.Reply.Reply, declared.answer.Reply.TheVariants.Purged}
+use Rattle.pcm_base.specs.{declared.command.Call.Call, declared.command.Call.TheVariants.Line}
+use Rattle.pcm_base.specs.{declared.command.Command.TheVariants.PurgeTo, declared.refusal.Refusal.Refusal}
+use Rattle.pcm_base.specs.{declared.refusal.Refusal.TheVariants.BadRange, History.History}
 use Rattle.project_state.specs.declared.track.Track.{Track}
 use Rattle.purge_size.specs.Sizes.{IsPurgeTo}
 

@@ -1,17 +1,12 @@
 -- How long the record of a commit is: it says the studio that the commit leads to, in version 2 by the one before.
 use Rattle.std.specs.Prelude.{◌≡◌, ◌⊎◌, ℕ, ◌≤◌, List, Result, Ok, Err, true}
-use Rattle.pcm_base.specs.declared.answer.Reply.{Reply}
-use Rattle.pcm_base.specs.declared.refusal.Refusal.{Refusal}
-use Rattle.pcm_base.specs.History.{History}
-use Rattle.pcm_base.specs.declared.limits.TheConstants.{LONGEST_BODY}
+use Rattle.pcm_base.specs.{declared.answer.Reply.Reply, declared.refusal.Refusal.Refusal, History.History}
+use Rattle.pcm_base.specs.{declared.limits.TheConstants.LONGEST_BODY}
 use Rattle.project_journal.specs.Journal.{rows_length}
-use Rattle.record_body.specs.declared.body.Body.{Body}
-use Rattle.record_body.specs.declared.body.Body.TheVariants as body
+use Rattle.record_body.specs.{declared.body.Body.Body, Saved.current_tracks}
 use Rattle.project_state.specs.declared.track.Track.{Track}
-use Rattle.record_body.specs.Kept.{current_tracks}
-use Rattle.editor_state.specs.Bodies.{Writing, bodies_by}
-use Rattle.editor_state.specs.Core.{Core}
-use Rattle.editor_state.specs.Exchanges.{may_begin}
+use Rattle.editor_state.specs.{Bodies.Writing, Bodies.bodies_by, Core.Core, Exchanges.may_begin}
+use Rattle.record_body.specs.declared.body.Body.TheVariants as body
 
 -- a body says these next ids and this history: an edit its current point, and a move or a purge nothing more
 abbrev pub Says : (next_block next_track : ℕ) → History (List Track) → Body → Type 0

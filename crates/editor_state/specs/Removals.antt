@@ -1,29 +1,20 @@
 -- Which files a call removes: a reclaim those of blocks that nothing names, the least ids first, a compact that of the
 -- journal of before, and another call none.
-use Rattle.std.specs.Prelude.{◌≡◌, ◌⊎◌, ◌↔◌, ℕ, ◌≤◌, ◌<◌, IsTrue, IsSome, Option, Some, None, List, [], ◌∷◌}
-use Rattle.std.specs.Prelude.{length, Contains, Result, OnOk, OnErr, IfOk, IfErr, IfSome}
+use Rattle.std.specs.Prelude.{◌≡◌, ◌⊎◌, ◌↔◌, ℕ, ◌≤◌, ◌<◌, IsTrue, IsSome, Option, Some, None, List, [], ◌∷◌, length}
+use Rattle.std.specs.Prelude.{Contains, Result, OnOk, OnErr, IfOk, IfErr, IfSome}
 use Rattle.std.specs.List.Sorted.{IsStrictlyIncreasing}
 use Rattle.pcm_base.specs.declared.limits.TheConstants.{COUNTER_LIMIT, FIRST_BLOCK}
-use Rattle.pcm_base.specs.Causes.{HasCause}
-use Rattle.pcm_base.specs.declared.answer.Reply.{Reply}
 use Rattle.pcm_base.specs.declared.answer.Reply.TheVariants.{Freed, Packed}
-use Rattle.pcm_base.specs.declared.command.Call.{Call}
-use Rattle.pcm_base.specs.declared.command.Call.TheVariants.{Line}
 use Rattle.pcm_base.specs.declared.command.Command.TheVariants.{Compact, Reclaim}
-use Rattle.pcm_base.specs.declared.refusal.Refusal.{Refusal}
-use Rattle.pcm_base.specs.declared.refusal.Refusal.TheVariants as refusal
-use Rattle.disk_model.specs.Disk.{Files, RemoveStep}
-use Rattle.disk_model.specs.Frames.{Changed}
-use Rattle.disk_model.specs.Room.{Room}
-use Rattle.disk_model.specs.declared.store.Store.{Ghosts}
-use Rattle.project_journal.specs.Choice.{other_file}
-use Rattle.project_journal.specs.Gate.{EachNow}
+use Rattle.pcm_base.specs.{Causes.HasCause, declared.answer.Reply.Reply, declared.command.Call.Call}
+use Rattle.pcm_base.specs.{declared.command.Call.TheVariants.Line, declared.refusal.Refusal.Refusal}
+use Rattle.disk_model.specs.{Disk.Files, Disk.RemoveStep, Frames.Changed, Room.Room, declared.store.Store.Ghosts}
+use Rattle.project_journal.specs.{Choice.other_file, Gate.EachNow}
 use Rattle.block_cache.specs.Caches.{IsCacheWithout}
 use Rattle.block_ledger.specs.Counts.{Counts, IsFirstFree}
-use Rattle.editor_state.specs.Core.{Core}
-use Rattle.editor_state.specs.Occurrences.{times_named}
-use Rattle.editor_state.specs.Packing.{packed_core, packed_text}
-use Rattle.editor_state.specs.Studios.{IsHeld, named_blocks}
+use Rattle.editor_state.specs.{Core.Core, Occurrences.times_named, Packing.packed_core, Packing.packed_text}
+use Rattle.editor_state.specs.{Studios.IsHeld, Studios.named_blocks}
+use Rattle.pcm_base.specs.declared.refusal.Refusal.TheVariants as refusal
 
 -- ---- one file
 

@@ -1,30 +1,18 @@
 -- What a call spends of the counters, and what it would have spent where one has no room for it.
 use Rattle.std.specs.Prelude.{◌≡◌, ◌⊎◌, ℕ, suc, ◌+◌, ◌≤◌, ◌<◌, Some, List, length}
-use Rattle.pcm_base.specs.declared.answer.Reply.{Reply}
-use Rattle.pcm_base.specs.declared.command.Call.{Call}
-use Rattle.pcm_base.specs.declared.entry.SoundMove.{SoundMove}
-use Rattle.pcm_base.specs.declared.refusal.Refusal.{Refusal}
-use Rattle.pcm_base.specs.declared.refusal.Refusal.TheVariants as refusal
 use Rattle.pcm_base.specs.Counters.{commits_of, generations_of, layouts_of, no_room, pins_of, tracks_of}
-use Rattle.pcm_base.specs.History.{History}
-use Rattle.pcm_base.specs.Run.{outside, told_history}
-use Rattle.pcm_base.specs.declared.limits.TheConstants.{LONGEST_BODY}
-use Rattle.pcm_base.specs.Step.{MayAnswer, after}
+use Rattle.pcm_base.specs.{declared.answer.Reply.Reply, declared.command.Call.Call, declared.entry.SoundMove.SoundMove}
+use Rattle.pcm_base.specs.{declared.refusal.Refusal.Refusal, History.History, Run.outside, Run.told_history}
+use Rattle.pcm_base.specs.{declared.limits.TheConstants.LONGEST_BODY, Step.MayAnswer, Step.after}
 use Rattle.disk_model.specs.declared.store.Store.{Ghosts}
 use Rattle.sample_block.specs.Sources.{sources_of}
-use Rattle.record_body.specs.declared.body.Body.TheVariants.{Edit}
-use Rattle.project_state.specs.declared.track.Track.{Track}
-use Rattle.record_body.specs.Batches.{after_bodies}
-use Rattle.record_body.specs.Kept.{Kept}
-use Rattle.project_state.specs.Meaning.{meant_history}
-use Rattle.record_body.specs.Numbers.{unnumbered_body}
-use Rattle.project_state.specs.Numbers.{unnumbered_history}
-use Rattle.editor_state.specs.Bodies.{IsLength, Writing}
-use Rattle.editor_state.specs.Core.{Core}
+use Rattle.record_body.specs.{declared.body.Body.TheVariants.Edit, Batches.after_bodies, Saved.Saved}
+use Rattle.record_body.specs.{Numbers.unnumbered_body}
+use Rattle.project_state.specs.{declared.track.Track.Track, Meaning.meant_history, Numbers.unnumbered_history}
 use Rattle.editor_state.specs.Edits.{IsEdit, IsPlanned, TaggedEdit}
-use Rattle.editor_state.specs.Occurrences.{times_named}
-use Rattle.editor_state.specs.Records.{Says}
 use Rattle.editor_state.specs.Studios.{IsHeld, named_blocks, studio_of}
+use Rattle.editor_state.specs.{Bodies.IsLength, Bodies.Writing, Core.Core, Occurrences.times_named, Records.Says}
+use Rattle.pcm_base.specs.declared.refusal.Refusal.TheVariants as refusal
 
 -- ---- of a call that is carried out
 
@@ -47,8 +35,8 @@ pub record Plans {D : Type 0} (disk : Ghosts D) (s : Core D) (call : Call) (soun
   }
 
 -- what the records so far say
-abbrev pub kept_of : {D : Type 0} → Core D → Kept
-kept_of s = record {
+abbrev pub saved_of : {D : Type 0} → Core D → Saved
+saved_of s = record {
   history = unnumbered_history s.history;
   next_block = s.next_block;
   next_track = s.next_track;
@@ -62,7 +50,7 @@ pub record Leads {D : Type 0} (disk : Ghosts D) (s : Core D) (call : Call) (soun
   pub history : History (List Track)
   pub next_track : ℕ
   pub says : Says s.next_block next_track history w.body
-  pub leads : (after_bodies (kept_of s) w.more (unnumbered_body w.body)).history ≡ unnumbered_history history
+  pub leads : (after_bodies (saved_of s) w.more (unnumbered_body w.body)).history ≡ unnumbered_history history
   pub reply : Reply
   pub answers : MayAnswer (outside (studio_of disk s) sound) (studio_of disk s).state call reply
   pub means : IsHeld disk s

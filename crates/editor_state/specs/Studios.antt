@@ -1,31 +1,21 @@
 -- What a studio stands for, and what always holds of it.
-use Rattle.std.specs.Prelude.{◌≡◌, ◌↔◌, ℕ, ◌+◌, ◌≤◌, ◌<◌, ◌^◌, ◌==◌, if◌then◌else◌, IsTrue}
-use Rattle.std.specs.Prelude.{Option, Some, None, IsSome}
+use Rattle.std.specs.Prelude.{◌≡◌, ◌↔◌, ℕ, ◌+◌, ◌≤◌, ◌<◌, ◌^◌, ◌==◌, if◌then◌else◌, IsTrue, Option, Some, None, IsSome}
 use Rattle.std.specs.Prelude.{List, [], ◌∷◌, ◌++◌, length, map}
-use Rattle.std.specs.Option.{option_map}
-use Rattle.std.specs.List.{flat_map, AllByRecursion}
+use Rattle.std.specs.{Option.option_map, List.flat_map, List.AllByRecursion}
 use Rattle.pcm_base.specs.declared.limits.TheConstants.{COUNTER_LIMIT, FIRST_BLOCK, LEAST_END, MAX_CELLS, MAX_TRACKS}
-use Rattle.pcm_base.specs.declared.block.BlockRef.{BlockRef}
-use Rattle.pcm_base.specs.declared.sound.Cell.{Cell}
-use Rattle.pcm_base.specs.Cells.{Project}
-use Rattle.pcm_base.specs.Pieces.{Sources}
-use Rattle.pcm_base.specs.Studio as model
-use Rattle.disk_model.specs.Disk.{Files}
-use Rattle.disk_model.specs.declared.store.Store.{Ghosts}
+use Rattle.pcm_base.specs.{declared.block.BlockRef.BlockRef, declared.sound.Cell.Cell, Cells.Project, Pieces.Sources}
+use Rattle.disk_model.specs.{Disk.Files, declared.store.Store.Ghosts}
 use Rattle.sample_block.specs.Sources.{sources_of, AllWhole}
 use Rattle.block_cache.specs.Caches.{AllPass}
-use Rattle.clip_track.specs.declared.items.Item.{Item}
-use Rattle.clip_track.specs.Items.{strip_len, strip_cells, strip_blocks}
+use Rattle.clip_track.specs.{declared.items.Item.Item, Items.strip_len, Items.strip_cells, Items.strip_blocks}
 use Rattle.edit_ops.specs.Runs.{AreClips}
-use Rattle.project_journal.specs.Gate.{EachNow}
-use Rattle.project_journal.specs.Header.{IsFormat}
-use Rattle.project_journal.specs.Journal.{Log, IsAt}
-use Rattle.record_body.specs.Kept.{Begins, Kept, Opened, LeadIn, version_of}
+use Rattle.project_journal.specs.{Gate.EachNow, Header.IsFormat, Journal.Log, Journal.IsAt}
+use Rattle.record_body.specs.Saved.{Begins, Saved, Opened, LeadIn, version_of}
+use Rattle.record_body.specs.SavedValid.{IsValidPoint, IsValidTagged}
 use Rattle.project_state.specs.Meaning.{meant, meant_history, point_blocks, history_blocks}
-use Rattle.record_body.specs.KeptSound.{IsSoundPoint, IsSoundTagged}
-use Rattle.project_state.specs.Numbers.{unnumbered_history}
-use Rattle.project_state.specs.declared.track.Track.{Track}
+use Rattle.project_state.specs.{Numbers.unnumbered_history, declared.track.Track.Track}
 use Rattle.layout_uses.specs.Layouts.{AreDrawn, AreNumbered, history_tracks}
+use Rattle.pcm_base.specs.Studio as model
 pub use Rattle.layout_uses.specs.Occurrences.{ids_of}
 use Rattle.layout_uses.specs.Tallies.{AreCounts}
 use Rattle.editor_state.specs.Core.{Core, form_at}
@@ -149,8 +139,8 @@ pub record AreJournalNumbers (file version generation : ℕ) : Type 0 where
 -- it. The ids that are counted are the block files.
 pub record IsDurable {D : Type 0} (disk : Ghosts D) (s : Core D) : Type 0 where
   pub log : Log
-  pub base : Kept
-  pub kept : Kept
+  pub base : Saved
+  pub kept : Saved
   pub there : IsAt (form_at s) disk s.store s.journal_end log
   pub generation : log.base.generation ≡ s.generation
   pub begins : Begins log base
@@ -171,8 +161,8 @@ pub record IsStudio {D : Type 0} (disk : Ghosts D) (s : Core D) : Type 0 where
   pub journal : AreJournalNumbers s.file s.version s.generation
   pub few_points : length s.history.points ≤ s.history.depth
   pub few_clips : length (clip_blocks s.clipboard) ≤ 2 ^ 71
-  pub points : AllByRecursion (IsSoundTagged s.block_size s.next_block s.next_track s.commit_number) s.history.points
-  pub pins : AllByRecursion (λ (p : Pin). IsSoundPoint s.block_size s.next_block s.next_track p.point) s.pins
+  pub points : AllByRecursion (IsValidTagged s.block_size s.next_block s.next_track s.commit_number) s.history.points
+  pub pins : AllByRecursion (λ (p : Pin). IsValidPoint s.block_size s.next_block s.next_track p.point) s.pins
   pub numbers : PinsRise 1 s.next_pin s.pins
   pub clipboard : MayPaste s.block_size s.clipboard
   pub ids : AllByRecursion (λ (b : BlockRef). IsGiven s.next_block b.id) (named_blocks s)

@@ -1,23 +1,16 @@
 -- What one call of a studio does.
-use Rattle.std.specs.Prelude.{◌≡◌, ◌⊎◌, ℕ, ◌+◌, ◌-◌, ◌*◌, Option, None, IsSome, Result, Ok, Err, IfErr, IfOk}
-use Rattle.std.specs.Prelude.{OnErr, List}
-use Rattle.std.specs.Prelude.{length}
-use Rattle.pcm_base.specs.declared.answer.Reply.{Reply}
-use Rattle.pcm_base.specs.declared.command.Call.{Call}
-use Rattle.pcm_base.specs.declared.entry.SoundMove.{SoundMove}
-use Rattle.pcm_base.specs.declared.refusal.Refusal.{Refusal}
-use Rattle.pcm_base.specs.Counters.{Needs, commits_of, places_of}
-use Rattle.pcm_base.specs.Run.{outside, Answers, CarriesOut}
-use Rattle.pcm_base.specs.Studio as model
-use Rattle.disk_model.specs.Disk.{Files}
-use Rattle.disk_model.specs.Frames.{Changed}
-use Rattle.disk_model.specs.Room.{Room, files_made}
-use Rattle.disk_model.specs.declared.store.Store.{Ghosts}
+use Rattle.std.specs.Prelude.{◌≡◌, ◌⊎◌, ℕ, ◌+◌, ◌-◌, ◌*◌, Option, None, IsSome, Result, Ok, Err, IfErr, IfOk, OnErr}
+use Rattle.std.specs.Prelude.{List, length}
+use Rattle.pcm_base.specs.{declared.answer.Reply.Reply, declared.command.Call.Call, declared.entry.SoundMove.SoundMove}
+use Rattle.pcm_base.specs.{declared.refusal.Refusal.Refusal, Counters.Needs, Counters.commits_of, Counters.places_of}
+use Rattle.pcm_base.specs.{Run.outside, Run.Answers, Run.CarriesOut}
+use Rattle.disk_model.specs.{Disk.Files, Frames.Changed, Room.Room, Room.files_made, declared.store.Store.Ghosts}
 use Rattle.sample_block.specs.Spelling.{size_of}
 use Rattle.project_journal.specs.Gate.{EachNow, EachSince}
-use Rattle.record_body.specs.Kept.{Keeps}
+use Rattle.record_body.specs.Saved.{Keeps}
 use Rattle.editor_state.specs.Core.{Core}
-pub use Rattle.editor_state.specs.Exchanges.{Exchange, exchange_of, freeing, quietly, silent, told_by, with_sound}
+use Rattle.pcm_base.specs.Studio as model
+pub use Rattle.editor_state.specs.Exchanges.{Exchange, exchange_of, freeing, quietly, silent, as_reply, with_sound}
 use Rattle.editor_state.specs.Exchanges.{begun_in_vain}
 use Rattle.editor_state.specs.Left.{CountsIds, LeavesOthers, Left, MayRemove, Stops, Untouched}
 use Rattle.editor_state.specs.Packing.{packed_by, packs}

@@ -1,14 +1,10 @@
 -- What a vault gives for a call: a sound that is there or cut short, a refusal that is not of the vault, and the
 -- count of its faults.
-use Rattle.std.specs.Prelude.{◌≡◌, ℕ, ◌<◌, ◌≤◌, ℤ, false, IsTrue, Option, Some, None, List}
-use Rattle.std.specs.Prelude.{Result, Ok, Err}
-use Rattle.pcm_base.specs.declared.entry.SoundMove.{SoundMove}
-use Rattle.pcm_base.specs.declared.refusal.Refusal.{Refusal}
+use Rattle.std.specs.Prelude.{◌≡◌, ℕ, ◌<◌, ◌≤◌, ℤ, false, IsTrue, Option, Some, None, List, Result, Ok, Err}
+use Rattle.pcm_base.specs.{declared.entry.SoundMove.SoundMove, declared.refusal.Refusal.Refusal}
+use Rattle.pcm_base.specs.{declared.wav.WavFault.TheVariants.Truncated, Causes.Rose, Wave.wav_of}
+use Rattle.block_writer.specs.Brought.{Brought}
 use Rattle.pcm_base.specs.declared.refusal.Refusal.TheVariants as refusal
-use Rattle.pcm_base.specs.declared.wav.WavFault.TheVariants.{Truncated}
-use Rattle.pcm_base.specs.Causes.{Rose}
-use Rattle.piece_store.specs.Brought.{Brought}
-use Rattle.pcm_base.specs.Wave.{wav_of}
 
 -- the sound is there, and says these channels at this rate
 abbrev pub HasChannels : Option (List ℕ) → ℕ → List (List ℤ) → Type 0

@@ -2,62 +2,45 @@
 use Rattle.std.proofs.Common.{◌≡◌, ◌⊎◌, inl, inr, ⊎_elim, refl, sym, ap, ◌∙◌, subst, ℕ, ◌^◌, ◌≤◌, ◌<◌, Bool, true}
 use Rattle.std.proofs.Common.{false, not, nat_lt, nat_le, ◌&&◌, List, ◌++◌, length, map, take, Option, Some, None, Ok}
 use Rattle.std.proofs.Common.{Err, arith}
+use Rattle.std.proofs.{lemmas.Bool.Decides.leb_tells, lemmas.List.length-map, lemmas.Option.none-some}
 use Rattle.std.specs.List.{AllByRecursion}
-use Rattle.std.proofs.lemmas.Bool.Decides.{leb_tells}
-use Rattle.std.proofs.lemmas.List.{length-map}
-use Rattle.std.proofs.lemmas.Option.{none-some}
-use Rattle.pcm_base.specs.declared.answer.Reply.TheVariants.{Copied}
-use Rattle.pcm_base.specs.declared.block.BlockRef.{BlockRef}
-use Rattle.pcm_base.specs.declared.command.Call.{Call}
-use Rattle.pcm_base.specs.declared.command.Call.TheVariants.{Line}
-use Rattle.pcm_base.specs.declared.command.Command.TheVariants as command
-use Rattle.pcm_base.specs.declared.refusal.Refusal.{Refusal}
-use Rattle.pcm_base.specs.declared.refusal.Refusal.TheVariants as refusal
 use Rattle.pcm_base.specs.Cells.{Project, tracks_from, longest}
-use Rattle.pcm_base.specs.Cells as cells
-use Rattle.pcm_base.specs.Edits.{range_of}
-use Rattle.pcm_base.specs.Pieces.{Sources}
 use Rattle.pcm_base.specs.Refusals.{◌otherwise◌, call_tests, refused_if, too_narrow, bad_range}
-use Rattle.pcm_base.specs.Run.{outside, stop_of}
-use Rattle.pcm_base.specs.State.{current}
-use Rattle.pcm_base.specs.Step.{after, copied}
-use Rattle.pcm_base.specs.Studio as model
+use Rattle.pcm_base.specs.{declared.answer.Reply.TheVariants.Copied, declared.block.BlockRef.BlockRef}
+use Rattle.pcm_base.specs.{declared.command.Call.Call, declared.command.Call.TheVariants.Line}
+use Rattle.pcm_base.specs.{declared.refusal.Refusal.Refusal, Edits.range_of, Pieces.Sources, Run.outside, Run.stop_of}
+use Rattle.pcm_base.specs.{State.current, Step.after, Step.copied}
 use Rattle.disk_model.specs.declared.store.Store.{Ghosts}
 use Rattle.disk_model.proofs.Frames.{Fewer}
 use Rattle.sample_block.specs.Sources.{sources_of}
 use Rattle.block_ledger.specs.Counts.{Counts, occurrences}
-use Rattle.clip_track.specs.declared.clips.Clip.{Clip}
-use Rattle.clip_track.specs.declared.items.Item.{Item}
-use Rattle.clip_track.specs.Items.{strip_cells}
+use Rattle.clip_track.specs.{declared.clips.Clip.Clip, declared.items.Item.Item, Items.strip_cells}
 use Rattle.edit_ops.specs.Runs.{longest_of, copy_tests, AreCopies}
-use Rattle.project_state.specs.declared.track.Track.{Track}
-use Rattle.record_body.specs.Kept.{current_tracks}
 use Rattle.project_state.specs.Meaning.{meant_track, history_blocks}
-use Rattle.record_body.specs.Sound.{AllSoundTracks}
-use Rattle.project_state.specs.Tracks.{track_of}
-use Rattle.record_body.proofs.KeptBounds.{all_append}
+use Rattle.project_state.specs.{declared.track.Track.Track, Tracks.track_of}
+use Rattle.record_body.specs.{Saved.current_tracks, Valid.AllValidTracks}
+use Rattle.record_body.proofs.SavedBounds.{all_append}
 use Rattle.editor_tracks.specs.declared.run_range.RunRange.{RunRange}
 use Rattle.editor_tracks.specs.Copies.{run_of, Copies, strips_blocks}
-use Rattle.editor_state.specs.Core.{Core}
-use Rattle.editor_state.specs.Occurrences.{HasAll, Moves}
-use Rattle.editor_state.specs.Points.{lacks}
-use Rattle.editor_state.specs.Reads.{HasLayout}
 use Rattle.editor_state.specs.Studios.{IsClipboard, IsStudio, clip_blocks, pin_blocks, named_blocks, studio_of}
 use Rattle.editor_state.specs.Studios.{studio_tracks}
 use Rattle.editor_state.specs.Took.{Took, quietly, silent}
-use Rattle.editor_state.proofs.Blocks.BlockNumbers.{named_few, named_most}
-use Rattle.editor_tracks.proofs.CopyStrips.{from_track, layout_of, run_meant, run_is, from_sound, from_few, from_blocks}
-use Rattle.editor_tracks.proofs.CopyStrips.{longest_is, longest_most, copies_mean, copies_few, copies_fit, copies_short}
-use Rattle.editor_tracks.proofs.CopyStrips.{copies_all}
-use Rattle.editor_commits.proofs.CursorTracks.{track_there}
-use Rattle.editor_commits.proofs.CurrentProject.{current_sound, current_meant, track_is, old_names}
+use Rattle.editor_state.specs.{Core.Core, Occurrences.HasAll, Occurrences.Moves, Points.lacks, Reads.HasLayout}
 use Rattle.editor_state.proofs.Blocks.NamedBlocks.{counted_most, others_counted, others_moved}
-use Rattle.editor_state.proofs.Lists.{all_left, all_right}
 use Rattle.editor_state.proofs.Calls.NameChanges.{renamed, Renames, renamed_took}
 use Rattle.editor_state.proofs.Calls.QuietCalls.{IsQuiet, quiet_passes, carried, room_of, refused_own, refused_stopped}
 use Rattle.editor_state.proofs.Calls.QuietCalls.{refused_wanting}
-use Rattle.editor_state.proofs.Refusals.CommitTests.{fits}
-use Rattle.editor_state.proofs.Refusals.EarlyRefusals.{stopped_not}
+use Rattle.editor_state.proofs.{Blocks.BlockNumbers.named_few, Blocks.BlockNumbers.named_most, Lists.all_left}
+use Rattle.editor_state.proofs.{Lists.all_right, Refusals.CommitTests.fits, Refusals.EarlyRefusals.stopped_not}
+use Rattle.editor_tracks.proofs.CopyStrips.{from_track, layout_of, run_meant, run_is, from_valid, from_few, from_blocks}
+use Rattle.editor_tracks.proofs.CopyStrips.{longest_is, longest_most, copies_mean, copies_few, copies_fit, copies_short}
+use Rattle.editor_tracks.proofs.CopyStrips.{copies_all}
+use Rattle.editor_commits.proofs.CursorTracks.{track_there}
+use Rattle.editor_commits.proofs.CurrentProject.{current_valid, current_meant, track_is, old_names}
+use Rattle.pcm_base.specs.declared.command.Command.TheVariants as command
+use Rattle.pcm_base.specs.declared.refusal.Refusal.TheVariants as refusal
+use Rattle.pcm_base.specs.Cells as cells
+use Rattle.pcm_base.specs.Studio as model
 
 -- a range that is not refused ends by the end
 ends_by : (a : Bool) (to len : ℕ) → refused_if (not (a && nat_le to len)) refusal.BadRange ≡ None → to ≤ len
@@ -92,17 +75,7 @@ module _ {D : Type 0} (disk : Ghosts D) (s : Core D) (is : IsStudio disk s) (ran
   abbrev ts : List Track
   ts = current_tracks s.history
 
-  abbrev id : ℕ
-  id = range.track
-
-  abbrev n : ℕ
-  n = range.count
-
-  abbrev from : ℕ
-  from = range.from
-
-  abbrev to : ℕ
-  to = range.to
+  open range use {track as id, count as n, from, to}
 
   abbrev line : Call
   line = Line (command.Copy id n from to)
@@ -137,7 +110,7 @@ module _ {D : Type 0} (disk : Ghosts D) (s : Core D) (is : IsStudio disk s) (ran
     run = from_track id ts
 
     layouts : run_of id ts ≡ map layout_of run
-    layouts = run_is id 1 ts has.track (current_sound disk s is).rising has.found
+    layouts = run_is id 1 ts has.track (current_valid disk s is).rising has.found
 
     tests_are : call_tests (outside t silent) t.state line ≡ copy_tests (run_of id ts) n from to
     tests_are =
@@ -145,10 +118,10 @@ module _ {D : Type 0} (disk : Ghosts D) (s : Core D) (is : IsStudio disk s) (ran
         let mean = ap (tracks_from id) (current_meant disk s is) ∙ run_meant src id ts in
         let few : length (tracks_from id (current t.state)) ≡ length (run_of id ts) =
         ap length mean ∙ length-map run (meant_track src) ∙ sym (ap length layouts ∙ length-map run layout_of) in
-        let sound = from_sound s.block_size s.next_block s.next_track id ts (current_sound disk s is).sound in
+        let valid = from_valid s.block_size s.next_block s.next_track id ts (current_valid disk s is).valid in
         let long : longest (take n (tracks_from id (current t.state))) ≡ longest_of (take n (run_of id ts)) =
         ap (λ (p : Project). longest (take n p)) mean ∙ longest_is s.block_size s.next_block s.next_track src n run
-        sound ∙ sym (ap (λ (z : List (List Clip)). longest_of (take n z)) layouts) in
+        valid ∙ sym (ap (λ (z : List (List Clip)). longest_of (take n z)) layouts) in
         λ i. (no i) otherwise (too_narrow (few i) n) otherwise (bad_range from to (long i))
 
     pub copy_refused : (why : Refusal) → (copy_tests (run_of id ts) n from to ≡ Some why) ⊎ (why ≡ refusal.NoMemory)
@@ -162,11 +135,11 @@ module _ {D : Type 0} (disk : Ghosts D) (s : Core D) (is : IsStudio disk s) (ran
       copies_of : AreCopies from to (take n (map layout_of run)) v
       copies_of = subst (λ (z : List (List Clip)). AreCopies from to (take n z) v) layouts copies.1
 
-      sound_run : AllSoundTracks s.block_size s.next_block s.next_track run
-      sound_run = from_sound s.block_size s.next_block s.next_track id ts (current_sound disk s is).sound
+      valid_run : AllValidTracks s.block_size s.next_block s.next_track run
+      valid_run = from_valid s.block_size s.next_block s.next_track id ts (current_valid disk s is).valid
 
       pub strips_few : length v ≤ 64
-      strips_few = omega (arith, copies_few from to n run v copies_of, from_few id ts, (current_sound disk s is).few)
+      strips_few = omega (arith, copies_few from to n run v copies_of, from_few id ts, (current_valid disk s is).few)
 
       pub strips_named : (P : BlockRef → Type 0) → AllByRecursion P (named_blocks s)
           → AllByRecursion P (strips_blocks v)
@@ -180,14 +153,14 @@ module _ {D : Type 0} (disk : Ghosts D) (s : Core D) (is : IsStudio disk s) (ran
             arith,
             ends_by (nat_lt from to) to len good,
             ap (λ (z : List (List Clip)). longest_of (take n z)) layouts,
-            longest_most s.block_size s.next_block s.next_track n run sound_run,
+            longest_most s.block_size s.next_block s.next_track n run valid_run,
           )
 
       pub may_paste : IsClipboard s.block_size v
       may_paste = record {
         few = strips_few;
         short = copies_short from to n run v range_most copies_of;
-        fits = copies_fit s.block_size s.next_block s.next_track from to n run v copies_of sound_run;
+        fits = copies_fit s.block_size s.next_block s.next_track from to n run v copies_of valid_run;
       }
 
       meaning : map (strip_cells src) v ≡ copied id n from to (current t.state)
@@ -213,7 +186,7 @@ module _ {D : Type 0} (disk : Ghosts D) (s : Core D) (is : IsStudio disk s) (ran
           numbers = is.numbers;
           pin_least = is.counters.pin_least;
           pin_most = is.counters.pin_most;
-          sound = is.pins;
+          valid = is.pins;
           few_clips = most;
           clip_fits = may_paste;
           numbered = is.numbered;

@@ -1,32 +1,24 @@
 -- What is copied is a range of each track of the run.
-use Rattle.std.proofs.Common.{◌≡◌, ⊎_elim, refl, sym, ap, ◌∙◌, subst, ℕ, zero, suc, ◌+◌, ◌^◌, ◌≤◌, ◌<◌, max}
-use Rattle.std.proofs.Common.{◌==◌, if◌then◌else◌, List, [], ◌∷◌}
-use Rattle.std.proofs.Common.{◌++◌, length, map, take, flat_map, Some, get_or, arith}
-use Rattle.std.specs.List.{AllByRecursion}
+use Rattle.std.proofs.Common.{◌≡◌, ⊎_elim, refl, sym, ap, ◌∙◌, subst, ℕ, zero, suc, ◌+◌, ◌^◌, ◌≤◌, ◌<◌, max, ◌==◌}
+use Rattle.std.proofs.Common.{if◌then◌else◌, List, [], ◌∷◌, ◌++◌, length, map, take, flat_map, Some, get_or, arith}
 use Rattle.std.proofs.lemmas.Bool.{ne_eqb, le-leb, lt-leb}
-use Rattle.std.proofs.lemmas.Bool.Decides.{eqb_tells}
-use Rattle.std.proofs.lemmas.Option.{none-some}
-use Rattle.pcm_base.specs.declared.block.BlockRef.{BlockRef}
+use Rattle.std.proofs.{lemmas.Bool.Decides.eqb_tells, lemmas.Option.none-some}
+use Rattle.std.specs.List.{AllByRecursion}
 use Rattle.pcm_base.specs.declared.piece.Piece.TheVariants.{Old, Scaled, Zero, Given}
 use Rattle.pcm_base.specs.Cells.{tracks_from, longest}
-use Rattle.pcm_base.specs.Cells as cells
-use Rattle.pcm_base.specs.Edits.{range_of}
-use Rattle.pcm_base.specs.Pieces.{Sources}
-use Rattle.clip_track.specs.declared.clips.Clip.{Clip}
-use Rattle.clip_track.specs.declared.items.Item.{Item}
+use Rattle.pcm_base.specs.{declared.block.BlockRef.BlockRef, Edits.range_of, Pieces.Sources}
 use Rattle.clip_track.specs.declared.items.Item.TheVariants.{Gap, Sound}
-use Rattle.clip_track.specs.Clips.{layout_blocks}
 use Rattle.clip_track.specs.Items.{strip_cells, strip_len, strip_blocks, item_blocks, AreItems}
+use Rattle.clip_track.specs.{declared.clips.Clip.Clip, declared.items.Item.Item, Clips.layout_blocks}
 use Rattle.clip_track.proofs.Layouts.{length-layout}
-use Rattle.edit_ops.specs.Runs.{longest_of, AreCopies, AreClips}
-use Rattle.edit_ops.specs.Strips.{ItemsFrom}
-use Rattle.project_state.specs.declared.track.Track.{Track}
-use Rattle.project_state.specs.Meaning.{meant, point_blocks}
-use Rattle.record_body.specs.Sound.{AllSoundTracks}
-use Rattle.project_state.specs.Tracks.{AreAbove, track_of}
-use Rattle.record_body.proofs.KeptBounds.{all_append}
+use Rattle.edit_ops.specs.{Runs.longest_of, Runs.AreCopies, Runs.AreClips, Strips.ItemsFrom}
+use Rattle.project_state.specs.{declared.track.Track.Track, Meaning.meant, Meaning.point_blocks, Tracks.AreAbove}
+use Rattle.project_state.specs.{Tracks.track_of}
+use Rattle.record_body.specs.Valid.{AllValidTracks}
+use Rattle.record_body.proofs.SavedBounds.{all_append}
 use Rattle.editor_tracks.specs.Copies.{run_of, strips_blocks}
 use Rattle.editor_state.proofs.Lists.{all_left, all_right}
+use Rattle.pcm_base.specs.Cells as cells
 
 -- ---- the blocks of a strip
 
@@ -87,11 +79,11 @@ run_is id n (t ∷ ts) x above found = ⊎_elim
     rw (other.0, lt-leb id t.id (omega (arith, less))) (run_is id (t.id + 1) ts x above.1 later))
     (eqb_tells t.id id)
 
-pub from_sound : (m next_block next_track id : ℕ) (ts : List Track) → AllSoundTracks m next_block next_track ts
-    → AllSoundTracks m next_block next_track (from_track id ts)
-from_sound m next_block next_track id [] all = tt
-from_sound m next_block next_track id (t ∷ ts) all = ⊎_elim (λ same. rw (same.0) all)
-    (λ other. rw (other.0) (from_sound m next_block next_track id ts all.1)) (eqb_tells t.id id)
+pub from_valid : (m next_block next_track id : ℕ) (ts : List Track) → AllValidTracks m next_block next_track ts
+    → AllValidTracks m next_block next_track (from_track id ts)
+from_valid m next_block next_track id [] all = tt
+from_valid m next_block next_track id (t ∷ ts) all = ⊎_elim (λ same. rw (same.0) all)
+    (λ other. rw (other.0) (from_valid m next_block next_track id ts all.1)) (eqb_tells t.id id)
 
 pub from_few : (id : ℕ) (ts : List Track) → length (from_track id ts) ≤ length ts
 from_few id [] = omega arith
@@ -107,7 +99,7 @@ from_blocks P id (t ∷ ts) all = ⊎_elim (λ same. rw (same.0) all) (λ other.
 -- ---- its lengths
 
 module _ (m next_block next_track : ℕ) where
-  pub longest_is : (src : Sources) (n : ℕ) (ts : List Track) → AllSoundTracks m next_block next_track ts
+  pub longest_is : (src : Sources) (n : ℕ) (ts : List Track) → AllValidTracks m next_block next_track ts
       → longest (take n (meant src ts)) ≡ longest_of (take n (map layout_of ts))
   longest_is src zero ts all = refl
   longest_is src (suc n) [] all = refl
@@ -116,7 +108,7 @@ module _ (m next_block next_track : ℕ) where
       let later = longest_is src n ts all.1 in
       λ i. max (here i) (later i)
 
-  pub longest_most : (n : ℕ) (ts : List Track) → AllSoundTracks m next_block next_track ts
+  pub longest_most : (n : ℕ) (ts : List Track) → AllValidTracks m next_block next_track ts
       → longest_of (take n (map layout_of ts)) ≤ 2 ^ 32
   longest_most zero ts all = omega arith
   longest_most (suc n) [] all = omega arith
@@ -125,14 +117,14 @@ module _ (m next_block next_track : ℕ) where
   -- ---- the strips
 
   pub copies_fit : (from to n : ℕ) (ts : List Track) (v : List (List Item))
-      → AreCopies from to (take n (map layout_of ts)) v → AllSoundTracks m next_block next_track ts → AreClips m v
-  copies_fit from to zero ts [] all sound = tt
-  copies_fit from to zero ts (s ∷ ss) all sound = absurd all
-  copies_fit from to (suc n) [] [] all sound = tt
-  copies_fit from to (suc n) [] (s ∷ ss) all sound = absurd all
-  copies_fit from to (suc n) (t ∷ ts) [] all sound = absurd all
-  copies_fit from to (suc n) (t ∷ ts) (s ∷ ss) all sound =
-      (all.0.clip m sound.0.half_full, copies_fit from to n ts ss all.1 sound.1)
+      → AreCopies from to (take n (map layout_of ts)) v → AllValidTracks m next_block next_track ts → AreClips m v
+  copies_fit from to zero ts [] all valid = tt
+  copies_fit from to zero ts (s ∷ ss) all valid = absurd all
+  copies_fit from to (suc n) [] [] all valid = tt
+  copies_fit from to (suc n) [] (s ∷ ss) all valid = absurd all
+  copies_fit from to (suc n) (t ∷ ts) [] all valid = absurd all
+  copies_fit from to (suc n) (t ∷ ts) (s ∷ ss) all valid =
+      (all.0.clip m valid.0.half_full, copies_fit from to n ts ss all.1 valid.1)
 
 pub copies_mean : (src : Sources) (from to n : ℕ) (ts : List Track) (v : List (List Item))
     → AreCopies from to (take n (map layout_of ts)) v

@@ -1,50 +1,35 @@
 -- A range of a run that is taken out into the clipboard, as an edit that makes blocks.
-use Rattle.std.proofs.Common.{◌≡◌, ⊎_elim, refl, sym, ap, ◌∙◌, subst, ℕ, zero, suc, ◌*◌, ◌^◌, ◌≤◌, nat_lt, Bool}
-use Rattle.std.proofs.Common.{true, false, Option, Some, None, List, [], ◌∷◌, length, length-append, map, take}
-use Rattle.std.proofs.Common.{replicate, Contains, arith}
+use Rattle.std.proofs.Common.{◌≡◌, ⊎_elim, refl, sym, ap, ◌∙◌, subst, ℕ, zero, suc, ◌*◌, ◌^◌, ◌≤◌, nat_lt, Bool, true}
+use Rattle.std.proofs.Common.{false, Option, Some, None, List, [], ◌∷◌, length, length-append, map, take, replicate}
+use Rattle.std.proofs.Common.{Contains, arith}
+use Rattle.std.proofs.{lemmas.Bool.ltb-false, lemmas.List.length-map, lemmas.Option.none-some}
 use Rattle.std.specs.List.{AllByRecursion}
-use Rattle.std.proofs.lemmas.Bool.{ltb-false}
-use Rattle.std.proofs.lemmas.List.{length-map}
-use Rattle.std.proofs.lemmas.Option.{none-some}
-use Rattle.pcm_base.specs.declared.block.BlockRef.{BlockRef}
-use Rattle.pcm_base.specs.declared.refusal.Refusal.{Refusal}
-use Rattle.pcm_base.specs.declared.refusal.Refusal.TheVariants as refusal
-use Rattle.pcm_base.specs.declared.sound.Cell.{Cell}
-use Rattle.pcm_base.specs.Cells.{Project, longest, tracks_from}
-use Rattle.pcm_base.specs.Pieces.{Sources}
 use Rattle.pcm_base.specs.Refusals.{◌otherwise◌, bad_range, is_empty, refused_if, too_narrow}
+use Rattle.pcm_base.specs.{declared.block.BlockRef.BlockRef, declared.refusal.Refusal.Refusal, declared.sound.Cell.Cell}
+use Rattle.pcm_base.specs.{Cells.Project, Cells.longest, Cells.tracks_from, Pieces.Sources}
 use Rattle.disk_model.specs.declared.store.Store.{Ghosts}
-use Rattle.clip_track.specs.declared.clips.Clip.{Clip}
-use Rattle.clip_track.specs.declared.items.Item.{Item}
-use Rattle.clip_track.specs.Clips.{layout_blocks}
 use Rattle.clip_track.specs.Items.{AreItems, strip_blocks, strip_len}
-use Rattle.edit_ops.specs.declared.types.Plan.{Plan}
-use Rattle.edit_ops.specs.Plans.{Start}
+use Rattle.clip_track.specs.{declared.clips.Clip.Clip, declared.items.Item.Item, Clips.layout_blocks}
 use Rattle.edit_ops.specs.Runs.{AllTracksHalfFull, AreCuts, copy_tests, longest_of, start_behind}
+use Rattle.edit_ops.specs.{declared.types.Plan.Plan, Plans.Start}
 use Rattle.envelope_view.specs.Answers.{IsUndamaged}
-use Rattle.project_state.specs.declared.track.Track.{Track}
-use Rattle.record_body.specs.Kept.{current_tracks}
 use Rattle.project_state.specs.Meaning.{meant, meant_track, point_blocks}
-use Rattle.record_body.specs.Sound.{AllSoundTracks}
-use Rattle.project_state.specs.Tracks.{AreAbove, track_of}
+use Rattle.project_state.specs.{declared.track.Track.Track, Tracks.AreAbove, Tracks.track_of}
+use Rattle.record_body.specs.{Saved.current_tracks, Valid.AllValidTracks}
 use Rattle.model_laws.proofs.OwnTests.{both_passed, not_refused}
-use Rattle.editor_tracks.specs.Copies.{run_of, strips_blocks}
-use Rattle.editor_tracks.specs.declared.run_range.RunRange.{RunRange}
-use Rattle.editor_state.specs.Core.{Core}
-use Rattle.editor_tracks.specs.Cuts.{NoCutPlan, cut_refusal}
-use Rattle.editor_state.specs.Edits.{AreAmong}
-use Rattle.editor_state.specs.Points.{lacks}
-use Rattle.editor_state.specs.Studios.{IsStudio}
-use Rattle.editor_tracks.proofs.CopyStrips.{from_sound, from_track, items_few, layout_of, longest_is, run_is, run_meant}
-use Rattle.editor_commits.proofs.CurrentProject.{current_sound}
+use Rattle.editor_tracks.specs.{Copies.run_of, Copies.strips_blocks, declared.run_range.RunRange.RunRange}
+use Rattle.editor_tracks.specs.{Cuts.NoCutPlan, Cuts.cut_refusal}
+use Rattle.editor_state.specs.{Core.Core, Edits.AreAmong, Points.lacks, Studios.IsStudio}
+use Rattle.editor_tracks.proofs.CopyStrips.{from_valid, from_track, items_few, layout_of, longest_is, run_is, run_meant}
+use Rattle.editor_tracks.proofs.RunPlans.{AreLaid, CellEdit, edits_at, plan_more}
+use Rattle.editor_commits.proofs.{CurrentProject.current_valid, TrackChanges.lacks_is}
 use Rattle.editor_state.proofs.Lists.{all_left, all_right}
 use Rattle.editor_state.proofs.Refusals.DamageTests.{TellsNone, either_tells, lacks_tells, range_tells, tests_tell}
-use Rattle.editor_tracks.proofs.RunPlans.{AreLaid, CellEdit, edits_at, plan_more}
-use Rattle.editor_commits.proofs.TrackChanges.{lacks_is}
+use Rattle.pcm_base.specs.declared.refusal.Refusal.TheVariants as refusal
 
 -- ---- the run
 
-tracks_half_full : (m next track : ℕ) (ts : List Track) → AllSoundTracks m next track ts
+tracks_half_full : (m next track : ℕ) (ts : List Track) → AllValidTracks m next track ts
     → AllTracksHalfFull m (map layout_of ts)
 tracks_half_full m next track [] all = tt
 tracks_half_full m next track (t ∷ ts) all = (all.0.half_full, tracks_half_full m next track ts all.1)
@@ -54,10 +39,10 @@ pub run_half_full : {D : Type 0} (disk : Ghosts D) (s : Core D) → IsStudio dis
     → AllTracksHalfFull s.block_size (run_of id (current_tracks s.history))
 run_half_full disk s is id t found =
     let ts = current_tracks s.history in
-    let sound = current_sound disk s is in
-    subst (AllTracksHalfFull s.block_size) (sym (run_is id 1 ts t sound.rising found))
+    let valid = current_valid disk s is in
+    subst (AllTracksHalfFull s.block_size) (sym (run_is id 1 ts t valid.rising found))
     (tracks_half_full s.block_size s.next_block s.next_track (from_track id ts)
-    (from_sound s.block_size s.next_block s.next_track id ts sound.sound))
+    (from_valid s.block_size s.next_block s.next_track id ts valid.valid))
 
 -- a run has a plan for each of the tracks that are cut
 pub cuts_few : (edit : List Cell → List Cell) (start : Start) (n : ℕ) (run : List (List Clip)) (ps : List Plan)
@@ -144,16 +129,16 @@ no_cut_tells range s why not =
 
 -- the tests of the model's state are those of the run
 pub run_tests_are : (src : Sources) (id n from to m next track : ℕ) (ts : List Track) → AreAbove 1 ts
-    → AllSoundTracks m next track ts → (o : Option Track) → track_of id ts ≡ o
+    → AllValidTracks m next track ts → (o : Option Track) → track_of id ts ≡ o
     → ((refused_if (is_empty (tracks_from id (meant src ts))) (refusal.NoTrack id)) otherwise
     (too_narrow (length (tracks_from id (meant src ts))) n)
     otherwise (bad_range from to (longest (take n (tracks_from id (meant src ts))))))
     ≡ ((lacks id o) otherwise (copy_tests (run_of id ts) n from to))
-run_tests_are src id n from to m next track ts above sound None found =
+run_tests_are src id n from to m next track ts above valid None found =
     let first = lacks_is src id ts ∙ ap (lacks id) found in
     let rest = tracks_from id (meant src ts) in
     λ i. (first i) otherwise (too_narrow (length rest) n) otherwise (bad_range from to (longest (take n rest)))
-run_tests_are src id n from to m next track ts above sound (Some t) found =
+run_tests_are src id n from to m next track ts above valid (Some t) found =
     let first = lacks_is src id ts ∙ ap (lacks id) found in
     let run = from_track id ts in
     let mean = run_meant src id ts in
@@ -162,7 +147,7 @@ run_tests_are src id n from to m next track ts above sound (Some t) found =
     ap length mean ∙ length-map run (meant_track src) ∙ sym (ap length layouts ∙ length-map run layout_of) in
     let long : longest (take n (tracks_from id (meant src ts))) ≡ longest_of (take n (run_of id ts)) =
     ap (λ (p : Project). longest (take n p)) mean
-    ∙ longest_is m next track src n run (from_sound m next track id ts sound)
+    ∙ longest_is m next track src n run (from_valid m next track id ts valid)
     ∙ sym (ap (λ (z : List (List Clip)). longest_of (take n z)) layouts) in
     λ i. (first i) otherwise (too_narrow (few i) n) otherwise (bad_range from to (long i))
 

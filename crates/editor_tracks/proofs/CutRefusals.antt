@@ -1,44 +1,28 @@
 -- The lines that take a range of a run out: their own tests, what they lead to, and what refuses them.
-use Rattle.std.proofs.Common.{◌≡◌, ⊎_elim, refl, sym, ap, ◌∙◌, subst, ℕ, ◌+◌, ℤ}
-use Rattle.std.proofs.Common.{Option, Some, None, List, length, take}
+use Rattle.std.proofs.Common.{◌≡◌, ⊎_elim, refl, sym, ap, ◌∙◌, subst, ℕ, ◌+◌, ℤ, Option, Some, None, List, length, take}
 use Rattle.std.proofs.Common.{replicate, Err, arith}
-use Rattle.pcm_base.specs.declared.command.Call.{Call}
-use Rattle.pcm_base.specs.declared.command.Call.TheVariants.{Line}
-use Rattle.pcm_base.specs.declared.refusal.Refusal.{Refusal}
-use Rattle.pcm_base.specs.declared.refusal.Refusal.TheVariants as refusal
 use Rattle.pcm_base.specs.Cells.{Project, longest, run_edited, tracks_from}
-use Rattle.pcm_base.specs.History.{edited}
-use Rattle.pcm_base.specs.Counters.{layouts_of}
-use Rattle.pcm_base.specs.Outside.{Outside}
 use Rattle.pcm_base.specs.Refusals.{◌otherwise◌, bad_range, call_tests, is_empty, refused_if, too_narrow}
-use Rattle.pcm_base.specs.Run.{outside, stop_of}
-use Rattle.pcm_base.specs.Sizes.{blocks_of_tracks}
-use Rattle.pcm_base.specs.State.{State, current}
-use Rattle.pcm_base.specs.Step.{after, copied}
-use Rattle.pcm_base.specs.Studio as model
+use Rattle.pcm_base.specs.{declared.command.Call.Call, declared.command.Call.TheVariants.Line}
+use Rattle.pcm_base.specs.{declared.refusal.Refusal.Refusal, History.edited, Counters.layouts_of, Outside.Outside}
+use Rattle.pcm_base.specs.{Run.outside, Run.stop_of, Sizes.blocks_of_tracks, State.State, State.current, Step.after}
+use Rattle.pcm_base.specs.{Step.copied, declared.edits.Removing.Removing, declared.edits.Removing.TheVariants.Close}
+use Rattle.pcm_base.specs.{declared.edits.Removing.TheVariants.Leave, Edits.removed}
 use Rattle.disk_model.specs.declared.store.Store.{Ghosts}
 use Rattle.disk_model.proofs.Frames.{Fewer}
 use Rattle.sample_block.specs.Sources.{samples_on}
-use Rattle.project_state.specs.declared.track.Track.{Track}
-use Rattle.record_body.specs.KeptSound.{IsSoundPoint}
-use Rattle.project_state.specs.Tracks.{track_of}
-use Rattle.pcm_base.specs.declared.edits.Removing.{Removing}
-use Rattle.pcm_base.specs.declared.edits.Removing.TheVariants.{Close, Leave}
-use Rattle.pcm_base.specs.Edits.{removed}
-use Rattle.record_body.specs.Kept.{current_tracks}
-use Rattle.editor_tracks.specs.declared.run_range.RunRange.{RunRange}
-use Rattle.editor_state.specs.Core.{Core}
-use Rattle.editor_tracks.specs.Cuts.{NoCutPlan, cut_line, cut_refusal}
-use Rattle.editor_state.specs.Edits.{IsEditCall, alone}
-use Rattle.editor_state.specs.Studios.{IsStudio, studio_by, studio_of}
-use Rattle.editor_state.specs.Took.{Took, quietly, silent}
-use Rattle.editor_commits.proofs.CurrentProject.{current_sound}
-use Rattle.editor_state.proofs.Refusals.CommitTests.{early}
+use Rattle.project_state.specs.{declared.track.Track.Track, Tracks.track_of}
+use Rattle.record_body.specs.{SavedValid.IsValidPoint, Saved.current_tracks}
+use Rattle.editor_tracks.specs.{declared.run_range.RunRange.RunRange, Cuts.NoCutPlan, Cuts.cut_line, Cuts.cut_refusal}
+use Rattle.editor_state.specs.{Core.Core, Edits.IsEditCall, Edits.alone, Studios.IsStudio, Studios.studio_by}
+use Rattle.editor_state.specs.{Studios.studio_of, Took.Took, Took.quietly, Took.silent}
+use Rattle.editor_commits.proofs.{CurrentProject.current_valid, TrackChanges.current_is}
 use Rattle.editor_state.proofs.Calls.FileRemovals.{commit_frees, commit_removes_none}
 use Rattle.editor_state.proofs.Refusals.EarlyRefusals.{refuses, wants}
-use Rattle.editor_commits.proofs.TrackChanges.{current_is}
+use Rattle.editor_state.proofs.{Refusals.CommitTests.early, Refusals.CounterNumbers.early_needed}
 use Rattle.editor_tracks.proofs.CutLaws.{run_tests_are}
-use Rattle.editor_state.proofs.Refusals.CounterNumbers.{early_needed}
+use Rattle.pcm_base.specs.declared.refusal.Refusal.TheVariants as refusal
+use Rattle.pcm_base.specs.Studio as model
 
 pub cut_call : (e : Removing) (range : RunRange)
     → IsEditCall (Line (cut_line e range)) silent 0 0 (λ m st. blocks_of_tracks range.count)
@@ -102,17 +86,7 @@ after_by Leave range out st = refl
 
 module _ {D : Type 0} (disk : Ghosts D) (s : Core D) (is : IsStudio disk s) (e : Removing) (range : RunRange)
     (fewer : Fewer disk s.store) where
-  abbrev id : ℕ
-  id = range.track
-
-  abbrev n : ℕ
-  n = range.count
-
-  abbrev from : ℕ
-  from = range.from
-
-  abbrev to : ℕ
-  to = range.to
+  open range use {track as id, count as n, from, to}
 
   abbrev old : List Track
   old = current_tracks s.history
@@ -123,8 +97,8 @@ module _ {D : Type 0} (disk : Ghosts D) (s : Core D) (is : IsStudio disk s) (e :
   abbrev t : model.Studio
   t = studio_of disk s
 
-  old_sound : IsSoundPoint s.block_size s.next_block s.next_track old
-  old_sound = current_sound disk s is
+  old_valid : IsValidPoint s.block_size s.next_block s.next_track old
+  old_valid = current_valid disk s is
 
   pub own_is : (block : ℕ → ℕ → ℤ) → call_tests (outside (studio_by (alone block) disk s) silent)
       (studio_by (alone block) disk s).state line ≡ cut_refusal range old
@@ -133,7 +107,7 @@ module _ {D : Type 0} (disk : Ghosts D) (s : Core D) (is : IsStudio disk s) (e :
       let u = studio_by src disk s in
       own_by e range (outside u silent) u.state
       ∙ ap (line_tests id n from to) (current_is src s.history)
-      ∙ run_tests_are src id n from to s.block_size s.next_block s.next_track old old_sound.rising old_sound.sound
+      ∙ run_tests_are src id n from to s.block_size s.next_block s.next_track old old_valid.rising old_valid.valid
       (track_of id old) refl
 
   -- ---- a stopped studio, a test of the edit, or memory

@@ -1,78 +1,43 @@
 -- A planned cut of a run is an edit, and a step.
-use Rattle.std.proofs.Common.{◌≡◌, refl, sym, ap, ◌∙◌, subst, ℕ, ◌+◌, ◌^◌, ◌≤◌, ℤ}
-use Rattle.std.proofs.Common.{Option, Some, None, List, length, map, take}
-use Rattle.std.proofs.Common.{replicate, Contains, Ok, arith}
+use Rattle.std.proofs.Common.{◌≡◌, refl, sym, ap, ◌∙◌, subst, ℕ, ◌+◌, ◌^◌, ◌≤◌, ℤ, Option, Some, None, List, length}
+use Rattle.std.proofs.Common.{map, take, replicate, Contains, Ok, arith}
 use Rattle.std.proofs.lemmas.List.{length-map, length-replicate}
-use Rattle.pcm_base.specs.declared.block.BlockRef.{BlockRef}
-use Rattle.pcm_base.specs.declared.command.Call.{Call}
-use Rattle.pcm_base.specs.declared.command.Call.TheVariants.{Line}
-use Rattle.pcm_base.specs.declared.sound.Cell.{Cell}
-use Rattle.pcm_base.specs.Cells.{Project, run_edited}
-use Rattle.pcm_base.specs.Cells as cells
-use Rattle.pcm_base.specs.Edits.{range_of, removed}
-use Rattle.pcm_base.specs.History.{edited, recorded}
-use Rattle.pcm_base.specs.Pieces.{Sources}
-use Rattle.pcm_base.specs.Refusals.{◌otherwise◌}
-use Rattle.pcm_base.specs.Run.{outside}
-use Rattle.pcm_base.specs.Sizes.{blocks_of_tracks}
-use Rattle.pcm_base.specs.State.{current}
-use Rattle.pcm_base.specs.Step.{after, copied}
-use Rattle.pcm_base.specs.Studio as model
+use Rattle.pcm_base.specs.{declared.block.BlockRef.BlockRef, declared.command.Call.Call}
+use Rattle.pcm_base.specs.{declared.command.Call.TheVariants.Line, declared.sound.Cell.Cell, Cells.Project}
+use Rattle.pcm_base.specs.{Cells.run_edited, Edits.range_of, Edits.removed, History.edited, History.recorded}
+use Rattle.pcm_base.specs.{Pieces.Sources, Refusals.◌otherwise◌, Run.outside, Sizes.blocks_of_tracks, State.current}
+use Rattle.pcm_base.specs.{Step.after, Step.copied, declared.edits.Removing.Removing}
 use Rattle.disk_model.specs.declared.store.Store.{Ghosts}
 use Rattle.disk_model.proofs.Frames.{Fewer}
-use Rattle.clip_track.specs.declared.clips.Clip.{Clip}
-use Rattle.clip_track.specs.declared.items.Item.{Item}
-use Rattle.edit_ops.specs.declared.types.NewBlock.{NewBlock}
-use Rattle.edit_ops.specs.Plans.{AreWritten}
-use Rattle.edit_ops.specs.Runs.{AreCopies, AreCuts, copy_tests}
-use Rattle.piece_store.specs.declared.given.Given.TheVariants.{Nothing}
-use Rattle.piece_store.specs.Bringing.{brought, brought_by}
-use Rattle.project_state.specs.declared.track.Track.{Track}
-use Rattle.record_body.specs.Kept.{current_tracks}
+use Rattle.clip_track.specs.{declared.clips.Clip.Clip, declared.items.Item.Item}
+use Rattle.edit_ops.specs.{Plans.AreWritten, Runs.AreCopies, Runs.AreCuts, Runs.copy_tests}
+use Rattle.block_writer.specs.{declared.given.Given.TheVariants.Nothing, Bringing.brought, Bringing.brought_by}
 use Rattle.project_state.specs.Meaning.{meant, meant_history, point_blocks}
-use Rattle.record_body.specs.KeptSound.{IsSoundPoint}
-use Rattle.project_state.specs.Tracks.{track_of}
+use Rattle.project_state.specs.{declared.track.Track.Track, Tracks.track_of}
+use Rattle.record_body.specs.{Saved.current_tracks, SavedValid.IsValidPoint}
 use Rattle.project_state.proofs.MeantHistories.{meant_recorded}
 use Rattle.layout_uses.specs.Drawing.{HasNumbers}
-use Rattle.editor_state.specs.declared.planned.Planned.{Planned}
-use Rattle.pcm_base.specs.declared.edits.Removing.{Removing}
-use Rattle.editor_tracks.specs.declared.run_range.RunRange.{RunRange}
-use Rattle.editor_tracks.specs.Copies.{Copies, run_of, strips_blocks}
-use Rattle.editor_state.specs.Core.{Core}
-use Rattle.editor_tracks.specs.Cuts.{IsCutPlan, cut_line}
 use Rattle.editor_state.specs.Edits.{AreAmong, IsEdit, IsEditCall, IsPlanned, alone, blocks_with, clip_behind}
 use Rattle.editor_state.specs.Edits.{clip_then, tagged_by}
-use Rattle.editor_state.specs.Points.{lacks}
-use Rattle.editor_state.specs.Reads.{HasLayout}
 use Rattle.editor_state.specs.Studios.{IsClipboard, IsStudio, clip_cells, named_blocks, studio_by}
-use Rattle.editor_state.specs.Took.{silent}
-use Rattle.editor_tracks.specs.TrackEdits.{plan_start}
-use Rattle.editor_tracks.proofs.CopySteps.{may_paste, strips_named}
-use Rattle.editor_state.proofs.Blocks.BlockLists.{among_itself}
+use Rattle.editor_state.specs.{declared.planned.Planned.Planned, Core.Core, Points.lacks, Reads.HasLayout, Took.silent}
+use Rattle.editor_tracks.specs.{declared.run_range.RunRange.RunRange, Copies.Copies, Copies.run_of}
+use Rattle.editor_tracks.specs.{Copies.strips_blocks, Cuts.IsCutPlan, Cuts.cut_line, TrackEdits.plan_start}
 use Rattle.editor_tracks.proofs.CopyStrips.{copies_mean, from_blocks, from_track, layout_of, run_is, run_meant}
-use Rattle.editor_commits.proofs.CursorTracks.{current_may_read}
-use Rattle.editor_commits.proofs.CurrentProject.{current_sound, old_names}
-use Rattle.editor_state.proofs.Lists.{all_left}
-use Rattle.editor_blocks.proofs.StudioBlocks.{refs}
-use Rattle.editor_tracks.proofs.RunLaws.{run_few, run_planned, run_point}
-use Rattle.editor_tracks.proofs.RunPlans.{AreLaid, CellEdit, laid_many}
-use Rattle.editor_commits.proofs.TrackChanges.{current_is}
 use Rattle.editor_tracks.proofs.CutLaws.{cuts_laid, each_so, same_edits, strips_short, there_of, wide}
 use Rattle.editor_tracks.proofs.CutRefusals.{after_by, cut_call, draws_by, own_is}
+use Rattle.editor_tracks.proofs.{CopySteps.may_paste, CopySteps.strips_named, RunLaws.run_few, RunLaws.run_planned}
+use Rattle.editor_tracks.proofs.{RunLaws.run_point, RunPlans.AreLaid, RunPlans.CellEdit, RunPlans.laid_many}
+use Rattle.editor_state.proofs.{Blocks.BlockLists.among_itself, Lists.all_left}
+use Rattle.editor_commits.proofs.CurrentProject.{current_valid, old_names}
+use Rattle.editor_commits.proofs.{CursorTracks.current_may_read, TrackChanges.current_is}
+use Rattle.editor_blocks.proofs.StudioBlocks.{refs}
+use Rattle.pcm_base.specs.Cells as cells
+use Rattle.pcm_base.specs.Studio as model
 
 module _ {D : Type 0} (disk : Ghosts D) (s : Core D) (is : IsStudio disk s) (e : Removing) (range : RunRange)
     (fewer : Fewer disk s.store) where
-  abbrev id : ℕ
-  id = range.track
-
-  abbrev n : ℕ
-  n = range.count
-
-  abbrev from : ℕ
-  from = range.from
-
-  abbrev to : ℕ
-  to = range.to
+  open range use {track as id, count as n, from, to}
 
   abbrev old : List Track
   old = current_tracks s.history
@@ -80,18 +45,13 @@ module _ {D : Type 0} (disk : Ghosts D) (s : Core D) (is : IsStudio disk s) (e :
   abbrev line : Call
   line = Line (cut_line e range)
 
-  old_sound : IsSoundPoint s.block_size s.next_block s.next_track old
-  old_sound = current_sound disk s is
+  old_valid : IsValidPoint s.block_size s.next_block s.next_track old
+  old_valid = current_valid disk s is
 
-  module _ (going : s.stopped ≡ None) (planned : Planned) (p : IsCutPlan e range s planned)
-      (none : planned.tracks ≡ 0)
+  module _ (going : s.stopped ≡ None) (planned : Planned) (p : IsCutPlan e range s planned) (none : planned.tracks ≡ 0)
       (numbers : HasNumbers (current_tracks s.history) s.next_layout planned.point
       (s.next_layout + planned.layouts)) where
-    abbrev new : List Track
-    new = planned.point
-
-    abbrev makes : List NewBlock
-    makes = planned.makes
+    open planned use {point as new, makes}
 
     abbrev xs : List BlockRef
     xs = point_blocks old
@@ -115,7 +75,7 @@ module _ {D : Type 0} (disk : Ghosts D) (s : Core D) (is : IsStudio disk s) (e :
     tests = (λ i. (lacks id (sym found.1 i)) otherwise (copy_tests (run_of id old) n from to)) ∙ p.tests
 
     layouts : run_of id old ≡ map layout_of ran
-    layouts = run_is id 1 old found.0 old_sound.rising found.1
+    layouts = run_is id 1 old found.0 old_valid.rising found.1
 
     copies : Copies (run_of id old) range (Ok v)
     copies = (tests, p.copies)

@@ -2,38 +2,27 @@
 use Rattle.std.proofs.Common.{◌≡◌, ◌∙◌, refl, sym, ap, subst, ℕ, ◌+◌, ◌^◌, nat_lt, ℤ, pos, Bool, true, false, None}
 use Rattle.std.proofs.Common.{List, [], ◌∷◌, ◌++◌, length, take, drop, get_or, Result, Ok, Err, IfOk, arith}
 use Rattle.std.proofs.lemmas.List.{append-nil, drop_all, take_all}
-use Rattle.pcm_base.specs.declared.command.Call.TheVariants as call
-use Rattle.pcm_base.specs.declared.command.Command.TheVariants as command
-use Rattle.pcm_base.specs.declared.refusal.Refusal.{Refusal}
-use Rattle.pcm_base.specs.declared.refusal.Refusal.TheVariants as refusal
-use Rattle.pcm_base.specs.declared.sound.Cell.{Cell}
-use Rattle.pcm_base.specs.Cells.{edited_at, trimmed}
-use Rattle.pcm_base.specs.Counters.{EditNeeds, RecordsNeed}
-use Rattle.pcm_base.specs.Edits.{as_cells, inserted, ramp_of}
-use Rattle.pcm_base.specs.Pieces.{stretch}
-use Rattle.pcm_base.specs.History.{recorded}
-use Rattle.pcm_base.specs.Recordings.{later_pieces, pieces_in}
 use Rattle.pcm_base.specs.Refusals.{insert_tests, inserted_length, length_limit, piece_tests, refused_if}
-use Rattle.pcm_base.specs.Sizes.{blocks_of_samples}
-use Rattle.pcm_base.specs.State.{current}
-use Rattle.pcm_base.specs.Step.{with_project}
-use Rattle.clip_track.specs.declared.clips.Clip.{Clip}
-use Rattle.clip_track.specs.Clips.{IsLayout, end_of, layout_cells}
+use Rattle.pcm_base.specs.{declared.refusal.Refusal.Refusal, declared.sound.Cell.Cell, Cells.edited_at, Cells.trimmed}
+use Rattle.pcm_base.specs.{Counters.EditNeeds, Counters.RecordsNeed, Edits.as_cells, Edits.inserted, Edits.ramp_of}
+use Rattle.pcm_base.specs.{Pieces.stretch, History.recorded, Recordings.later_pieces, Recordings.pieces_in}
+use Rattle.pcm_base.specs.{Sizes.blocks_of_samples, State.current, Step.with_project}
+use Rattle.clip_track.specs.{declared.clips.Clip.Clip, Clips.IsLayout, Clips.end_of, Clips.layout_cells}
 use Rattle.clip_track.proofs.Layouts.{length-layout}
-use Rattle.edit_ops.specs.declared.types.Plan.{Plan}
-use Rattle.edit_ops.specs.Plans.{AnswersTest, Means}
-use Rattle.piece_store.specs.declared.given.Given as brings
-use Rattle.piece_store.specs.declared.given.Given.TheVariants as given_as
-use Rattle.piece_store.specs.Bringing.{brought, brought_count}
-use Rattle.piece_store.proofs.BroughtLaws.{ramp_brought, samples_brought}
-use Rattle.editor_tracks.specs.declared.place.Place.{Place}
-use Rattle.editor_tracks.specs.declared.place.Place.TheVariants.{At, End}
-use Rattle.editor_state.specs.Edits.{outside_at}
+use Rattle.edit_ops.specs.{declared.types.Plan.Plan, Plans.AnswersTest, Plans.Means}
+use Rattle.block_writer.specs.Bringing.{brought, brought_count}
+use Rattle.block_writer.proofs.BroughtLaws.{ramp_brought, samples_brought}
 use Rattle.editor_tracks.specs.Inserts.{place_cells, place_edit, place_test}
-use Rattle.editor_state.specs.Took.{silent}
-use Rattle.editor_tracks.specs.TrackEdits.{IsTrackCall, track_command}
+use Rattle.editor_tracks.specs.{declared.place.Place.Place, declared.place.Place.TheVariants.At}
+use Rattle.editor_tracks.specs.{declared.place.Place.TheVariants.End, TrackEdits.IsTrackCall, TrackEdits.track_command}
+use Rattle.editor_state.specs.{Edits.outside_at, Took.silent}
 use Rattle.editor_state.proofs.Refusals.DamageTests.{TellsNone, either_tells}
 use Rattle.editor_tracks.proofs.RangeLaws.{all_here}
+use Rattle.pcm_base.specs.declared.command.Call.TheVariants as call
+use Rattle.pcm_base.specs.declared.command.Command.TheVariants as command
+use Rattle.pcm_base.specs.declared.refusal.Refusal.TheVariants as refusal
+use Rattle.block_writer.specs.declared.given.Given as brings
+use Rattle.block_writer.specs.declared.given.Given.TheVariants as given_as
 
 -- ---- at the end
 

@@ -1,85 +1,65 @@
 -- The strips of the clipboard that are put into a run, as an edit that makes blocks.
-use Rattle.std.proofs.Common.{◌≡◌, ⊎_elim, refl, sym, ap, ◌∙◌, subst, ℕ, zero, suc, ◌^◌, ◌≤◌, ◌<◌, nat_lt, Bool}
-use Rattle.std.proofs.Common.{true, false, Option, Some, None, List, [], ◌∷◌, ◌++◌, length, map, take, Contains}
-use Rattle.std.proofs.Common.{arith}
-use Rattle.std.specs.Prelude.{is_none, unwrap_or}
-use Rattle.std.specs.List.{AllByRecursion}
+use Rattle.std.proofs.Common.{◌≡◌, ⊎_elim, refl, sym, ap, ◌∙◌, subst, ℕ, zero, suc, ◌^◌, ◌≤◌, ◌<◌, nat_lt, Bool, true}
+use Rattle.std.proofs.Common.{false, Option, Some, None, List, [], ◌∷◌, ◌++◌, length, map, take, Contains, arith}
 use Rattle.std.proofs.lemmas.List.{length-map}
-use Rattle.pcm_base.specs.declared.block.BlockRef.{BlockRef}
+use Rattle.std.specs.{Prelude.is_none, Prelude.unwrap_or, List.AllByRecursion}
 use Rattle.pcm_base.specs.declared.piece.Piece.TheVariants.{Old, Scaled, Zero, Given}
-use Rattle.pcm_base.specs.declared.refusal.Refusal.{Refusal}
-use Rattle.pcm_base.specs.declared.refusal.Refusal.TheVariants as refusal
-use Rattle.pcm_base.specs.declared.sound.Cell.{Cell}
-use Rattle.pcm_base.specs.Cells.{Project, tracks_from}
-use Rattle.pcm_base.specs.Pieces.{Sources}
 use Rattle.pcm_base.specs.Refusals.{is_empty, length_limit, pasted_lengths, placed_length, refused_if, ◌otherwise◌}
 use Rattle.pcm_base.specs.Refusals.{too_narrow}
+use Rattle.pcm_base.specs.{declared.block.BlockRef.BlockRef, declared.refusal.Refusal.Refusal, declared.sound.Cell.Cell}
+use Rattle.pcm_base.specs.{Cells.Project, Cells.tracks_from, Pieces.Sources, declared.edits.Placing.Placing}
 use Rattle.disk_model.specs.declared.store.Store.{Ghosts}
 use Rattle.sample_block.specs.Sources.{AllNamed, IsNamed}
-use Rattle.clip_track.specs.declared.clips.Clip.{Clip}
-use Rattle.clip_track.specs.declared.items.Item.{Item}
 use Rattle.clip_track.specs.declared.items.Item.TheVariants.{Gap, Sound}
-use Rattle.clip_track.specs.Clips.{layout_blocks}
 use Rattle.clip_track.specs.Items.{AreItems, ItemsFit, strip_blocks, strip_cells, strip_len}
-use Rattle.clip_track.proofs.Layouts.{length-layout}
-use Rattle.clip_track.proofs.Strips.{length-strip_cells}
-use Rattle.edit_ops.specs.declared.types.Plan.{Plan}
-use Rattle.edit_ops.specs.Placing.{SumsFit}
-use Rattle.edit_ops.specs.Plans.{Start}
+use Rattle.clip_track.specs.{declared.clips.Clip.Clip, declared.items.Item.Item, Clips.layout_blocks}
+use Rattle.clip_track.proofs.{Layouts.length-layout, Strips.length-strip_cells}
 use Rattle.edit_ops.specs.Runs.{AreClips, ArePastes, clipboard_tests, lengths_of, start_behind}
+use Rattle.edit_ops.specs.{declared.types.Plan.Plan, Placing.SumsFit, Plans.Start}
 use Rattle.envelope_view.specs.Answers.{IsUndamaged}
-use Rattle.project_state.specs.declared.track.Track.{Track}
-use Rattle.record_body.specs.Kept.{current_tracks}
 use Rattle.project_state.specs.Meaning.{meant, meant_track, point_blocks}
-use Rattle.record_body.specs.Sound.{AllSoundTracks}
-use Rattle.project_state.specs.Tracks.{AreAbove, track_of}
-use Rattle.record_body.proofs.KeptBounds.{all_append}
-use Rattle.pcm_base.specs.declared.edits.Placing.{Placing}
-use Rattle.editor_tracks.specs.Copies.{run_of, strips_blocks}
-use Rattle.editor_state.specs.Core.{Core}
-use Rattle.editor_state.specs.Edits.{AreAmong}
-use Rattle.editor_tracks.specs.Pastes.{NoPastePlan, paste_refusal}
-use Rattle.editor_state.specs.Points.{lacks}
+use Rattle.project_state.specs.{declared.track.Track.Track, Tracks.AreAbove, Tracks.track_of}
+use Rattle.record_body.specs.{Saved.current_tracks, Valid.AllValidTracks}
+use Rattle.record_body.proofs.SavedBounds.{all_append}
+use Rattle.editor_tracks.specs.{Copies.run_of, Copies.strips_blocks, Pastes.NoPastePlan, Pastes.paste_refusal}
 use Rattle.editor_state.specs.Studios.{IsClipboard, IsGiven, IsStudio, MayPaste, clip_cells}
-use Rattle.editor_tracks.proofs.CopyStrips.{from_sound, from_track, layout_of, run_is, run_meant}
+use Rattle.editor_state.specs.{Core.Core, Edits.AreAmong, Points.lacks}
+use Rattle.editor_tracks.proofs.CopyStrips.{from_valid, from_track, layout_of, run_is, run_meant}
 use Rattle.editor_tracks.proofs.CutLaws.{narrow_tells}
-use Rattle.editor_commits.proofs.CurrentProject.{current_sound}
+use Rattle.editor_tracks.proofs.RunPlans.{AreLaid, CellEdit, edits_at, plan_more}
+use Rattle.editor_commits.proofs.{CurrentProject.current_valid, TrackChanges.lacks_is}
 use Rattle.editor_state.proofs.Lists.{all_left, all_right}
 use Rattle.editor_state.proofs.Refusals.DamageTests.{TellsNone, either_tells, lacks_tells, tests_tell}
-use Rattle.editor_tracks.proofs.RunPlans.{AreLaid, CellEdit, edits_at, plan_more}
-use Rattle.editor_commits.proofs.TrackChanges.{lacks_is}
+use Rattle.pcm_base.specs.declared.refusal.Refusal.TheVariants as refusal
 
 -- ---- the strips and the tracks that they go to
 
 sums_of : (at m next track : ℕ) (cs : List (List Item)) (ts : List Track) → at < 2 ^ 63
-    → AllByRecursion (λ strip. strip_len strip ≤ 2 ^ 32) cs → AllSoundTracks m next track ts
+    → AllByRecursion (λ strip. strip_len strip ≤ 2 ^ 32) cs → AllValidTracks m next track ts
     → SumsFit at cs (map layout_of ts)
-sums_of at m next track [] ts low short sound = tt
-sums_of at m next track (c ∷ cs) [] low short sound = tt
-sums_of at m next track (c ∷ cs) (t ∷ ts) low short sound =
-    (omega (arith, low, short.0, sound.0.layout.few), sums_of at m next track cs ts low short.1 sound.1)
+sums_of at m next track [] ts low short valid = tt
+sums_of at m next track (c ∷ cs) [] low short valid = tt
+sums_of at m next track (c ∷ cs) (t ∷ ts) low short valid =
+    (omega (arith, low, short.0, valid.0.layout.few), sums_of at m next track cs ts low short.1 valid.1)
 
 pub sums_fit : {D : Type 0} (disk : Ghosts D) (s : Core D) → IsStudio disk s → (id at : ℕ) (t : Track)
     → track_of id (current_tracks s.history) ≡ Some t → at < 2 ^ 63
     → (v : List (List Item)) → s.clipboard ≡ Some v → SumsFit at v (run_of id (current_tracks s.history))
 sums_fit disk s is id at t found low v clip =
     let ts = current_tracks s.history in
-    let sound = current_sound disk s is in
+    let valid = current_valid disk s is in
     let board : IsClipboard s.block_size v = subst (MayPaste s.block_size) clip is.clipboard in
-    subst (SumsFit at v) (sym (run_is id 1 ts t sound.rising found))
+    subst (SumsFit at v) (sym (run_is id 1 ts t valid.rising found))
     (sums_of at s.block_size s.next_block s.next_track v (from_track id ts) low board.short
-    (from_sound s.block_size s.next_block s.next_track id ts sound.sound))
+    (from_valid s.block_size s.next_block s.next_track id ts valid.valid))
 
 -- a run has a plan for each strip
 pastes_many : (edit : List Cell → List Cell → List Cell) (start : Start) (cs : List (List Item))
     (run : List (List Clip)) (ps : List Plan) → ArePastes edit start cs run ps → length ps ≡ length run
 pastes_many edit start [] [] [] pastes = refl
-pastes_many edit start [] [] (p ∷ ps) pastes = absurd pastes
-pastes_many edit start [] (t ∷ ts) ps pastes = absurd pastes
-pastes_many edit start (c ∷ cs) [] ps pastes = absurd pastes
-pastes_many edit start (c ∷ cs) (t ∷ ts) [] pastes = absurd pastes
 pastes_many edit start (c ∷ cs) (t ∷ ts) (p ∷ ps) pastes =
     omega (arith, pastes_many edit (start_behind start p) cs ts ps pastes.1)
+pastes_many edit start _ _ _ pastes = absurd pastes
 
 take_few : (n : ℕ) (run : List (List Clip)) → length (take n run) ≤ length run
 take_few zero run = omega arith
@@ -194,15 +174,15 @@ no_paste_tells e id at s why not =
 -- ---- the tests of the model's state are those of the run
 
 lengths_are : (src : Sources) (f : ℕ → ℕ → ℕ) (m next track : ℕ) (cs : List (List Item)) (ts : List Track)
-    → AllSoundTracks m next track ts
+    → AllValidTracks m next track ts
     → pasted_lengths f (map (strip_cells src) cs) (meant src ts) ≡ lengths_of f cs (map layout_of ts)
-lengths_are src f m next track [] [] sound = refl
-lengths_are src f m next track [] (t ∷ ts) sound = refl
-lengths_are src f m next track (c ∷ cs) [] sound = refl
-lengths_are src f m next track (c ∷ cs) (t ∷ ts) sound =
+lengths_are src f m next track [] [] valid = refl
+lengths_are src f m next track [] (t ∷ ts) valid = refl
+lengths_are src f m next track (c ∷ cs) [] valid = refl
+lengths_are src f m next track (c ∷ cs) (t ∷ ts) valid =
     let strip = length-strip_cells src c in
-    let cells = length-layout src t.layout sound.0.layout.apart in
-    let later = lengths_are src f m next track cs ts sound.1 in
+    let cells = length-layout src t.layout valid.0.layout.apart in
+    let later = lengths_are src f m next track cs ts valid.1 in
     λ i. f (strip i) (cells i) ∷ later i
 
 -- the own tests of both lines
@@ -215,20 +195,20 @@ line_tests f id board lists p =
     otherwise (length_limit (pasted_lengths f lists (tracks_from id p)))
 
 pub line_tests_are : (src : Sources) (f : ℕ → ℕ → ℕ) (id m next track : ℕ) (clip : Option (List (List Item)))
-    (ts : List Track) → AreAbove 1 ts → AllSoundTracks m next track ts
+    (ts : List Track) → AreAbove 1 ts → AllValidTracks m next track ts
     → (o : Option Track) → track_of id ts ≡ o
     → line_tests f id (clip_cells src clip) (unwrap_or (clip_cells src clip) []) (meant src ts)
     ≡ ((lacks id o) otherwise (clipboard_tests f clip (run_of id ts)))
-line_tests_are src f id m next track None ts above sound o found =
+line_tests_are src f id m next track None ts above valid o found =
     let first = lacks_is src id ts ∙ ap (lacks id) found in
     λ i. (first i) otherwise (Some refusal.EmptyClipboard)
-line_tests_are src f id m next track (Some v) ts above sound None found =
+line_tests_are src f id m next track (Some v) ts above valid None found =
     let first = lacks_is src id ts ∙ ap (lacks id) found in
     let lists = map (strip_cells src) v in
     let rest = tracks_from id (meant src ts) in
     λ i. (first i) otherwise (too_narrow (length rest) (length lists)) otherwise
     (length_limit (pasted_lengths f lists rest))
-line_tests_are src f id m next track (Some v) ts above sound (Some t) found =
+line_tests_are src f id m next track (Some v) ts above valid (Some t) found =
     let first = lacks_is src id ts ∙ ap (lacks id) found in
     let lists = map (strip_cells src) v in
     let run = from_track id ts in
@@ -238,6 +218,6 @@ line_tests_are src f id m next track (Some v) ts above sound (Some t) found =
     ap length mean ∙ length-map run (meant_track src) ∙ sym (ap length layouts ∙ length-map run layout_of) in
     let many : length lists ≡ length v = length-map v (strip_cells src) in
     let lengths : pasted_lengths f lists (tracks_from id (meant src ts)) ≡ lengths_of f v (run_of id ts) =
-    ap (pasted_lengths f lists) mean ∙ lengths_are src f m next track v run (from_sound m next track id ts sound)
+    ap (pasted_lengths f lists) mean ∙ lengths_are src f m next track v run (from_valid m next track id ts valid)
     ∙ sym (ap (lengths_of f v) layouts) in
     λ i. (first i) otherwise (too_narrow (few i) (many i)) otherwise (length_limit (lengths i))

@@ -1,44 +1,27 @@
 -- The lines that paste: their own tests, what they lead to, and what refuses them.
-use Rattle.std.proofs.Common.{◌≡◌, ⊎_elim, refl, sym, ap, ◌∙◌, subst, ℕ, ◌+◌, ℤ}
-use Rattle.std.proofs.Common.{Option, Some, None, List, length, map, Err}
-use Rattle.std.proofs.Common.{arith}
-use Rattle.pcm_base.specs.declared.command.Call.{Call}
-use Rattle.pcm_base.specs.declared.command.Call.TheVariants.{Line}
-use Rattle.pcm_base.specs.declared.refusal.Refusal.{Refusal}
-use Rattle.pcm_base.specs.declared.refusal.Refusal.TheVariants as refusal
-use Rattle.pcm_base.specs.Cells.{run_edited}
-use Rattle.pcm_base.specs.History.{edited}
-use Rattle.pcm_base.specs.Counters.{layouts_of}
-use Rattle.pcm_base.specs.Outside.{Outside}
-use Rattle.pcm_base.specs.Refusals.{call_tests, placed_length, ◌otherwise◌}
-use Rattle.pcm_base.specs.Run.{outside, stop_of}
-use Rattle.pcm_base.specs.Sizes.{blocks_of_tracks}
-use Rattle.pcm_base.specs.State.{State, clip_of, current}
-use Rattle.pcm_base.specs.Step.{after}
-use Rattle.pcm_base.specs.Studio as model
+use Rattle.std.proofs.Common.{◌≡◌, ⊎_elim, refl, sym, ap, ◌∙◌, subst, ℕ, ◌+◌, ℤ, Option, Some, None, List, length, map}
+use Rattle.std.proofs.Common.{Err, arith}
+use Rattle.pcm_base.specs.{declared.command.Call.Call, declared.command.Call.TheVariants.Line}
+use Rattle.pcm_base.specs.{declared.refusal.Refusal.Refusal, Cells.run_edited, History.edited, Counters.layouts_of}
+use Rattle.pcm_base.specs.{Outside.Outside, Refusals.call_tests, Refusals.placed_length, Refusals.◌otherwise◌}
+use Rattle.pcm_base.specs.{Run.outside, Run.stop_of, Sizes.blocks_of_tracks, State.State, State.clip_of, State.current}
+use Rattle.pcm_base.specs.{Step.after, declared.edits.Placing.Placing, declared.edits.Placing.TheVariants.Insert}
+use Rattle.pcm_base.specs.{declared.edits.Placing.TheVariants.Cover, Edits.placed, Shape.paste_line}
 use Rattle.disk_model.specs.declared.store.Store.{Ghosts}
 use Rattle.disk_model.proofs.Frames.{Fewer}
 use Rattle.sample_block.specs.Sources.{samples_on}
-use Rattle.project_state.specs.declared.track.Track.{Track}
-use Rattle.record_body.specs.KeptSound.{IsSoundPoint}
-use Rattle.project_state.specs.Tracks.{track_of}
-use Rattle.pcm_base.specs.declared.edits.Placing.{Placing}
-use Rattle.pcm_base.specs.declared.edits.Placing.TheVariants.{Insert, Cover}
-use Rattle.pcm_base.specs.Edits.{placed}
-use Rattle.pcm_base.specs.Shape.{paste_line}
-use Rattle.record_body.specs.Kept.{current_tracks}
-use Rattle.editor_state.specs.Core.{Core}
-use Rattle.editor_state.specs.Edits.{IsEditCall, alone}
+use Rattle.project_state.specs.{declared.track.Track.Track, Tracks.track_of}
+use Rattle.record_body.specs.{SavedValid.IsValidPoint, Saved.current_tracks}
+use Rattle.editor_state.specs.{Core.Core, Edits.IsEditCall, Edits.alone, Studios.IsStudio, Studios.studio_by}
+use Rattle.editor_state.specs.{Studios.studio_of, Took.Took, Took.quietly, Took.silent}
 use Rattle.editor_tracks.specs.Pastes.{NoPastePlan, paste_refusal}
-use Rattle.editor_state.specs.Studios.{IsStudio, studio_by, studio_of}
-use Rattle.editor_state.specs.Took.{Took, quietly, silent}
-use Rattle.editor_commits.proofs.CurrentProject.{current_sound}
-use Rattle.editor_state.proofs.Refusals.CommitTests.{early}
+use Rattle.editor_commits.proofs.{CurrentProject.current_valid, TrackChanges.current_is}
 use Rattle.editor_state.proofs.Calls.FileRemovals.{commit_frees, commit_removes_none}
 use Rattle.editor_state.proofs.Refusals.EarlyRefusals.{refuses, wants}
-use Rattle.editor_commits.proofs.TrackChanges.{current_is}
+use Rattle.editor_state.proofs.{Refusals.CommitTests.early, Refusals.CounterNumbers.early_needed}
 use Rattle.editor_tracks.proofs.PasteLaws.{line_tests, line_tests_are}
-use Rattle.editor_state.proofs.Refusals.CounterNumbers.{early_needed}
+use Rattle.pcm_base.specs.declared.refusal.Refusal.TheVariants as refusal
+use Rattle.pcm_base.specs.Studio as model
 
 pub paste_call : (e : Placing) (id at : ℕ)
     → IsEditCall (Line (paste_line e id at)) silent 0 0 (λ m st. blocks_of_tracks (length (clip_of st)))
@@ -104,8 +87,8 @@ module _ {D : Type 0} (disk : Ghosts D) (s : Core D) (is : IsStudio disk s) (e :
   abbrev refused_by : Option Refusal
   refused_by = paste_refusal e id at s.clipboard old
 
-  old_sound : IsSoundPoint s.block_size s.next_block s.next_track old
-  old_sound = current_sound disk s is
+  old_valid : IsValidPoint s.block_size s.next_block s.next_track old
+  old_valid = current_valid disk s is
 
   pub own_is : (block : ℕ → ℕ → ℤ) → call_tests (outside (studio_by (alone block) disk s) silent)
       (studio_by (alone block) disk s).state line ≡ refused_by
@@ -115,7 +98,7 @@ module _ {D : Type 0} (disk : Ghosts D) (s : Core D) (is : IsStudio disk s) (e :
       own_by e id at (outside u silent) u.state
       ∙ ap (line_tests (placed_length e at) id u.state.clipboard (clip_of u.state)) (current_is src s.history)
       ∙ line_tests_are src (placed_length e at) id s.block_size s.next_block s.next_track s.clipboard old
-      old_sound.rising old_sound.sound (track_of id old) refl
+      old_valid.rising old_valid.valid (track_of id old) refl
 
   -- ---- a stopped studio, a test of the edit, or memory
 

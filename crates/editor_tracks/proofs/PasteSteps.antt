@@ -1,67 +1,41 @@
 -- A planned paste is an edit, and a step.
-use Rattle.std.proofs.Common.{◌≡◌, refl, sym, ap, ◌∙◌, subst, ℕ, ◌+◌, ◌≤◌, ℤ}
-use Rattle.std.proofs.Common.{Option, Some, None, List, [], ◌++◌, length, map, take, Contains}
-use Rattle.std.proofs.Common.{arith}
-use Rattle.std.specs.Prelude.{unwrap_or}
-use Rattle.std.specs.List.{AllByRecursion}
+use Rattle.std.proofs.Common.{◌≡◌, refl, sym, ap, ◌∙◌, subst, ℕ, ◌+◌, ◌≤◌, ℤ, Option, Some, None, List, [], ◌++◌}
+use Rattle.std.proofs.Common.{length, map, take, Contains, arith}
 use Rattle.std.proofs.lemmas.List.{length-map}
-use Rattle.pcm_base.specs.declared.block.BlockRef.{BlockRef}
-use Rattle.pcm_base.specs.declared.command.Call.{Call}
-use Rattle.pcm_base.specs.declared.command.Call.TheVariants.{Line}
-use Rattle.pcm_base.specs.declared.sound.Cell.{Cell}
-use Rattle.pcm_base.specs.Cells.{run_edited}
-use Rattle.pcm_base.specs.History.{edited, recorded}
-use Rattle.pcm_base.specs.Pieces.{Sources}
-use Rattle.pcm_base.specs.Run.{outside}
-use Rattle.pcm_base.specs.Sizes.{blocks_of_tracks}
-use Rattle.pcm_base.specs.State.{clip_of, current}
-use Rattle.pcm_base.specs.Step.{after}
-use Rattle.pcm_base.specs.Studio as model
+use Rattle.std.specs.{Prelude.unwrap_or, List.AllByRecursion}
+use Rattle.pcm_base.specs.{declared.block.BlockRef.BlockRef, declared.command.Call.Call}
+use Rattle.pcm_base.specs.{declared.command.Call.TheVariants.Line, declared.sound.Cell.Cell, Cells.run_edited}
+use Rattle.pcm_base.specs.{History.edited, History.recorded, Pieces.Sources, Run.outside, Sizes.blocks_of_tracks}
+use Rattle.pcm_base.specs.{State.clip_of, State.current, Step.after, declared.edits.Placing.Placing, Edits.placed}
+use Rattle.pcm_base.specs.{Refusals.◌otherwise◌, Refusals.placed_length, Shape.paste_line}
 use Rattle.disk_model.specs.declared.store.Store.{Ghosts}
 use Rattle.sample_block.specs.Sources.{AllNamed, IsNamed}
-use Rattle.clip_track.specs.declared.clips.Clip.{Clip}
-use Rattle.clip_track.specs.declared.items.Item.{Item}
-use Rattle.clip_track.specs.Items.{strip_cells}
-use Rattle.edit_ops.specs.declared.types.NewBlock.{NewBlock}
-use Rattle.edit_ops.specs.Plans.{AreWritten}
-use Rattle.edit_ops.specs.Runs.{ArePastes, clipboard_tests}
-use Rattle.piece_store.specs.declared.given.Given.TheVariants.{Nothing}
-use Rattle.piece_store.specs.Bringing.{brought, brought_by}
-use Rattle.project_state.specs.declared.track.Track.{Track}
-use Rattle.record_body.specs.Kept.{current_tracks}
+use Rattle.clip_track.specs.{declared.clips.Clip.Clip, declared.items.Item.Item, Items.strip_cells}
+use Rattle.edit_ops.specs.{Plans.AreWritten, Runs.ArePastes, Runs.clipboard_tests}
+use Rattle.block_writer.specs.{declared.given.Given.TheVariants.Nothing, Bringing.brought, Bringing.brought_by}
 use Rattle.project_state.specs.Meaning.{history_blocks, meant, meant_history, point_blocks}
-use Rattle.record_body.specs.KeptSound.{IsSoundPoint}
-use Rattle.project_state.specs.Tracks.{track_of}
-use Rattle.record_body.proofs.KeptBounds.{all_append}
+use Rattle.project_state.specs.{declared.track.Track.Track, Tracks.track_of}
+use Rattle.record_body.specs.{Saved.current_tracks, SavedValid.IsValidPoint}
+use Rattle.record_body.proofs.SavedBounds.{all_append}
 use Rattle.project_state.proofs.MeantHistories.{meant_recorded}
 use Rattle.layout_uses.specs.Drawing.{HasNumbers}
-use Rattle.editor_state.specs.declared.planned.Planned.{Planned}
-use Rattle.pcm_base.specs.declared.edits.Placing.{Placing}
-use Rattle.pcm_base.specs.Edits.{placed}
-use Rattle.pcm_base.specs.Refusals.{◌otherwise◌, placed_length}
-use Rattle.pcm_base.specs.Shape.{paste_line}
-use Rattle.editor_tracks.specs.Copies.{run_of, strips_blocks}
-use Rattle.editor_state.specs.Core.{Core}
 use Rattle.editor_state.specs.Edits.{AreAmong, IsEdit, IsEditCall, IsPlanned, alone, blocks_with, clip_behind}
 use Rattle.editor_state.specs.Edits.{clip_then, tagged_by}
-use Rattle.editor_tracks.specs.Pastes.{IsPastePlan}
-use Rattle.editor_state.specs.Points.{lacks}
 use Rattle.editor_state.specs.Studios.{IsClipboard, IsGiven, IsStudio, MayPaste, clip_blocks, clip_cells, named_blocks}
 use Rattle.editor_state.specs.Studios.{pin_blocks, studio_by}
-use Rattle.editor_state.specs.Took.{silent}
-use Rattle.editor_tracks.specs.TrackEdits.{plan_start}
-use Rattle.editor_state.proofs.Blocks.BlockLists.{among_itself}
+use Rattle.editor_state.specs.{declared.planned.Planned.Planned, Core.Core, Points.lacks, Took.silent}
+use Rattle.editor_tracks.specs.{Copies.run_of, Copies.strips_blocks, Pastes.IsPastePlan, TrackEdits.plan_start}
+use Rattle.editor_state.proofs.{Blocks.BlockLists.among_itself, Lists.all_left, Lists.all_right}
 use Rattle.editor_tracks.proofs.CopyStrips.{from_blocks, from_track, layout_of, run_is}
 use Rattle.editor_tracks.proofs.CutLaws.{there_of, wide}
-use Rattle.editor_commits.proofs.CursorTracks.{current_may_read}
-use Rattle.editor_commits.proofs.CurrentProject.{current_sound, old_names}
-use Rattle.editor_state.proofs.Lists.{all_left, all_right}
-use Rattle.editor_blocks.proofs.StudioBlocks.{refs}
 use Rattle.editor_tracks.proofs.RunLaws.{run_few, run_planned, run_point}
 use Rattle.editor_tracks.proofs.RunPlans.{AreLaid, CellEdit, edits_at, laid_many}
-use Rattle.editor_commits.proofs.TrackChanges.{current_is}
 use Rattle.editor_tracks.proofs.PasteLaws.{each_strip, pastes_laid, same_edits, strips_may_read}
 use Rattle.editor_tracks.proofs.PasteRefusals.{after_by, draws_by, own_is, paste_call}
+use Rattle.editor_commits.proofs.CurrentProject.{current_valid, old_names}
+use Rattle.editor_commits.proofs.{CursorTracks.current_may_read, TrackChanges.current_is}
+use Rattle.editor_blocks.proofs.StudioBlocks.{refs}
+use Rattle.pcm_base.specs.Studio as model
 
 module _ {D : Type 0} (disk : Ghosts D) (s : Core D) (is : IsStudio disk s) (e : Placing) (id at : ℕ) where
   abbrev old : List Track
@@ -70,18 +44,14 @@ module _ {D : Type 0} (disk : Ghosts D) (s : Core D) (is : IsStudio disk s) (e :
   abbrev line : Call
   line = Line (paste_line e id at)
 
-  old_sound : IsSoundPoint s.block_size s.next_block s.next_track old
-  old_sound = current_sound disk s is
+  old_valid : IsValidPoint s.block_size s.next_block s.next_track old
+  old_valid = current_valid disk s is
 
   module _ (planned : Planned) (p : IsPastePlan e id at s planned) (none : planned.tracks ≡ 0)
       (keeps : planned.clip ≡ None)
       (numbers : HasNumbers (current_tracks s.history) s.next_layout planned.point
       (s.next_layout + planned.layouts)) where
-    abbrev new : List Track
-    new = planned.point
-
-    abbrev makes : List NewBlock
-    makes = planned.makes
+    open planned use {point as new, makes}
 
     abbrev v : List (List Item)
     v = p.strips
@@ -106,7 +76,7 @@ module _ {D : Type 0} (disk : Ghosts D) (s : Core D) (is : IsStudio disk s) (e :
         there_of id old (clipboard_tests (placed_length e at) s.clipboard (run_of id old)) (track_of id old) refl p.tests
 
     layouts : run_of id old ≡ map layout_of ran
-    layouts = run_is id 1 old found.0 old_sound.rising found.1
+    layouts = run_is id 1 old found.0 old_valid.rising found.1
 
     -- what holds of the blocks that the studio names holds of those of the clipboard
     clip_all : (P : BlockRef → Type 0) → AllByRecursion P (named_blocks s) → AllByRecursion P (clip_blocks s.clipboard)

@@ -1,10 +1,8 @@
 -- Where a track has no plan, no file is damaged.
-use Rattle.std.proofs.Common.{⊎_elim, sym, subst, ℕ, not}
-use Rattle.std.proofs.Common.{List}
+use Rattle.std.proofs.Common.{⊎_elim, sym, subst, ℕ, not, List}
 use Rattle.pcm_base.specs.declared.refusal.Refusal.{Refusal}
 use Rattle.envelope_view.specs.Answers.{IsUndamaged}
-use Rattle.project_state.specs.declared.track.Track.{Track}
-use Rattle.project_state.specs.Tracks.{track_of}
+use Rattle.project_state.specs.{declared.track.Track.Track, Tracks.track_of}
 use Rattle.editor_state.specs.Points.{lacks}
 use Rattle.editor_tracks.specs.TrackEdits.{NoTrackPlan, TrackEdit, end_of_track, track_refusal}
 use Rattle.editor_state.proofs.Refusals.DamageTests.{TellsNone, either_tells, lacks_tells, tests_tell}

@@ -1,29 +1,17 @@
 -- Edits of a range of one track: the cells that they meet, and the lines that ask for them.
-use Rattle.std.proofs.Common.{◌≡◌, ◌∙◌, ◌⊎◌, inl, inr, refl, sym, ap, ℕ, ◌-◌, ◌≤◌, ◌<◌, nat_lt, nat_le}
-use Rattle.std.proofs.Common.{◌&&◌, not, Bool, true, false, None, List, ◌++◌, length, replicate}
-use Rattle.std.proofs.Common.{arith}
-use Rattle.std.proofs.lemmas.Bool.{cases_lt}
-use Rattle.std.proofs.lemmas.Bool.Decides.{nat_tests}
-use Rattle.std.proofs.lemmas.List.{append-nil}
-use Rattle.pcm_base.specs.declared.command.Call.TheVariants.{Line}
-use Rattle.pcm_base.specs.declared.refusal.Refusal.TheVariants.{BadRange}
-use Rattle.pcm_base.specs.declared.sound.Cell.{Cell}
-use Rattle.pcm_base.specs.declared.sound.Cell.TheVariants.{Gap}
-use Rattle.pcm_base.specs.Cells.{continued}
-use Rattle.pcm_base.specs.Edits.{part, range_of}
-use Rattle.pcm_base.specs.Pieces.{Sources}
-use Rattle.pcm_base.specs.Refusals.{bad_range, refused_if}
-use Rattle.clip_track.specs.declared.clips.Clip.{Clip}
-use Rattle.clip_track.specs.Clips.{IsLayout, end_of, layout_cells}
-use Rattle.clip_track.proofs.Layouts.{length-layout}
-use Rattle.piece_store.specs.declared.given.Given.TheVariants.{Nothing}
-use Rattle.pcm_base.specs.declared.edits.RangeEdit.{RangeEdit}
+use Rattle.std.proofs.Common.{◌≡◌, ◌∙◌, ◌⊎◌, inl, inr, refl, sym, ap, ℕ, ◌-◌, ◌≤◌, ◌<◌, nat_lt, nat_le, ◌&&◌, not, Bool}
+use Rattle.std.proofs.Common.{true, false, None, List, ◌++◌, length, replicate, arith}
+use Rattle.std.proofs.{lemmas.Bool.cases_lt, lemmas.Bool.Decides.nat_tests, lemmas.List.append-nil}
 use Rattle.pcm_base.specs.declared.edits.RangeEdit.TheVariants.{Delete, SplitDelete, Silence, Trim, Gain}
-use Rattle.pcm_base.specs.Shape.{range_line}
-use Rattle.editor_state.specs.Commits.{IsCommitCall}
-use Rattle.editor_tracks.specs.Ranges.{range_edit}
-use Rattle.editor_state.specs.Took.{silent}
-use Rattle.editor_tracks.specs.TrackEdits.{IsTrackCall, track_command}
+use Rattle.pcm_base.specs.{declared.command.Call.TheVariants.Line, declared.refusal.Refusal.TheVariants.BadRange}
+use Rattle.pcm_base.specs.{declared.sound.Cell.Cell, declared.sound.Cell.TheVariants.Gap, Cells.continued, Edits.part}
+use Rattle.pcm_base.specs.{Edits.range_of, Pieces.Sources, Refusals.bad_range, Refusals.refused_if}
+use Rattle.pcm_base.specs.{declared.edits.RangeEdit.RangeEdit, Shape.range_line}
+use Rattle.clip_track.specs.{declared.clips.Clip.Clip, Clips.IsLayout, Clips.end_of, Clips.layout_cells}
+use Rattle.clip_track.proofs.Layouts.{length-layout}
+use Rattle.block_writer.specs.declared.given.Given.TheVariants.{Nothing}
+use Rattle.editor_state.specs.{Commits.IsCommitCall, Took.silent}
+use Rattle.editor_tracks.specs.{Ranges.range_edit, TrackEdits.IsTrackCall, TrackEdits.track_command}
 
 -- ---- the cells
 

@@ -1,24 +1,17 @@
 -- The new blocks of plans for a run of tracks stand in what they lay out.
-use Rattle.std.proofs.Common.{◌≡◌, ⊎_elim, sym, subst, ℕ, ◌+◌, if◌then◌else◌, Some}
-use Rattle.std.proofs.Common.{List, [], ◌∷◌}
+use Rattle.std.proofs.Common.{◌≡◌, ⊎_elim, sym, subst, ℕ, ◌+◌, if◌then◌else◌, Some, List, [], ◌∷◌}
+use Rattle.std.proofs.{lemmas.Bool.Decides.eqb_tells, lemmas.List.map-append}
 use Rattle.std.specs.List.{AllByRecursion}
-use Rattle.std.proofs.lemmas.Bool.Decides.{eqb_tells}
-use Rattle.std.proofs.lemmas.List.{map-append}
 use Rattle.pcm_base.specs.declared.block.BlockRef.{BlockRef}
 use Rattle.clip_track.specs.Clips.{layout_blocks}
-use Rattle.edit_ops.specs.declared.types.Plan.{Plan}
-use Rattle.edit_ops.specs.Plans.{ref_of}
-use Rattle.project_state.specs.declared.track.Track.{Track}
-use Rattle.project_state.specs.Meaning.{point_blocks}
-use Rattle.project_state.specs.Tracks.{AreAbove, track_of}
-use Rattle.record_body.proofs.KeptBounds.{all_append}
+use Rattle.edit_ops.specs.{declared.types.Plan.Plan, Plans.ref_of}
+use Rattle.project_state.specs.{declared.track.Track.Track, Meaning.point_blocks, Tracks.AreAbove, Tracks.track_of}
+use Rattle.record_body.proofs.SavedBounds.{all_append}
 use Rattle.editor_tracks.specs.RunEdits.{laid_from, made_by}
-use Rattle.editor_tracks.proofs.CopyStrips.{from_track}
-use Rattle.editor_state.proofs.Lists.{all_left, all_right}
-use Rattle.editor_blocks.proofs.StudioBlocks.{refs}
 use Rattle.editor_tracks.proofs.RunMeaning.{laid_each, laid_run, run_laid}
-use Rattle.editor_tracks.proofs.RunPlans.{AreLaid, CellEdit}
-use Rattle.editor_blocks.proofs.LayoutBlocks.{new_in}
+use Rattle.editor_tracks.proofs.{CopyStrips.from_track, RunPlans.AreLaid, RunPlans.CellEdit}
+use Rattle.editor_state.proofs.Lists.{all_left, all_right}
+use Rattle.editor_blocks.proofs.{StudioBlocks.refs, LayoutBlocks.new_in}
 
 module _ (P : BlockRef → Type 0) where
   -- of a run of tracks

@@ -2,38 +2,29 @@
 use Rattle.std.proofs.Common.{◌≡◌, sym, ap, ◌∙◌, subst, ℕ, ◌+◌, ◌*◌, ◌^◌, ◌≤◌, ℤ, Option, Some, List, length, Contains}
 use Rattle.std.proofs.Common.{arith}
 use Rattle.std.specs.List.{AllByRecursion}
-use Rattle.pcm_base.specs.declared.block.BlockRef.{BlockRef}
-use Rattle.pcm_base.specs.Cells.{run_edited}
+use Rattle.pcm_base.specs.{declared.block.BlockRef.BlockRef, Cells.run_edited}
 use Rattle.disk_model.specs.declared.store.Store.{Ghosts}
 use Rattle.sample_block.specs.Sources.{AllNamed}
 use Rattle.clip_track.specs.declared.items.Item.{Item}
-use Rattle.edit_ops.specs.declared.types.NewBlock.{NewBlock}
-use Rattle.edit_ops.specs.declared.types.Plan.{Plan}
 use Rattle.edit_ops.specs.Plans.{AllNewFrom, AreNew, AreWritten}
-use Rattle.piece_store.specs.declared.given.Given.TheVariants.{Nothing}
-use Rattle.piece_store.specs.Bringing.{brought, brought_by}
-use Rattle.project_state.specs.declared.track.Track.{Track}
-use Rattle.record_body.specs.Kept.{current_tracks}
-use Rattle.project_state.specs.Meaning.{meant, point_blocks}
-use Rattle.record_body.specs.KeptSound.{IsSoundPoint}
-use Rattle.project_state.specs.Tracks.{track_of}
+use Rattle.edit_ops.specs.{declared.types.NewBlock.NewBlock, declared.types.Plan.Plan}
+use Rattle.block_writer.specs.{declared.given.Given.TheVariants.Nothing, Bringing.brought, Bringing.brought_by}
+use Rattle.project_state.specs.{declared.track.Track.Track, Meaning.meant, Meaning.point_blocks, Tracks.track_of}
+use Rattle.record_body.specs.{Saved.current_tracks, SavedValid.IsValidPoint}
 use Rattle.layout_uses.specs.Drawing.{HasNumbers}
-use Rattle.editor_state.specs.declared.planned.Planned.{Planned}
-use Rattle.editor_state.specs.Core.{Core}
 use Rattle.editor_state.specs.Edits.{AreAmong, IsPlanned, alone, beside, blocks_with, clip_behind, tagged_by}
-use Rattle.editor_tracks.specs.RunEdits.{IsRunPlan, laid_from}
 use Rattle.editor_state.specs.Studios.{IsGiven, IsStudio, MayPaste, clip_blocks, named_blocks}
+use Rattle.editor_state.specs.{declared.planned.Planned.Planned, Core.Core}
+use Rattle.editor_tracks.specs.RunEdits.{IsRunPlan, laid_from}
 use Rattle.editor_state.proofs.Blocks.BlockLists.{among_all, among_itself}
-use Rattle.editor_tracks.proofs.CopyStrips.{from_track}
-use Rattle.editor_commits.proofs.CurrentProject.{current_sound, old_names}
 use Rattle.editor_state.proofs.Lists.{all_left, all_right, all_so}
+use Rattle.editor_tracks.proofs.RunPlans.{AreLaid, AreValidPlans, CellEdit, LayoutsAll, edits_at, laid_all, laid_few}
+use Rattle.editor_tracks.proofs.RunPlans.{laid_half_full, laid_length, laid_names, laid_new, laid_origin, laid_rising}
+use Rattle.editor_tracks.proofs.RunPlans.{laid_valid, valid_plans}
+use Rattle.editor_tracks.proofs.{CopyStrips.from_track, RunMeaning.laid_means, RunBlocks.laid_in}
+use Rattle.editor_commits.proofs.CurrentProject.{current_valid, old_names}
 use Rattle.editor_blocks.proofs.StudioBlocks.{IsNewId, point_more, refs, refs_ids}
 use Rattle.editor_blocks.proofs.PlanBlocks.{all_readable, new_from_more}
-use Rattle.editor_tracks.proofs.RunPlans.{AreLaid, AreSoundPlans, CellEdit, LayoutsAll, edits_at, laid_all, laid_few}
-use Rattle.editor_tracks.proofs.RunPlans.{laid_half_full, laid_length, laid_names, laid_new, laid_origin, laid_rising}
-use Rattle.editor_tracks.proofs.RunPlans.{laid_sound, sound_plans}
-use Rattle.editor_tracks.proofs.RunMeaning.{laid_means}
-use Rattle.editor_tracks.proofs.RunBlocks.{laid_in}
 
 module _ {D : Type 0} (disk : Ghosts D) (s : Core D) (is : IsStudio disk s) (id : ℕ) (track : Track)
     (found : track_of id (current_tracks s.history) ≡ Some track)
@@ -59,8 +50,8 @@ module _ {D : Type 0} (disk : Ghosts D) (s : Core D) (is : IsStudio disk s) (id 
   abbrev every : List BlockRef
   every = blocks_with s makes
 
-  old_sound : IsSoundPoint m s.next_block s.next_track old
-  old_sound = current_sound disk s is
+  old_valid : IsValidPoint m s.next_block s.next_track old
+  old_valid = current_valid disk s is
 
   fresh : AreNew m s.next_block makes
   fresh = subst (AreNew m s.next_block) (sym run.makes_is) (laid_new fs m s.next_block xs ran plans laid)
@@ -75,24 +66,24 @@ module _ {D : Type 0} (disk : Ghosts D) (s : Core D) (is : IsStudio disk s) (id 
       laid_all P fs m s.next_block xs ran plans laid (among_all P (named_blocks s) xs named was)
       (subst (λ (bs : List NewBlock). AllByRecursion P (refs bs)) run.makes_is made)
 
-  given_then : AreSoundPlans m (s.next_block + n) plans
+  given_then : AreValidPlans m (s.next_block + n) plans
   given_then =
       let Q : BlockRef → Type 0 = λ b. IsGiven (s.next_block + n) b.id in
       let was = all_so (λ (b : BlockRef). IsGiven s.next_block b.id) Q (λ b h. (h.0, omega (arith, h.1)))
       (named_blocks s) is.ids in
       let made = all_so (λ (b : BlockRef). IsNewId s.next_block n b.id) Q (λ b h.
       (omega (arith, h.0, is.counters.block_least), h.1)) (refs makes) (refs_ids m s.next_block makes fresh) in
-      sound_plans m (s.next_block + n) plans run.layouts (laid_half_full fs m s.next_block xs ran plans laid)
+      valid_plans m (s.next_block + n) plans run.layouts (laid_half_full fs m s.next_block xs ran plans laid)
       (all_laid Q was made)
 
-  laid_is_sound : IsSoundPoint m (s.next_block + n) (s.next_track + 0) (laid_from id plans s.next_layout old)
-  laid_is_sound =
+  laid_is_valid : IsValidPoint m (s.next_block + n) (s.next_track + 0) (laid_from id plans s.next_layout old)
+  laid_is_valid =
       let later = point_more m s.next_block s.next_track (s.next_block + n) (s.next_track + 0) old (omega arith)
-      (omega arith) old_sound in
+      (omega arith) old_valid in
       record {
-        few = omega (arith, laid_length id plans s.next_layout old, old_sound.few);
-        rising = laid_rising id 1 plans s.next_layout old old_sound.rising;
-        sound = laid_sound m (s.next_block + n) (s.next_track + 0) id plans s.next_layout old given_then later.sound;
+        few = omega (arith, laid_length id plans s.next_layout old, old_valid.few);
+        rising = laid_rising id 1 plans s.next_layout old old_valid.rising;
+        valid = laid_valid m (s.next_block + n) (s.next_track + 0) id plans s.next_layout old given_then later.valid;
       }
 
   laid_are_named : AreAmong every (point_blocks (laid_from id plans s.next_layout old))
@@ -107,7 +98,7 @@ module _ {D : Type 0} (disk : Ghosts D) (s : Core D) (is : IsStudio disk s) (id 
   laid_used =
       let point = point_blocks (laid_from id plans s.next_layout old) in
       subst (λ (bs : List NewBlock). AreAmong point (refs bs)) (sym run.makes_is)
-      (laid_in (Contains point) fs m s.next_block xs id 1 old track plans s.next_layout old_sound.rising found laid
+      (laid_in (Contains point) fs m s.next_block xs id 1 old track plans s.next_layout old_valid.rising found laid
       (among_itself point))
 
   pub run_planned : p.tracks ≡ 0 → (clip : Option (List (List Item))) → clip_behind s p ≡ clip
@@ -121,8 +112,8 @@ module _ {D : Type 0} (disk : Ghosts D) (s : Core D) (is : IsStudio disk s) (id 
     tag_given = omega arith;
     tag_counts = λ some. absurd (omega (arith, some));
     layouts = numbers;
-    sound = subst (λ (k : ℕ). IsSoundPoint m (s.next_block + n) (s.next_track + k) p.point) (sym none)
-        (subst (IsSoundPoint m (s.next_block + n) (s.next_track + 0)) (sym run.is) laid_is_sound);
+    valid = subst (λ (k : ℕ). IsValidPoint m (s.next_block + n) (s.next_track + k) p.point) (sym none)
+        (subst (IsValidPoint m (s.next_block + n) (s.next_track + 0)) (sym run.is) laid_is_valid);
     names = subst (λ (q : List Track). AreAmong every (point_blocks q)) (sym run.is) laid_are_named;
     used = subst (λ (q : List Track). AreAmong (point_blocks q) (refs makes)) (sym run.is) laid_used;
     clip_names = subst (λ (z : Option (List (List Item))). AreAmong every (clip_blocks z)) (sym behind) clip_names;
@@ -140,4 +131,4 @@ module _ {D : Type 0} (disk : Ghosts D) (s : Core D) (is : IsStudio disk s) (id 
   run_point block written =
       ap (meant (alone block)) run.is
       ∙ laid_means (alone block) fs m s.next_block xs id 1 old track plans s.next_layout
-      old_sound.rising found laid (subst (AreWritten (alone block)) run.makes_is written)
+      old_valid.rising found laid (subst (AreWritten (alone block)) run.makes_is written)

@@ -1,11 +1,9 @@
 -- The tracks of a run as they are laid out, one after another, and the numbers of their layouts.
-use Rattle.std.proofs.Common.{◌≡◌, ⊎_elim, inl, inr, refl, sym, ap, ◌∙◌, ℕ, ◌+◌, ◌≤◌, Option, Some, None, List}
-use Rattle.std.proofs.Common.{[], ◌∷◌}
+use Rattle.std.proofs.Common.{◌≡◌, ⊎_elim, inl, inr, refl, sym, ap, ◌∙◌, ℕ, ◌+◌, ◌≤◌, Option, Some, None, List, [], ◌∷◌}
 use Rattle.std.proofs.Common.{◌++◌, arith, IfSome, slice_get, suc, zero}
 use Rattle.std.proofs.lemmas.Bool.Decides.{leb_tells}
 use Rattle.project_state.specs.declared.track.Track.{Track}
-use Rattle.layout_uses.specs.Drawing.{HasNumbers}
-use Rattle.layout_uses.specs.Laws.{IsAmong}
+use Rattle.layout_uses.specs.{Drawing.HasNumbers, Laws.IsAmong}
 use Rattle.layout_uses.proofs.Draws.{numbers_kept, numbers_more}
 use Rattle.editor_tracks.specs.RunEdits.{laid_from, laid_or, next_number}
 

@@ -1,28 +1,21 @@
 -- A run of tracks laid out by plans: what holds of the new project, and of the blocks that are to be made for it.
-use Rattle.std.proofs.Common.{◌≡◌, inl, inr, ⊎_elim, refl, sym, subst, ℕ, ◌+◌, ◌*◌, ◌≤◌}
-use Rattle.std.proofs.Common.{List, [], ◌∷◌, ◌++◌, length, length-append, map, drop, Contains, arith}
+use Rattle.std.proofs.Common.{◌≡◌, inl, inr, ⊎_elim, refl, sym, subst, ℕ, ◌+◌, ◌*◌, ◌≤◌, List, [], ◌∷◌, ◌++◌, length}
+use Rattle.std.proofs.Common.{length-append, map, drop, Contains, arith}
+use Rattle.std.proofs.{lemmas.Bool.Decides.leb_tells, lemmas.List.map-append}
 use Rattle.std.specs.List.{AllByRecursion}
-use Rattle.std.proofs.lemmas.Bool.Decides.{leb_tells}
-use Rattle.std.proofs.lemmas.List.{map-append}
-use Rattle.pcm_base.specs.declared.block.BlockRef.{BlockRef}
-use Rattle.pcm_base.specs.declared.sound.Cell.{Cell}
-use Rattle.pcm_base.specs.Pieces.{Sources}
+use Rattle.pcm_base.specs.{declared.block.BlockRef.BlockRef, declared.sound.Cell.Cell, Pieces.Sources}
 use Rattle.clip_track.specs.Clips.{AllHalfFull, IsLayout, layout_blocks}
-use Rattle.edit_ops.specs.declared.types.NewBlock.{NewBlock}
-use Rattle.edit_ops.specs.declared.types.Plan.{Plan}
 use Rattle.edit_ops.specs.Plans.{AllNewFrom, AreNew, AreOldOrNew, AreWritten, IsPlan, Means, Start, ref_of}
-use Rattle.project_state.specs.declared.track.Track.{Track}
-use Rattle.project_state.specs.Meaning.{point_blocks}
-use Rattle.record_body.specs.Sound.{AllClipsGiven, AllSoundTracks, IsSoundTrack}
-use Rattle.project_state.specs.Tracks.{AreAbove}
-use Rattle.record_body.proofs.KeptBounds.{all_append}
-use Rattle.editor_state.specs.Edits.{AreAmong}
+use Rattle.edit_ops.specs.{declared.types.NewBlock.NewBlock, declared.types.Plan.Plan}
+use Rattle.project_state.specs.{declared.track.Track.Track, Meaning.point_blocks, Tracks.AreAbove}
+use Rattle.record_body.specs.Valid.{AllClipsGiven, AllValidTracks, IsValidTrack}
+use Rattle.record_body.proofs.SavedBounds.{all_append}
+use Rattle.editor_state.specs.{Edits.AreAmong, Studios.IsGiven}
 use Rattle.editor_tracks.specs.RunEdits.{AreLayouts, laid_by, laid_from, made_by}
-use Rattle.editor_state.specs.Studios.{IsGiven}
-use Rattle.editor_state.proofs.Blocks.BlockLists.{contained}
-use Rattle.editor_state.proofs.Lists.{all_left, all_right}
+use Rattle.editor_state.proofs.{Blocks.BlockLists.contained, Lists.all_left, Lists.all_right}
 use Rattle.editor_blocks.proofs.StudioBlocks.{refs}
 use Rattle.editor_blocks.proofs.PlanBlocks.{ids_clips, new_from_more, old_or_new}
+use Rattle.edit_ops.proofs.Named.{AreNew-append}
 
 -- ---- plans, one for each track, each begun at the next id of the one before
 
@@ -71,12 +64,6 @@ plan_more start a xs p among plan = record {
 
 -- ---- the blocks that are to be made for them
 
-new_joined : (m next : ℕ) (ks bs : List NewBlock) → AreNew m next ks → AreNew m (next + length ks) bs
-    → AreNew m next (ks ++ bs)
-new_joined m next [] bs a b = subst (λ (k : ℕ). AreNew m k bs) (omega arith) b
-new_joined m next (x ∷ ks) bs a b =
-    (a.0, a.1, a.2, a.3, a.4, new_joined m (next + 1) ks bs a.5 (subst (λ (k : ℕ). AreNew m k bs) (omega arith) b))
-
 from_joined : (xs : List BlockRef) (count : ℕ) (ks bs : List NewBlock) → AllNewFrom xs count ks → AllNewFrom xs count bs
     → AllNewFrom xs count (ks ++ bs)
 from_joined xs count [] bs a b = b
@@ -98,7 +85,7 @@ laid_new (f ∷ fs) m next xs [] [] laid = tt
 laid_new (f ∷ fs) m next xs [] (p ∷ ps) laid = absurd laid
 laid_new (f ∷ fs) m next xs (t ∷ ts) [] laid = absurd laid
 laid_new (f ∷ fs) m next xs (t ∷ ts) (p ∷ ps) laid =
-    new_joined m next p.makes (made_by ps) laid.0.plan.new
+    AreNew-append m next p.makes (made_by ps) laid.0.plan.new
     (subst (λ (k : ℕ). AreNew m k (made_by ps)) laid.0.plan.next_id (laid_new fs m p.next xs ts ps laid.1))
 
 pub laid_origin : (fs : List CellEdit) (m next : ℕ) (xs : List BlockRef) (ts : List Track) (ps : List Plan)
@@ -216,46 +203,46 @@ module _ (P : BlockRef → Type 0) where
       (leb_tells id t.id)
 
 -- a plan whose layout a track of the project may have
-pub record IsSoundPlan (m next : ℕ) (p : Plan) : Type 0 where
+pub record IsValidPlan (m next : ℕ) (p : Plan) : Type 0 where
   pub layout : IsLayout p.layout
   pub half_full : AllHalfFull m p.layout
   pub blocks : AllClipsGiven next p.layout
 
-abbrev pub AreSoundPlans : ℕ → ℕ → List Plan → Type 0
-AreSoundPlans m next ps = AllByRecursion (IsSoundPlan m next) ps
+abbrev pub AreValidPlans : ℕ → ℕ → List Plan → Type 0
+AreValidPlans m next ps = AllByRecursion (IsValidPlan m next) ps
 
-pub sound_plans : (m next : ℕ) (ps : List Plan) → AreLayouts ps → HalfFull m ps
-    → LayoutsAll (λ (b : BlockRef). IsGiven next b.id) ps → AreSoundPlans m next ps
-sound_plans m next [] layouts half all = tt
-sound_plans m next (p ∷ ps) layouts half all = (
+pub valid_plans : (m next : ℕ) (ps : List Plan) → AreLayouts ps → HalfFull m ps
+    → LayoutsAll (λ (b : BlockRef). IsGiven next b.id) ps → AreValidPlans m next ps
+valid_plans m next [] layouts half all = tt
+valid_plans m next (p ∷ ps) layouts half all = (
   record { layout = layouts.0; half_full = half.0; blocks = ids_clips next p.layout all.0 },
-  sound_plans m next ps layouts.1 half.1 all.1,
+  valid_plans m next ps layouts.1 half.1 all.1,
 )
 
 module _ (m next track : ℕ) where
-  sound_by : (ps : List Plan) (number : ℕ) (t : Track) → AreSoundPlans m next ps → IsSoundTrack m next track t
-      → IsSoundTrack m next track (laid_by ps number t)
-  sound_by [] number t plans sound = sound
-  sound_by (p ∷ ps) number t plans sound =
+  valid_by : (ps : List Plan) (number : ℕ) (t : Track) → AreValidPlans m next ps → IsValidTrack m next track t
+      → IsValidTrack m next track (laid_by ps number t)
+  valid_by [] number t plans valid = valid
+  valid_by (p ∷ ps) number t plans valid =
       record {
-        given = sound.given;
-        gain = sound.gain;
+        given = valid.given;
+        gain = valid.gain;
         layout = plans.0.layout;
         half_full = plans.0.half_full;
         blocks = plans.0.blocks;
       }
 
-  rest_sound : (ps : List Plan) → AreSoundPlans m next ps → AreSoundPlans m next (drop 1 ps)
-  rest_sound [] plans = tt
-  rest_sound (p ∷ ps) plans = plans.1
+  rest_valid : (ps : List Plan) → AreValidPlans m next ps → AreValidPlans m next (drop 1 ps)
+  rest_valid [] plans = tt
+  rest_valid (p ∷ ps) plans = plans.1
 
-  pub laid_sound : (id : ℕ) (ps : List Plan) (number : ℕ) (ts : List Track) → AreSoundPlans m next ps
-      → AllSoundTracks m next track ts → AllSoundTracks m next track (laid_from id ps number ts)
-  laid_sound id ps number [] plans all = tt
-  laid_sound id ps number (t ∷ ts) plans all = ⊎_elim
+  pub laid_valid : (id : ℕ) (ps : List Plan) (number : ℕ) (ts : List Track) → AreValidPlans m next ps
+      → AllValidTracks m next track ts → AllValidTracks m next track (laid_from id ps number ts)
+  laid_valid id ps number [] plans all = tt
+  laid_valid id ps number (t ∷ ts) plans all = ⊎_elim
       (λ in_run. rw (in_run.0) (
-        sound_by ps number t plans all.0,
-        laid_sound id (drop 1 ps) (number + 1) ts (rest_sound ps plans) all.1,
+        valid_by ps number t plans all.0,
+        laid_valid id (drop 1 ps) (number + 1) ts (rest_valid ps plans) all.1,
       ))
-      (λ before. rw (before.0) (all.0, laid_sound id ps number ts plans all.1))
+      (λ before. rw (before.0) (all.0, laid_valid id ps number ts plans all.1))
       (leb_tells id t.id)

@@ -1,52 +1,42 @@
 -- The plan of an edit of one track: what it leaves, and why there is none.
-use Rattle.std.proofs.Common.{◌≡◌, ◌⊎◌, inl, inr, ⊎_elim, sym, ap, ◌∙◌, subst, ℕ, ◌+◌, ◌≤◌, ◌<◌, ℤ, Some, None}
-use Rattle.std.proofs.Common.{List}
+use Rattle.std.proofs.Common.{◌≡◌, ◌⊎◌, inl, inr, ⊎_elim, sym, ap, ◌∙◌, subst, ℕ, ◌+◌, ◌≤◌, ◌<◌, ℤ, Some, None, List}
 use Rattle.std.proofs.Common.{◌++◌, length, Contains, arith, Option, ◌^◌}
-use Rattle.std.proofs.lemmas.List.{length-map}
-use Rattle.std.proofs.lemmas.List.Elements.{Contains-append_left}
-use Rattle.pcm_base.specs.declared.block.BlockRef.{BlockRef}
-use Rattle.pcm_base.specs.declared.refusal.Refusal.{Refusal}
-use Rattle.pcm_base.specs.declared.refusal.Refusal.TheVariants as refusal
+use Rattle.std.proofs.{lemmas.List.length-map, lemmas.List.Elements.Contains-append_left}
 use Rattle.pcm_base.specs.Cells.{changed_at, with_cells}
+use Rattle.pcm_base.specs.{declared.block.BlockRef.BlockRef, declared.refusal.Refusal.Refusal}
 use Rattle.disk_model.specs.declared.store.Store.{Ghosts}
 use Rattle.sample_block.specs.Sources.{IsNamed}
-use Rattle.clip_track.specs.declared.items.Item.{Item}
-use Rattle.clip_track.specs.Clips.{end_of, layout_blocks, layout_cells}
+use Rattle.clip_track.specs.{declared.items.Item.Item, Clips.end_of, Clips.layout_blocks, Clips.layout_cells}
 use Rattle.edit_ops.specs.declared.types.NewBlock.{NewBlock}
 use Rattle.edit_ops.specs.Plans.{AllNewFrom, AreNew, AreOldOrNew, AreWritten}
-use Rattle.piece_store.specs.declared.given.Given.{Given}
-use Rattle.piece_store.specs.Bringing.{brought, brought_by, brought_count}
-use Rattle.project_state.specs.declared.track.Track.{Track}
-use Rattle.record_body.specs.Kept.{current_tracks}
+use Rattle.block_writer.specs.declared.given.Given.{Given}
+use Rattle.block_writer.specs.Bringing.{brought, brought_by, brought_count}
 use Rattle.project_state.specs.Meaning.{history_blocks, meant, meant_track, point_blocks}
-use Rattle.record_body.specs.KeptSound.{IsSoundPoint}
-use Rattle.record_body.specs.Sound.{IsSoundTrack}
-use Rattle.project_state.specs.Tracks.{track_of}
+use Rattle.project_state.specs.{declared.track.Track.Track, Tracks.track_of}
+use Rattle.record_body.specs.{Saved.current_tracks, SavedValid.IsValidPoint, Valid.IsValidTrack}
 use Rattle.layout_uses.specs.Drawing.{HasNumbers}
 use Rattle.layout_uses.proofs.Putting.{put_numbers}
-use Rattle.editor_state.specs.declared.planned.Planned.{Planned}
-use Rattle.editor_state.specs.Core.{Core}
 use Rattle.editor_state.specs.Edits.{AreAmong, IsPlanned, alone, beside, blocks_with, clip_then, tagged_by}
-use Rattle.editor_state.specs.Points.{put_in, put_one}
 use Rattle.editor_state.specs.Studios.{IsGiven, IsStudio, clip_blocks, named_blocks, pin_blocks, MayPaste}
+use Rattle.editor_state.specs.{declared.planned.Planned.Planned, Core.Core, Points.put_in, Points.put_one}
 use Rattle.editor_tracks.specs.TrackEdits.{IsTrackPlan, NoTrackPlan, TrackEdit, track_refusal, with_layout}
-use Rattle.editor_state.proofs.Blocks.BlockLists.{among_itself}
-use Rattle.editor_commits.proofs.CursorTracks.{current_may_read}
-use Rattle.editor_commits.proofs.CurrentProject.{current_sound, old_names}
-use Rattle.editor_state.proofs.Lists.{all_left, all_right, all_so}
+use Rattle.editor_state.proofs.{Blocks.BlockLists.among_itself, Lists.all_left, Lists.all_right, Lists.all_so}
+use Rattle.editor_commits.proofs.TrackChanges.{layout_of, put_all, put_means, put_rising, put_valid, valid_of}
+use Rattle.editor_commits.proofs.{CursorTracks.current_may_read, CurrentProject.current_valid, CurrentProject.old_names}
 use Rattle.editor_blocks.proofs.StudioBlocks.{IsNewId, point_more, refs, refs_ids}
 use Rattle.editor_blocks.proofs.PlanBlocks.{all_readable, clips_ids, ids_clips, new_from_more, old_or_new}
 use Rattle.editor_blocks.proofs.LayoutBlocks.{new_in, put_in_of, layout_given}
-use Rattle.editor_commits.proofs.TrackChanges.{id_of, layout_of, put_all, put_means, put_rising, put_sound, sound_of}
+use Rattle.record_body.proofs.DiffTracks.{found_id}
+use Rattle.pcm_base.specs.declared.refusal.Refusal.TheVariants as refusal
 
 -- ---- the track, and why there is no plan
 
 pub current_track : {D : Type 0} (disk : Ghosts D) (s : Core D) → IsStudio disk s → (id : ℕ) (t : Track)
     → track_of id (current_tracks s.history) ≡ Some t
-    → IsSoundTrack s.block_size s.next_block s.next_track t
+    → IsValidTrack s.block_size s.next_block s.next_track t
 current_track disk s is id t found =
-    sound_of s.block_size s.next_block s.next_track id (current_tracks s.history) t found
-    (current_sound disk s is).sound
+    valid_of s.block_size s.next_block s.next_track id (current_tracks s.history) t found
+    (current_valid disk s is).valid
 
 pub no_such_track : (e : TrackEdit) (id : ℕ) (old : List Track) (why : Refusal) → why ≡ refusal.NoTrack id
     → track_of id old ≡ None → NoTrackPlan e id old why
@@ -70,8 +60,8 @@ module _ {D : Type 0} (disk : Ghosts D) (s : Core D) (is : IsStudio disk s) (e :
   abbrev old : List Track
   old = current_tracks s.history
 
-  old_sound : IsSoundPoint s.block_size s.next_block s.next_track old
-  old_sound = current_sound disk s is
+  old_valid : IsValidPoint s.block_size s.next_block s.next_track old
+  old_valid = current_valid disk s is
 
   abbrev was : Track
   was = p.track
@@ -85,8 +75,8 @@ module _ {D : Type 0} (disk : Ghosts D) (s : Core D) (is : IsStudio disk s) (e :
   abbrev every : List BlockRef
   every = blocks_with s makes
 
-  was_sound : IsSoundTrack s.block_size s.next_block s.next_track was
-  was_sound = current_track disk s is id was p.found
+  was_valid : IsValidTrack s.block_size s.next_block s.next_track was
+  was_valid = current_track disk s is id was p.found
 
   fresh : AreNew s.block_size s.next_block makes
   fresh = subst (AreNew s.block_size s.next_block) (sym p.makes_is) p.is_plan.new
@@ -111,17 +101,17 @@ module _ {D : Type 0} (disk : Ghosts D) (s : Core D) (is : IsStudio disk s) (e :
   made_named : AreAmong every (refs makes)
   made_named = all_right (Contains every) (named_blocks s) (refs makes) (among_itself every)
 
-  now_sound : IsSoundTrack s.block_size (s.next_block + n) s.next_track now
-  now_sound =
+  now_valid : IsValidTrack s.block_size (s.next_block + n) s.next_track now
+  now_valid =
       let Q : BlockRef → Type 0 = λ b. IsGiven (s.next_block + n) b.id in
       let old_ids = all_so (λ (b : BlockRef). IsGiven s.next_block b.id) Q (λ b h. (h.0, omega (arith, h.1)))
-      (layout_blocks was.layout) (clips_ids s.next_block was.layout was_sound.blocks) in
+      (layout_blocks was.layout) (clips_ids s.next_block was.layout was_valid.blocks) in
       let new_ids = all_so (λ (b : BlockRef). IsNewId s.next_block n b.id) Q
       (λ b h. (omega (arith, h.0, is.counters.block_least), h.1)) (refs makes)
       (refs_ids s.block_size s.next_block makes fresh) in
       record {
-        given = was_sound.given;
-        gain = was_sound.gain;
+        given = was_valid.given;
+        gain = was_valid.gain;
         layout = p.layout;
         half_full = p.is_plan.half_full;
         blocks = ids_clips (s.next_block + n) p.plan.layout
@@ -129,16 +119,16 @@ module _ {D : Type 0} (disk : Ghosts D) (s : Core D) (is : IsStudio disk s) (e :
       }
 
   put_few : length (put_in now old) ≤ 64
-  put_few = omega (arith, old_sound.few, length-map old (put_one now))
+  put_few = omega (arith, old_valid.few, length-map old (put_one now))
 
-  put_is_sound : IsSoundPoint s.block_size (s.next_block + n) (s.next_track + 0) (put_in now old)
-  put_is_sound =
+  put_is_valid : IsValidPoint s.block_size (s.next_block + n) (s.next_track + 0) (put_in now old)
+  put_is_valid =
       let later = point_more s.block_size s.next_block s.next_track (s.next_block + n) s.next_track old (omega arith)
-      (omega arith) old_sound in
-      let put : IsSoundPoint s.block_size (s.next_block + n) s.next_track (put_in now old) = record {
+      (omega arith) old_valid in
+      let put : IsValidPoint s.block_size (s.next_block + n) s.next_track (put_in now old) = record {
         few = put_few;
-        rising = put_rising now 1 old old_sound.rising;
-        sound = put_sound s.block_size (s.next_block + n) s.next_track now old now_sound later.sound;
+        rising = put_rising now 1 old old_valid.rising;
+        valid = put_valid s.block_size (s.next_block + n) s.next_track now old now_valid later.valid;
       } in
       point_more s.block_size (s.next_block + n) s.next_track (s.next_block + n) (s.next_track + 0) (put_in now old)
       (omega arith) (omega arith) put
@@ -157,7 +147,7 @@ module _ {D : Type 0} (disk : Ghosts D) (s : Core D) (is : IsStudio disk s) (e :
   put_used =
       let C : BlockRef → Type 0 = Contains (point_blocks (put_in now old)) in
       new_in C (layout_blocks was.layout) (layout_blocks p.plan.layout) makes laid
-      (put_in_of C id now was old p.found (id_of id old was p.found) (among_itself (point_blocks (put_in now old))))
+      (put_in_of C id now was old p.found (found_id id old was p.found) (among_itself (point_blocks (put_in now old))))
 
   clip_named : AreAmong every (clip_blocks s.clipboard)
   clip_named = all_right (Contains every) (pin_blocks s.pins) (clip_blocks s.clipboard)
@@ -178,8 +168,8 @@ module _ {D : Type 0} (disk : Ghosts D) (s : Core D) (is : IsStudio disk s) (e :
     tag_given = tag_given;
     tag_counts = counts;
     layouts = numbers;
-    sound = subst (λ (k : ℕ). IsSoundPoint s.block_size (s.next_block + n) (s.next_track + k) planned.point) (sym none)
-        (subst (IsSoundPoint s.block_size (s.next_block + n) (s.next_track + 0)) (sym p.is) put_is_sound);
+    valid = subst (λ (k : ℕ). IsValidPoint s.block_size (s.next_block + n) (s.next_track + k) planned.point) (sym none)
+        (subst (IsValidPoint s.block_size (s.next_block + n) (s.next_track + 0)) (sym p.is) put_is_valid);
     names = subst (λ (q : List Track). AreAmong every (point_blocks q)) (sym p.is) put_names;
     used = subst (λ (q : List Track). AreAmong (point_blocks q) (refs makes)) (sym p.is) put_used;
     clip_names = subst (λ (z : Option (List (List Item))). AreAmong every (clip_blocks (clip_then z s.clipboard)))
@@ -206,4 +196,4 @@ module _ {D : Type 0} (disk : Ghosts D) (s : Core D) (is : IsStudio disk s) (e :
       let changes : meant_track src now ≡ with_cells f (meant_track src was) =
       λ i. record { id = was.id; gain = was.gain; side = was.side; mute = was.mute; cells = cells i } in
       ap (meant src) p.is
-      ∙ put_means src id now was (with_cells f) (id_of id old was p.found) changes 1 old old_sound.rising p.found
+      ∙ put_means src id now was (with_cells f) (found_id id old was p.found) changes 1 old old_valid.rising p.found

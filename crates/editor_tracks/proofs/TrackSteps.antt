@@ -1,65 +1,49 @@
 -- An edit of one track by a plan, as an edit that makes blocks.
 use Rattle.std.proofs.Common.{◌≡◌, ⊎_elim, refl, sym, ap, ◌∙◌, subst, ℕ, suc, ◌+◌, ◌*◌, ◌≤◌, ◌<◌, ◌==◌, ℤ}
-use Rattle.std.proofs.Common.{if◌then◌else◌}
-use Rattle.std.proofs.Common.{Option, Some}
-use Rattle.std.proofs.Common.{None, List, [], ◌∷◌, length, Err, arith, mul-le-mul_left}
-use Rattle.pcm_base.specs.declared.command.Call.{Call}
-use Rattle.pcm_base.specs.declared.entry.SoundMove.{SoundMove}
-use Rattle.pcm_base.specs.declared.refusal.Refusal.{Refusal}
-use Rattle.pcm_base.specs.declared.refusal.Refusal.TheVariants as refusal
-use Rattle.pcm_base.specs.declared.refusal.Refusal.TheVariants.{NoTrack}
-use Rattle.pcm_base.specs.declared.sound.Cell.{Cell}
+use Rattle.std.proofs.Common.{if◌then◌else◌, Option, Some, None, List, [], ◌∷◌, length, Err, arith, mul-le-mul_left}
 use Rattle.pcm_base.specs.Cells.{Project, tracks_from, cells_at, with_cells, edited_at, changed_at}
-use Rattle.pcm_base.specs.History.{recorded}
-use Rattle.pcm_base.specs.Pieces.{Sources}
 use Rattle.pcm_base.specs.Refusals.{◌otherwise◌, call_tests, refused_if, is_empty}
 use Rattle.pcm_base.specs.Run.{outside, stop_of}
-use Rattle.pcm_base.specs.State.{current}
-use Rattle.pcm_base.specs.Studio as model
+use Rattle.pcm_base.specs.{declared.command.Call.Call, declared.entry.SoundMove.SoundMove}
+use Rattle.pcm_base.specs.{declared.refusal.Refusal.Refusal, declared.refusal.Refusal.TheVariants.NoTrack}
+use Rattle.pcm_base.specs.{declared.sound.Cell.Cell, History.recorded, Pieces.Sources, State.current}
 use Rattle.disk_model.specs.declared.store.Store.{Ghosts}
 use Rattle.disk_model.proofs.Frames.{Fewer}
 use Rattle.sample_block.specs.Sources.{samples_on}
 use Rattle.clip_track.specs.Clips.{layout_cells, end_of}
 use Rattle.clip_track.proofs.Layouts.{length-layout}
 use Rattle.edit_ops.specs.declared.types.NewBlock.{NewBlock}
-use Rattle.piece_store.specs.declared.given.Given.{Given}
-use Rattle.piece_store.specs.Bringing.{brought, brought_by, brought_count}
-use Rattle.project_state.specs.declared.track.Track.{Track}
-use Rattle.record_body.specs.Kept.{current_tracks}
-use Rattle.project_state.specs.Meaning.{meant}
-use Rattle.record_body.specs.KeptSound.{IsSoundPoint}
-use Rattle.record_body.specs.Sound.{AllSoundTracks}
-use Rattle.project_state.specs.Tracks.{track_of}
+use Rattle.block_writer.specs.declared.given.Given.{Given}
+use Rattle.block_writer.specs.Bringing.{brought, brought_by, brought_count}
+use Rattle.project_state.specs.{declared.track.Track.Track, Meaning.meant, Tracks.track_of}
+use Rattle.record_body.specs.{Saved.current_tracks, SavedValid.IsValidPoint, Valid.AllValidTracks}
 use Rattle.project_state.proofs.MeantHistories.{meant_recorded}
-use Rattle.editor_state.specs.declared.planned.Planned.{Planned}
-use Rattle.editor_state.specs.Core.{Core}
 use Rattle.editor_state.specs.Edits.{IsEdit, alone, IsEditCall, clip_then, tagged_by}
-use Rattle.editor_state.specs.Points.{lacks}
 use Rattle.editor_state.specs.Studios.{IsStudio, studio_by, studio_of, clip_cells}
-use Rattle.editor_state.specs.Took.{Took, with_sound}
+use Rattle.editor_state.specs.{declared.planned.Planned.Planned, Core.Core, Points.lacks, Took.Took, Took.with_sound}
 use Rattle.editor_tracks.specs.TrackEdits.{IsTrackCall, IsTrackPlan, NoTrackPlan, TrackEdit, track_command}
 use Rattle.editor_tracks.specs.TrackEdits.{track_refusal}
-use Rattle.editor_commits.proofs.CursorTracks.{cells_meant}
-use Rattle.editor_commits.proofs.CurrentProject.{current_sound}
-use Rattle.editor_state.proofs.Refusals.CommitTests.{early}
+use Rattle.editor_commits.proofs.TrackChanges.{current_is, lacks_is, valid_of}
+use Rattle.editor_commits.proofs.{CursorTracks.cells_meant, CurrentProject.current_valid}
 use Rattle.editor_state.proofs.Calls.FileRemovals.{commit_frees, commit_removes_none}
 use Rattle.editor_state.proofs.Refusals.EarlyRefusals.{refuses, wants}
+use Rattle.editor_state.proofs.{Refusals.CommitTests.early, Refusals.CounterNumbers.early_needed}
 use Rattle.editor_tracks.proofs.TrackPlans.{point_means}
-use Rattle.editor_commits.proofs.TrackChanges.{current_is, lacks_is, sound_of}
-use Rattle.editor_state.proofs.Refusals.CounterNumbers.{early_needed}
+use Rattle.pcm_base.specs.declared.refusal.Refusal.TheVariants as refusal
+use Rattle.pcm_base.specs.Studio as model
 
 -- ---- what refuses the edit of a track
 
 refusal_is : (src : Sources) (id : ℕ) (test : ℕ → Option Refusal) (m next track : ℕ) (ts : List Track)
-    → AllSoundTracks m next track ts → (o : Option Track) → track_of id ts ≡ o
+    → AllValidTracks m next track ts → (o : Option Track) → track_of id ts ≡ o
     → ((refused_if (is_empty (tracks_from id (meant src ts))) (NoTrack id)) otherwise
     (test (length (cells_at id (meant src ts))))) ≡ track_refusal id test o
-refusal_is src id test m next track ts sound None found =
+refusal_is src id test m next track ts valid None found =
     let first = lacks_is src id ts ∙ ap (lacks id) found in
     λ i. (first i) otherwise (test (length (cells_at id (meant src ts))))
-refusal_is src id test m next track ts sound (Some t) found =
+refusal_is src id test m next track ts valid (Some t) found =
     let first = lacks_is src id ts ∙ ap (lacks id) found in
-    let is = sound_of m next track id ts t found sound in
+    let is = valid_of m next track id ts t found valid in
     let long : length (cells_at id (meant src ts)) ≡ end_of 0 t.layout =
     ap length (cells_meant src id ts t found) ∙ length-layout src t.layout is.layout.apart in
     λ i. (first i) otherwise (test (long i))
@@ -88,8 +72,8 @@ module _ {D : Type 0} (disk : Ghosts D) (s : Core D) (is : IsStudio disk s) (c :
   abbrev found : Option Track
   found = track_of id old
 
-  old_sound : IsSoundPoint s.block_size s.next_block s.next_track old
-  old_sound = current_sound disk s is
+  old_valid : IsValidPoint s.block_size s.next_block s.next_track old
+  old_valid = current_valid disk s is
 
   own_is : (block : ℕ → ℕ → ℤ) → call_tests (outside (studio_by (alone block) disk s) sound)
       (studio_by (alone block) disk s).state c ≡ track_refusal id e.test found
@@ -99,7 +83,7 @@ module _ {D : Type 0} (disk : Ghosts D) (s : Core D) (is : IsStudio disk s) (c :
       line.own (outside u sound) u.state
       ∙ ap (λ (q : Project). (refused_if (is_empty (tracks_from id q)) (NoTrack id)) otherwise
       (e.test (length (cells_at id q)))) (current_is src s.history)
-      ∙ refusal_is src id e.test s.block_size s.next_block s.next_track old old_sound.sound found refl
+      ∙ refusal_is src id e.test s.block_size s.next_block s.next_track old old_valid.valid found refl
 
   -- ---- a stopped studio, a test of the edit, or memory
 

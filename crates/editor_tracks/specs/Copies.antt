@@ -2,15 +2,12 @@
 use Rattle.std.specs.Prelude.{◌≡◌, ◌⊎◌, ℕ, nat_le, if◌then◌else◌, Option, Some, None, List, [], ◌∷◌, take, Result}
 use Rattle.std.specs.Prelude.{MatchResult}
 use Rattle.std.specs.List.{flat_map}
-use Rattle.pcm_base.specs.declared.block.BlockRef.{BlockRef}
-use Rattle.pcm_base.specs.declared.refusal.Refusal.{Refusal}
-use Rattle.pcm_base.specs.declared.refusal.Refusal.TheVariants.{NoMemory}
-use Rattle.clip_track.specs.declared.clips.Clip.{Clip}
-use Rattle.clip_track.specs.declared.items.Item.{Item}
-use Rattle.clip_track.specs.Items.{strip_blocks}
+use Rattle.pcm_base.specs.{declared.block.BlockRef.BlockRef, declared.refusal.Refusal.Refusal}
+use Rattle.pcm_base.specs.{declared.refusal.Refusal.TheVariants.NoMemory}
+use Rattle.clip_track.specs.{declared.clips.Clip.Clip, declared.items.Item.Item, Items.strip_blocks}
 use Rattle.edit_ops.specs.Runs.{copy_tests, AreCopies}
 use Rattle.project_state.specs.declared.track.Track.{Track}
-use Rattle.record_body.specs.Kept.{current_tracks}
+use Rattle.record_body.specs.Saved.{current_tracks}
 use Rattle.editor_tracks.specs.declared.run_range.RunRange.{RunRange}
 use Rattle.editor_state.specs.Core.{Core}
 

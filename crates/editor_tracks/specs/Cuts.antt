@@ -1,28 +1,18 @@
 -- A range of a run of tracks, taken out and put into the clipboard.
 use Rattle.std.specs.Prelude.{◌≡◌, ◌⊎◌, Option, Some, None, List, take}
 use Rattle.std.specs.List.{AllByRecursion}
-use Rattle.pcm_base.specs.declared.command.Command.{Command}
-use Rattle.pcm_base.specs.declared.command.Command.TheVariants as command
-use Rattle.pcm_base.specs.declared.refusal.Refusal.{Refusal}
-use Rattle.pcm_base.specs.declared.refusal.Refusal.TheVariants as refusal
-use Rattle.pcm_base.specs.Edits.{removed}
-use Rattle.pcm_base.specs.Refusals.{◌otherwise◌}
-use Rattle.clip_track.specs.declared.items.Item.{Item}
-use Rattle.clip_track.specs.Items.{AreItems}
-use Rattle.edit_ops.specs.declared.types.Plan.{Plan}
-use Rattle.edit_ops.specs.Runs.{AreCopies, AreCuts, copy_tests}
-use Rattle.project_state.specs.declared.track.Track.{Track}
-use Rattle.project_state.specs.Tracks.{track_of}
-use Rattle.record_body.specs.Kept.{current_tracks}
-use Rattle.editor_state.specs.declared.planned.Planned.{Planned}
-use Rattle.pcm_base.specs.declared.edits.Removing.{Removing}
 use Rattle.pcm_base.specs.declared.edits.Removing.TheVariants.{Close, Leave}
-use Rattle.editor_tracks.specs.declared.run_range.RunRange.{RunRange}
-use Rattle.editor_tracks.specs.Copies.{run_of}
-use Rattle.editor_state.specs.Core.{Core}
-use Rattle.editor_state.specs.Points.{lacks}
-use Rattle.editor_tracks.specs.RunEdits.{IsRunPlan}
-use Rattle.editor_tracks.specs.TrackEdits.{plan_start}
+use Rattle.pcm_base.specs.{declared.command.Command.Command, declared.refusal.Refusal.Refusal, Edits.removed}
+use Rattle.pcm_base.specs.{Refusals.◌otherwise◌, declared.edits.Removing.Removing}
+use Rattle.clip_track.specs.{declared.items.Item.Item, Items.AreItems}
+use Rattle.edit_ops.specs.{declared.types.Plan.Plan, Runs.AreCopies, Runs.AreCuts, Runs.copy_tests}
+use Rattle.project_state.specs.{declared.track.Track.Track, Tracks.track_of}
+use Rattle.record_body.specs.Saved.{current_tracks}
+use Rattle.editor_state.specs.{declared.planned.Planned.Planned, Core.Core, Points.lacks}
+use Rattle.editor_tracks.specs.{declared.run_range.RunRange.RunRange, Copies.run_of, RunEdits.IsRunPlan}
+use Rattle.editor_tracks.specs.{TrackEdits.plan_start}
+use Rattle.pcm_base.specs.declared.command.Command.TheVariants as command
+use Rattle.pcm_base.specs.declared.refusal.Refusal.TheVariants as refusal
 
 -- the line that asks for it
 abbrev pub cut_line : Removing → RunRange → Command

@@ -1,16 +1,10 @@
 -- Samples that a command brings, put in at a place of a track or at its end.
 use Rattle.std.specs.Prelude.{ℕ, ◌+◌, ℤ, List, [], ◌∷◌, ◌++◌, Option}
-use Rattle.pcm_base.specs.declared.refusal.Refusal.{Refusal}
-use Rattle.pcm_base.specs.declared.sound.Cell.{Cell}
-use Rattle.pcm_base.specs.Cells.{trimmed}
-use Rattle.pcm_base.specs.Edits.{as_cells, inserted}
-use Rattle.pcm_base.specs.Form.{IsNumber}
-use Rattle.pcm_base.specs.Pieces.{stretch}
-use Rattle.pcm_base.specs.Refusals.{inserted_length, length_limit}
-use Rattle.pcm_base.specs.Sizes.{blocks_of_samples}
-use Rattle.editor_tracks.specs.declared.place.Place.{Place}
+use Rattle.pcm_base.specs.{declared.refusal.Refusal.Refusal, declared.sound.Cell.Cell, Cells.trimmed, Edits.as_cells}
+use Rattle.pcm_base.specs.{Edits.inserted, Form.IsNumber, Pieces.stretch, Refusals.inserted_length}
+use Rattle.pcm_base.specs.{Refusals.length_limit, Sizes.blocks_of_samples}
 use Rattle.editor_tracks.specs.declared.place.Place.TheVariants.{At, End}
-use Rattle.editor_tracks.specs.TrackEdits.{TrackEdit}
+use Rattle.editor_tracks.specs.{declared.place.Place.Place, TrackEdits.TrackEdit}
 
 -- a place that a line may say
 abbrev pub IsPlace : Place → Type 0

@@ -1,24 +1,15 @@
 -- The strips of the clipboard, put into a run of tracks.
 use Rattle.std.specs.Prelude.{◌≡◌, ◌⊎◌, ℕ, Option, Some, None, List, length, take}
 use Rattle.std.specs.List.{AllByRecursion}
-use Rattle.pcm_base.specs.declared.refusal.Refusal.{Refusal}
-use Rattle.pcm_base.specs.declared.refusal.Refusal.TheVariants as refusal
-use Rattle.pcm_base.specs.Edits.{placed}
 use Rattle.pcm_base.specs.Refusals.{◌otherwise◌, placed_length}
-use Rattle.clip_track.specs.declared.items.Item.{Item}
-use Rattle.clip_track.specs.Items.{AreItems}
-use Rattle.edit_ops.specs.declared.types.Plan.{Plan}
-use Rattle.edit_ops.specs.Runs.{ArePastes, clipboard_tests}
-use Rattle.project_state.specs.declared.track.Track.{Track}
-use Rattle.project_state.specs.Tracks.{track_of}
-use Rattle.record_body.specs.Kept.{current_tracks}
-use Rattle.editor_state.specs.declared.planned.Planned.{Planned}
-use Rattle.pcm_base.specs.declared.edits.Placing.{Placing}
-use Rattle.editor_tracks.specs.Copies.{run_of}
-use Rattle.editor_state.specs.Core.{Core}
-use Rattle.editor_state.specs.Points.{lacks}
-use Rattle.editor_tracks.specs.RunEdits.{IsRunPlan}
-use Rattle.editor_tracks.specs.TrackEdits.{plan_start}
+use Rattle.pcm_base.specs.{declared.refusal.Refusal.Refusal, Edits.placed, declared.edits.Placing.Placing}
+use Rattle.clip_track.specs.{declared.items.Item.Item, Items.AreItems}
+use Rattle.edit_ops.specs.{declared.types.Plan.Plan, Runs.ArePastes, Runs.clipboard_tests}
+use Rattle.project_state.specs.{declared.track.Track.Track, Tracks.track_of}
+use Rattle.record_body.specs.Saved.{current_tracks}
+use Rattle.editor_state.specs.{declared.planned.Planned.Planned, Core.Core, Points.lacks}
+use Rattle.editor_tracks.specs.{Copies.run_of, RunEdits.IsRunPlan, TrackEdits.plan_start}
+use Rattle.pcm_base.specs.declared.refusal.Refusal.TheVariants as refusal
 
 -- what refuses it
 abbrev pub paste_refusal : Placing → (id at : ℕ) → Option (List (List Item)) → List Track → Option Refusal

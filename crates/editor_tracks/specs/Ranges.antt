@@ -1,9 +1,7 @@
 -- Edits of a range of one track.
 use Rattle.std.specs.Prelude.{ℕ}
-use Rattle.pcm_base.specs.Counters.{blocks_of_edit}
 use Rattle.pcm_base.specs.Edits.{range_edited, range_of}
-use Rattle.pcm_base.specs.Refusals.{bad_range}
-use Rattle.pcm_base.specs.declared.edits.RangeEdit.{RangeEdit}
+use Rattle.pcm_base.specs.{Counters.blocks_of_edit, Refusals.bad_range, declared.edits.RangeEdit.RangeEdit}
 use Rattle.editor_tracks.specs.TrackEdits.{TrackEdit}
 
 abbrev pub range_edit : RangeEdit → (from to : ℕ) → TrackEdit

@@ -1,14 +1,12 @@
 -- Edits of a run: a track and those after it in the project, each by a plan of its new layout.
-use Rattle.std.specs.Prelude.{◌≡◌, ℕ, ◌+◌, ◌≤◌, nat_le, if◌then◌else◌, List, [], ◌∷◌, ◌++◌, drop, length, Option}
-use Rattle.std.specs.Prelude.{Some, None}
+use Rattle.std.specs.Prelude.{◌≡◌, ℕ, ◌+◌, ◌≤◌, nat_le, if◌then◌else◌, List, [], ◌∷◌, ◌++◌, drop, length, Option, Some}
+use Rattle.std.specs.Prelude.{None}
 use Rattle.std.specs.List.{flat_map, AllByRecursion}
 use Rattle.clip_track.specs.Clips.{IsLayout}
-use Rattle.edit_ops.specs.declared.types.NewBlock.{NewBlock}
-use Rattle.edit_ops.specs.declared.types.Plan.{Plan}
+use Rattle.edit_ops.specs.{declared.types.NewBlock.NewBlock, declared.types.Plan.Plan}
 use Rattle.project_state.specs.declared.track.Track.{Track}
 use Rattle.editor_state.specs.declared.planned.Planned.{Planned}
-use Rattle.editor_tracks.specs.Copies.{run_of}
-use Rattle.editor_tracks.specs.TrackEdits.{with_layout}
+use Rattle.editor_tracks.specs.{Copies.run_of, TrackEdits.with_layout}
 
 -- a track with the layout of the first of some plans
 abbrev pub laid_by : List Plan → ℕ → Track → Track

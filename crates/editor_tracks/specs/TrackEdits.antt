@@ -1,31 +1,18 @@
 -- Edits of one track, each by a plan of its new layout.
 use Rattle.std.specs.Prelude.{◌≡◌, ◌⊎◌, ℕ, suc, ◌+◌, ◌≤◌, ℤ, Option, Some, None, List, length}
-use Rattle.pcm_base.specs.declared.command.Call.{Call}
-use Rattle.pcm_base.specs.declared.entry.SoundMove.{SoundMove}
-use Rattle.pcm_base.specs.declared.refusal.Refusal.{Refusal}
-use Rattle.pcm_base.specs.declared.refusal.Refusal.TheVariants as refusal
-use Rattle.pcm_base.specs.declared.sound.Cell.{Cell}
-use Rattle.pcm_base.specs.Cells.{cells_at, edited_at}
-use Rattle.pcm_base.specs.Counters.{layouts_of}
-use Rattle.pcm_base.specs.History.{recorded}
-use Rattle.pcm_base.specs.Outside.{Outside}
-use Rattle.pcm_base.specs.Pieces.{Sources}
-use Rattle.pcm_base.specs.Refusals.{◌otherwise◌, call_tests, no_track}
-use Rattle.pcm_base.specs.State.{State, current}
-use Rattle.pcm_base.specs.Step.{after}
+use Rattle.pcm_base.specs.{declared.command.Call.Call, declared.entry.SoundMove.SoundMove}
+use Rattle.pcm_base.specs.{declared.refusal.Refusal.Refusal, declared.sound.Cell.Cell, Cells.cells_at, Cells.edited_at}
+use Rattle.pcm_base.specs.{Counters.layouts_of, History.recorded, Outside.Outside, Pieces.Sources, Refusals.◌otherwise◌}
+use Rattle.pcm_base.specs.{Refusals.call_tests, Refusals.no_track, State.State, State.current, Step.after}
 use Rattle.clip_track.specs.declared.clips.Clip.{Clip}
 use Rattle.clip_track.specs.Clips.{end_of, IsLayout, layout_blocks, layout_cells}
-use Rattle.edit_ops.specs.declared.types.Plan.{Plan}
-use Rattle.edit_ops.specs.Plans.{Start, IsPlan, Means}
-use Rattle.piece_store.specs.declared.given.Given.{Given}
-use Rattle.piece_store.specs.Bringing.{brought}
-use Rattle.project_state.specs.declared.track.Track.{Track}
-use Rattle.project_state.specs.Tracks.{track_of}
-use Rattle.record_body.specs.Kept.{current_tracks}
-use Rattle.editor_state.specs.declared.planned.Planned.{Planned}
-use Rattle.editor_state.specs.Core.{Core}
-use Rattle.editor_state.specs.Edits.{IsEditCall}
+use Rattle.edit_ops.specs.{declared.types.Plan.Plan, Plans.Start, Plans.IsPlan, Plans.Means}
+use Rattle.block_writer.specs.{declared.given.Given.Given, Bringing.brought}
+use Rattle.project_state.specs.{declared.track.Track.Track, Tracks.track_of}
+use Rattle.record_body.specs.Saved.{current_tracks}
 use Rattle.editor_state.specs.Points.{put_in, lacks}
+use Rattle.editor_state.specs.{declared.planned.Planned.Planned, Core.Core, Edits.IsEditCall}
+use Rattle.pcm_base.specs.declared.refusal.Refusal.TheVariants as refusal
 
 -- a track with another layout, which has this number
 abbrev pub with_layout : ℕ → Track → List Clip → Track

@@ -2,53 +2,36 @@
 use Rattle.std.proofs.Common.{◌≡◌, ◌⊎◌, inl, inr, refl, sym, ap, ◌∙◌, subst, ℕ, ◌-◌, nat_lt, nat_le, ◌==◌, ◌&&◌, ◌||◌}
 use Rattle.std.proofs.Common.{not, Bool, true, false, IsTrue, List, length, Option, Some, None, Ok, Err, arith}
 use Rattle.std.proofs.lemmas.Option.{none-some, same_Some}
-use Rattle.pcm_base.specs.declared.answer.Reply.TheVariants as reply
-use Rattle.pcm_base.specs.declared.command.Call.{Call}
-use Rattle.pcm_base.specs.declared.command.Call.TheVariants.{Line}
-use Rattle.pcm_base.specs.declared.command.Command.TheVariants as command
-use Rattle.pcm_base.specs.declared.refusal.Refusal.{Refusal}
-use Rattle.pcm_base.specs.declared.refusal.Refusal.TheVariants as refusal
-use Rattle.pcm_base.specs.declared.sound.Cell.{Cell}
-use Rattle.pcm_base.specs.declared.sound.Scan.{Scan}
-use Rattle.pcm_base.specs.Cells.{cells_at}
-use Rattle.pcm_base.specs.Edits.{part}
-use Rattle.pcm_base.specs.Envelope.{columns_of}
-use Rattle.pcm_base.specs.Pieces.{Sources}
 use Rattle.pcm_base.specs.Refusals.{◌otherwise◌, refused_if, call_tests, bad_range, bad_columns, bad_view}
 use Rattle.pcm_base.specs.Run.{outside, stop_of}
-use Rattle.pcm_base.specs.State.{current}
-use Rattle.pcm_base.specs.Studio as model
-use Rattle.disk_model.specs.Frames.{Kept}
-use Rattle.disk_model.specs.declared.store.Store.{Ghosts}
+use Rattle.pcm_base.specs.{declared.command.Call.Call, declared.command.Call.TheVariants.Line}
+use Rattle.pcm_base.specs.{declared.refusal.Refusal.Refusal, declared.sound.Cell.Cell, declared.sound.Scan.Scan}
+use Rattle.pcm_base.specs.{Cells.cells_at, Edits.part, Envelope.columns_of, Pieces.Sources, State.current}
+use Rattle.disk_model.specs.{Frames.Kept, declared.store.Store.Ghosts}
 use Rattle.disk_model.proofs.Frames.{Fewer}
 use Rattle.sample_block.specs.Sources.{sources_of}
-use Rattle.clip_track.specs.declared.clips.Clip.{Clip}
-use Rattle.clip_track.specs.Clips.{end_of, layout_blocks, layout_cells}
+use Rattle.clip_track.specs.{declared.clips.Clip.Clip, Clips.end_of, Clips.layout_blocks, Clips.layout_cells}
 use Rattle.clip_track.proofs.Layouts.{length-layout}
-use Rattle.block_store.specs.declared.fault.BlockFault.{BlockFault}
-use Rattle.block_store.specs.declared.fault.BlockFault.TheVariants as fault
-use Rattle.block_store.specs.Reads.{CountedBy, IsFaultIn}
-use Rattle.block_store.specs.Reasons.{reason_of}
+use Rattle.block_store.specs.{declared.fault.BlockFault.BlockFault, Reads.CountedBy, Reads.IsFaultIn, Reasons.reason_of}
 use Rattle.envelope_view.specs.Answers.{column_tests, IsDamagedIn, IsOfReads, IsCountedBy}
 use Rattle.envelope_view.proofs.AnswerLaws.{reason_damaged}
-use Rattle.project_state.specs.declared.track.Track.{Track}
-use Rattle.project_state.specs.Tracks.{track_of}
+use Rattle.project_state.specs.{declared.track.Track.Track, Tracks.track_of}
 use Rattle.block_cache.specs.Caches.{Entries}
-use Rattle.record_body.specs.Kept.{current_tracks}
-use Rattle.editor_state.specs.Core.{Core}
-use Rattle.editor_state.specs.Points.{lacks}
-use Rattle.editor_state.specs.Reads.{HasLayout}
+use Rattle.record_body.specs.Saved.{current_tracks}
 use Rattle.editor_state.specs.Studios.{IsHeld, IsStudio, named_blocks, studio_of}
-use Rattle.editor_state.specs.Took.{Took, quietly, silent}
-use Rattle.editor_commits.proofs.CursorTracks.{layout_named, track_there, layout_sound, layout_meant}
+use Rattle.editor_state.specs.{Core.Core, Points.lacks, Reads.HasLayout, Took.Took, Took.quietly, Took.silent}
+use Rattle.editor_commits.proofs.CursorTracks.{layout_named, track_there, layout_valid, layout_meant}
 use Rattle.editor_commits.proofs.CurrentProject.{current_meant, track_is}
 use Rattle.editor_state.proofs.Calls.LookCalls.{looked_ok, looked_failed, looked_own, looked_wanting}
-use Rattle.editor_state.proofs.Blocks.BlockDamage.{damage_among, fault_among}
-use Rattle.editor_state.proofs.Refusals.CallTests.{own, own_by}
 use Rattle.editor_state.proofs.Calls.QuietCalls.{IsQuiet, quiet_passes, carried, room_of, own_first, refused_own}
 use Rattle.editor_state.proofs.Calls.QuietCalls.{refused_stopped}
-use Rattle.editor_state.proofs.Refusals.CommitTests.{fits}
-use Rattle.editor_state.proofs.Blocks.CachePages.{ReadsNamed}
+use Rattle.editor_state.proofs.{Blocks.BlockDamage.damage_among, Blocks.BlockDamage.fault_among, Refusals.CallTests.own}
+use Rattle.editor_state.proofs.{Refusals.CallTests.own_by, Refusals.CommitTests.fits, Blocks.CachePages.ReadsNamed}
+use Rattle.pcm_base.specs.declared.answer.Reply.TheVariants as reply
+use Rattle.pcm_base.specs.declared.command.Command.TheVariants as command
+use Rattle.pcm_base.specs.declared.refusal.Refusal.TheVariants as refusal
+use Rattle.pcm_base.specs.Studio as model
+use Rattle.block_store.specs.declared.fault.BlockFault.TheVariants as fault
 
 -- a test of columns answers by one of two reasons, and no read was counted for it
 by_test : (a b : Bool) (why : Refusal) (old new : ℕ) → (refused_if a refusal.BadRange) otherwise
@@ -172,7 +155,7 @@ module _ {D : Type 0} (disk : Ghosts D) (s : Core D) (is : IsStudio disk s) (id 
       tests_are : call_tests (outside t silent) t.state scan ≡ column_tests from to columns (end_of 0 layout)
       tests_are =
           let len : length (cells_at id (current t.state)) ≡ end_of 0 layout = ap length (sym (cells_are layout has))
-          ∙ length-layout src layout (layout_sound disk s is id layout has).apart in
+          ∙ length-layout src layout (layout_valid disk s is id layout has).apart in
           scan_tests ∙ (λ i. ((track_there disk s is id layout has i) otherwise (beyond (len i))) otherwise uneven)
 
       pub scan_done : (found : List (Option Scan)) → column_tests from to columns (end_of 0 layout) ≡ None

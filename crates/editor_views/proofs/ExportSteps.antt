@@ -1,62 +1,44 @@
 -- An export: the mix of the current project as a sound of a vault, with nothing of the studio changed.
 use Rattle.std.proofs.Common.{◌≡◌, ◌⊎◌, inl, inr, ⊎_elim, refl, sym, ap, ◌∙◌, subst, ℕ, ◌+◌, ◌*◌, IsTrue, Option, Some}
 use Rattle.std.proofs.Common.{None, List, length, take, Ok, Err, arith}
-use Rattle.std.specs.Prelude.{IfErr}
 use Rattle.std.proofs.lemmas.Bool.{le-ltb, lt-ltb}
-use Rattle.pcm_base.specs.declared.answer.Reply.TheVariants as reply
-use Rattle.pcm_base.specs.declared.command.Call.{Call}
-use Rattle.pcm_base.specs.declared.command.Call.TheVariants.{Line}
-use Rattle.pcm_base.specs.declared.command.Command.TheVariants as command
-use Rattle.pcm_base.specs.declared.entry.SoundMove.{SoundMove}
-use Rattle.pcm_base.specs.declared.refusal.Refusal.{Refusal}
-use Rattle.pcm_base.specs.declared.refusal.Refusal.TheVariants as refusal
-use Rattle.pcm_base.specs.declared.sound.Frame.{Frame}
-use Rattle.pcm_base.specs.Cells.{Project}
-use Rattle.pcm_base.specs.Counters.{no_room}
-use Rattle.pcm_base.specs.Mix.{mix_of, mix_length}
-use Rattle.pcm_base.specs.Outside.{Outside}
+use Rattle.std.specs.Prelude.{IfErr}
 use Rattle.pcm_base.specs.Refusals.{◌otherwise◌, refused_if, too_long}
 use Rattle.pcm_base.specs.Run.{Answers, BreaksOff, CarriesOut, IsPartOfMix, followed, outside, refusal_of, stop_of}
-use Rattle.pcm_base.specs.State.{current}
-use Rattle.pcm_base.specs.Step.{mix_file}
-use Rattle.pcm_base.specs.Studio as model
-use Rattle.pcm_base.specs.Wave.{wav_text}
-use Rattle.disk_model.specs.Disk.{Files}
-use Rattle.disk_model.specs.Frames.{Kept}
-use Rattle.disk_model.specs.declared.store.Store.{Ghosts}
+use Rattle.pcm_base.specs.{declared.command.Call.Call, declared.command.Call.TheVariants.Line}
+use Rattle.pcm_base.specs.{declared.entry.SoundMove.SoundMove, declared.refusal.Refusal.Refusal}
+use Rattle.pcm_base.specs.{declared.sound.Frame.Frame, Cells.Project, Counters.no_room, Mix.mix_of, Mix.mix_length}
+use Rattle.pcm_base.specs.{Outside.Outside, State.current, Step.mix_file, Wave.wav_text}
+use Rattle.disk_model.specs.{Disk.Files, Frames.Kept, declared.store.Store.Ghosts}
 use Rattle.disk_model.proofs.Frames.{Fewer, changed_kept}
 use Rattle.sample_block.specs.Sources.{sources_of}
-use Rattle.block_store.specs.declared.fault.BlockFault.{BlockFault}
-use Rattle.block_store.specs.declared.fault.BlockFault.TheVariants as fault
-use Rattle.block_store.specs.Reads.{Counted, IsFaultIn}
+use Rattle.block_store.specs.{declared.fault.BlockFault.BlockFault, Reads.Counted, Reads.IsFaultIn}
 use Rattle.project_journal.specs.Gate.{EachSince}
-use Rattle.mix_view.specs.Tracks.{mix_length_of}
-use Rattle.record_body.specs.Kept.{current_tracks, Keeps}
+use Rattle.mix_reader.specs.Tracks.{mix_length_of}
+use Rattle.record_body.specs.Saved.{current_tracks, Keeps}
 use Rattle.project_state.specs.Meaning.{meant}
-use Rattle.wav_pcm.specs.Wavs.{FitsFile}
-use Rattle.wav_pcm.specs.Written.{MayBegin}
+use Rattle.wav_pcm.specs.{Wavs.FitsFile, Written.MayBegin}
 use Rattle.sound_export.specs.declared.fault.ExportFault.{ExportFault}
 use Rattle.sound_export.specs.declared.fault.ExportFault.TheVariants.{TooLong, Block, VaultFault}
-use Rattle.sound_export.specs.Written.{IsLengthFault, IsNoDamage, IsOfDevice, read_part}
-use Rattle.sound_export.specs.Written.{refusal_of as reason_of_export}
+use Rattle.sound_export.specs.Written.{IsLengthFault, IsNoDamage, IsOfDevice, read_part, refusal_of as reason_of_export}
 use Rattle.sound_export.proofs.GrowLaws.{length_mix}
 use Rattle.envelope_view.specs.Answers.{IsUndamaged}
 use Rattle.block_cache.specs.Caches.{Entries}
-use Rattle.editor_state.specs.Core.{Core}
-use Rattle.editor_state.specs.Left.{IsSoOf, Left}
 use Rattle.editor_state.specs.Studios.{IsHeld, IsStudio, named_blocks, shown, studio_by, studio_of}
-use Rattle.editor_state.specs.Took.{Took, with_sound}
-use Rattle.editor_commits.proofs.CurrentProject.{current_meant, current_sound}
-use Rattle.editor_state.proofs.Images.ImageProjects.{keeps_now}
-use Rattle.editor_state.proofs.Refusals.RefusalEffects.{left_read}
+use Rattle.editor_state.specs.{Core.Core, Left.IsSoOf, Left.Left, Took.Took, Took.with_sound, Spent.Needed}
+use Rattle.editor_commits.proofs.CurrentProject.{current_meant, current_valid}
 use Rattle.editor_state.proofs.Calls.LookCalls.{looked, looked_held, looked_studio}
 use Rattle.editor_state.proofs.Calls.OtherFiles.{NoneGoes, others_none}
 use Rattle.editor_state.proofs.Calls.FileRemovals.{ids_same, no_record, none_given}
-use Rattle.editor_state.proofs.Refusals.CommitTests.{fits}
 use Rattle.editor_state.proofs.Refusals.EarlyRefusals.{refuses, stopped_not}
+use Rattle.editor_state.proofs.{Images.ImageProjects.keeps_now, Refusals.RefusalEffects.left_read}
+use Rattle.editor_state.proofs.{Refusals.CommitTests.fits, Blocks.CachePages.ReadsNamed}
 use Rattle.editor_views.proofs.ExportLengths.{length_text, mix_len_by}
-use Rattle.editor_state.proofs.Blocks.CachePages.{ReadsNamed}
-use Rattle.editor_state.specs.Spent.{Needed}
+use Rattle.pcm_base.specs.declared.answer.Reply.TheVariants as reply
+use Rattle.pcm_base.specs.declared.command.Command.TheVariants as command
+use Rattle.pcm_base.specs.declared.refusal.Refusal.TheVariants as refusal
+use Rattle.pcm_base.specs.Studio as model
+use Rattle.block_store.specs.declared.fault.BlockFault.TheVariants as fault
 
 -- a fault where the disk has all blocks shows no damaged file
 abbrev is_disk : BlockFault → Type 0
@@ -91,7 +73,7 @@ module _ {D : Type 0} (disk : Ghosts D) (s : Core D) (is : IsStudio disk s) (nam
   export_len =
       let src = sources_of (disk.reads s.store) in
       sym (mix_len_by src s.block_size s.next_block s.next_track (current_tracks s.history)
-      (current_sound disk s is).sound)
+      (current_valid disk s is).valid)
       ∙ sym (length_mix (meant src (current_tracks s.history)))
 
   len_is : mix_length (current t.state) ≡ length point_mix

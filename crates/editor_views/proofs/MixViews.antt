@@ -1,58 +1,40 @@
 -- Hearing frames of the mix of the current project, or of a pin.
-use Rattle.std.proofs.Common.{◌≡◌, ⊎_elim, refl, sym, ap, ◌∙◌, ℕ, zero, suc, ◌+◌, ◌-◌, min, IsTrue, List, length}
-use Rattle.std.proofs.Common.{length-drop, take, drop, Some, None, Ok, Err, arith}
-use Rattle.std.proofs.lemmas.Bool.{cases_lt}
-use Rattle.std.proofs.lemmas.List.{length-map, take_all}
-use Rattle.pcm_base.specs.declared.answer.Reply.TheVariants as reply
-use Rattle.pcm_base.specs.declared.command.Call.{Call}
+use Rattle.std.proofs.Common.{◌≡◌, ⊎_elim, refl, sym, ap, ◌∙◌, ℕ, ◌-◌, min, IsTrue, List, length, length-drop, take}
+use Rattle.std.proofs.Common.{drop, Some, None, Ok, Err, arith}
+use Rattle.std.proofs.{lemmas.Bool.cases_lt, lemmas.List.length-map, lemmas.List.take_all}
 use Rattle.pcm_base.specs.declared.command.Call.TheVariants.{Line, PinLen, ReadPin}
-use Rattle.pcm_base.specs.declared.command.Command.TheVariants as command
-use Rattle.pcm_base.specs.declared.refusal.Refusal.{Refusal}
-use Rattle.pcm_base.specs.declared.refusal.Refusal.TheVariants as refusal
-use Rattle.pcm_base.specs.declared.sound.Frame.{Frame}
-use Rattle.pcm_base.specs.Arithmetic.{counted_from}
-use Rattle.pcm_base.specs.Cells.{Project}
-use Rattle.pcm_base.specs.Edits.{part}
 use Rattle.pcm_base.specs.Mix.{mix_of, mix_length, frame_at}
-use Rattle.pcm_base.specs.Pieces.{Sources}
-use Rattle.pcm_base.specs.Refusals.{bad_view}
-use Rattle.pcm_base.specs.Run.{stop_of}
-use Rattle.pcm_base.specs.Studio as model
-use Rattle.disk_model.specs.Frames.{Kept}
-use Rattle.disk_model.specs.declared.store.Store.{Ghosts}
+use Rattle.pcm_base.specs.{declared.command.Call.Call, declared.refusal.Refusal.Refusal, declared.sound.Frame.Frame}
+use Rattle.pcm_base.specs.{Arithmetic.counted_from, Cells.Project, Edits.part, Pieces.Sources, Refusals.bad_view}
+use Rattle.pcm_base.specs.{Run.stop_of}
+use Rattle.disk_model.specs.{Frames.Kept, declared.store.Store.Ghosts}
 use Rattle.disk_model.proofs.Frames.{Fewer}
 use Rattle.sample_block.specs.Sources.{sources_of}
-use Rattle.block_store.specs.declared.fault.BlockFault.{BlockFault}
-use Rattle.block_store.specs.Reads.{CountedBy, IsFaultIn}
-use Rattle.block_store.specs.Reasons.{reason_of}
+use Rattle.block_store.specs.{declared.fault.BlockFault.BlockFault, Reads.CountedBy, Reads.IsFaultIn, Reasons.reason_of}
 use Rattle.envelope_view.proofs.AnswerLaws.{reason_damaged}
-use Rattle.mix_view.specs.Tracks.{mix_length_of}
-use Rattle.project_state.specs.declared.track.Track.{Track}
-use Rattle.record_body.specs.Kept.{current_tracks}
-use Rattle.project_state.specs.Meaning.{meant, point_blocks}
+use Rattle.mix_reader.specs.Tracks.{mix_length_of}
+use Rattle.project_state.specs.{declared.track.Track.Track, Meaning.meant, Meaning.point_blocks}
+use Rattle.record_body.specs.Saved.{current_tracks}
 use Rattle.block_cache.specs.Caches.{Entries}
-use Rattle.editor_state.specs.Core.{Core}
-use Rattle.editor_views.specs.Pins.{LacksPin, MayFind}
 use Rattle.editor_state.specs.Studios.{IsHeld, IsStudio, named_blocks, studio_of}
-use Rattle.editor_state.specs.Took.{Took, quietly}
-use Rattle.editor_commits.proofs.CursorTracks.{current_named}
-use Rattle.editor_commits.proofs.CurrentProject.{current_meant}
+use Rattle.editor_state.specs.{Core.Core, Took.Took, Took.quietly}
+use Rattle.editor_views.specs.Pins.{LacksPin, MayFind}
+use Rattle.editor_commits.proofs.{CursorTracks.current_named, CurrentProject.current_meant}
 use Rattle.editor_state.proofs.Calls.LookCalls.{looked_ok, looked_failed}
-use Rattle.editor_state.proofs.Blocks.BlockDamage.{fault_among}
 use Rattle.editor_state.proofs.Calls.QuietCalls.{IsQuiet, quiet_passes, carried, room_of, refused_own, refused_stopped}
 use Rattle.editor_state.proofs.Calls.QuietCalls.{stays_answered}
-use Rattle.editor_state.proofs.Refusals.CommitTests.{fits}
+use Rattle.editor_state.proofs.{Blocks.BlockDamage.fault_among, Refusals.CommitTests.fits, Blocks.CachePages.ReadsNamed}
 use Rattle.editor_views.proofs.UnpinSteps.{lacks_own, pin_meant, pin_named, has_own}
-use Rattle.editor_state.proofs.Blocks.CachePages.{ReadsNamed}
-
-counted_length : (from n : ℕ) → length (counted_from from n) ≡ n
-counted_length from zero = refl
-counted_length from (suc n) = omega (arith, counted_length (from + 1) n)
+use Rattle.pcm_base.proofs.ListFacts.{length-counted_from}
+use Rattle.pcm_base.specs.declared.answer.Reply.TheVariants as reply
+use Rattle.pcm_base.specs.declared.command.Command.TheVariants as command
+use Rattle.pcm_base.specs.declared.refusal.Refusal.TheVariants as refusal
+use Rattle.pcm_base.specs.Studio as model
 
 frames_count : (p : Project) → length (mix_of p) ≡ mix_length p
-frames_count p = length-map (counted_from 0 (mix_length p)) (frame_at p) ∙ counted_length 0 (mix_length p)
+frames_count p = length-map (counted_from 0 (mix_length p)) (frame_at p) ∙ length-counted_from 0 (mix_length p)
 
-take_few : {A : Type 0} (n most : ℕ) (xs : List A) → n ≡ min most (length xs) → take n xs ≡ take most xs
+pub take_few : {A : Type 0} (n most : ℕ) (xs : List A) → n ≡ min most (length xs) → take n xs ≡ take most xs
 take_few n most xs few = ⊎_elim
     (λ less. take_all n xs (omega (arith, few, less)) ∙ sym (take_all most xs (omega (arith, less))))
     (λ more. ap (λ (k : ℕ). take k xs) (omega (arith, few, more)))
@@ -146,8 +128,7 @@ module _ {D : Type 0} (disk : Ghosts D) (s : Core D) (is : IsStudio disk s) (few
     measured going point n found len =
         let room = room_of disk s (PinLen pin) is in
         let passed = quiet_passes t (PinLen pin) len_quiet room refl (ap stop_of going)
-        (has_own disk s is pin point found)
-        (fits s.next_pin 0 (omega (arith, is.counters.pin_most))) in
+        (has_own disk s is pin point found) (fits s.next_pin 0 (omega (arith, is.counters.pin_most))) in
         stays_answered disk s (PinLen pin) len_quiet tt is fewer tt (reply.Length n)
         (λ held. carried t (PinLen pin) len_quiet room refl (reply.Length n) t passed (
           meant src point,

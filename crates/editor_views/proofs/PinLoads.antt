@@ -1,47 +1,35 @@
 -- Loading a pin is a step that changes nothing but the pages that are kept.
-use Rattle.std.proofs.Common.{◌≡◌, refl, sym, ap, subst, ◌∙◌, map, ℕ, ◌-◌, min, IsTrue, List, Some, None, Ok, Err, arith}
+use Rattle.std.proofs.Common.{◌≡◌, refl, sym, ap, subst, ◌∙◌, map, ℕ, ◌-◌, min, IsTrue, List, Some, None, Ok, Err}
+use Rattle.std.proofs.Common.{arith}
 use Rattle.std.specs.Prelude.{IfErr}
-use Rattle.pcm_base.specs.declared.answer.Reply.TheVariants as reply
-use Rattle.pcm_base.specs.declared.command.Call.{Call}
-use Rattle.pcm_base.specs.declared.command.Call.TheVariants.{LoadPin}
-use Rattle.pcm_base.specs.declared.lists.LoadedTrack.{LoadedTrack}
-use Rattle.pcm_base.specs.declared.refusal.Refusal.{Refusal}
-use Rattle.pcm_base.specs.declared.refusal.Refusal.TheVariants as refusal
 use Rattle.pcm_base.specs.Mix.{loaded_of, loaded_track, mix_length, unmuted}
-use Rattle.pcm_base.specs.Pieces.{Sources}
-use Rattle.pcm_base.specs.Run.{stop_of}
-use Rattle.pcm_base.specs.Studio as model
-use Rattle.disk_model.specs.Frames.{Kept}
-use Rattle.disk_model.specs.declared.store.Store.{Ghosts}
+use Rattle.pcm_base.specs.{declared.command.Call.Call, declared.command.Call.TheVariants.LoadPin}
+use Rattle.pcm_base.specs.{declared.lists.LoadedTrack.LoadedTrack, Pieces.Sources, Run.stop_of}
+use Rattle.disk_model.specs.{Frames.Kept, declared.store.Store.Ghosts}
 use Rattle.disk_model.proofs.Frames.{Fewer}
 use Rattle.sample_block.specs.Sources.{sources_of}
 use Rattle.block_cache.specs.Caches.{Entries}
-use Rattle.block_store.specs.declared.fault.BlockFault.{BlockFault}
 use Rattle.block_store.specs.Reads.{Counted, CountedBy, IsFaultIn}
-use Rattle.block_store.specs.Reasons.{reason_of}
+use Rattle.block_store.specs.{declared.fault.BlockFault.BlockFault, Reasons.reason_of}
 use Rattle.envelope_view.proofs.AnswerLaws.{reason_damaged}
-use Rattle.mixdown.specs.declared.loaded.Loaded.{Loaded}
-use Rattle.mixdown.specs.Loads.{IsLoaded, Shows, tracks_in}
+use Rattle.mixdown.specs.{declared.loaded.Loaded.Loaded, Loads.IsLoaded, Loads.Shows, Loads.tracks_in}
 use Rattle.mixdown.proofs.LoadLaws.{shown_tracks}
-use Rattle.mix_view.specs.declared.loads.LoadFault.{LoadFault}
-use Rattle.mix_view.specs.declared.loads.LoadFault.TheVariants.{Block, NoMemory}
-use Rattle.mix_view.specs.Heard.{IsNoDamage, disk_part, refusal_of}
-use Rattle.mix_view.specs.Tracks.{mix_length_of}
-use Rattle.project_state.specs.declared.track.Track.{Track}
-use Rattle.project_state.specs.Meaning.{meant, point_blocks}
-use Rattle.editor_state.specs.Core.{Core}
-use Rattle.editor_views.specs.Pins.{LacksPin, MayFind}
-use Rattle.editor_state.specs.Reads.{Looks}
+use Rattle.mix_reader.specs.declared.loads.LoadFault.TheVariants.{Block, NoMemory}
+use Rattle.mix_reader.specs.Heard.{IsNoDamage, disk_part, refusal_of}
+use Rattle.mix_reader.specs.{declared.loads.LoadFault.LoadFault, Tracks.mix_length_of}
+use Rattle.project_state.specs.{declared.track.Track.Track, Meaning.meant, Meaning.point_blocks}
 use Rattle.editor_state.specs.Studios.{IsHeld, IsStudio, named_blocks, studio_of}
-use Rattle.editor_state.specs.Took.{Took, quietly, silent}
+use Rattle.editor_state.specs.{Core.Core, Reads.Looks, Took.Took, Took.quietly, Took.silent}
+use Rattle.editor_views.specs.Pins.{LacksPin, MayFind}
 use Rattle.editor_state.proofs.Calls.LookCalls.{looked_ok, looked_failed, looked_wanting}
-use Rattle.editor_state.proofs.Blocks.BlockDamage.{fault_among}
 use Rattle.editor_state.proofs.Calls.QuietCalls.{IsQuiet, quiet_passes, carried, room_of, refused_own, refused_stopped}
 use Rattle.editor_state.proofs.Calls.LookAnswers.{undamaged, unread_looks}
-use Rattle.editor_state.proofs.Refusals.CommitTests.{fits}
-use Rattle.editor_state.proofs.Refusals.EarlyRefusals.{wants}
-use Rattle.editor_state.proofs.Blocks.CachePages.{ReadsNamed}
+use Rattle.editor_state.proofs.{Blocks.BlockDamage.fault_among, Refusals.CommitTests.fits, Refusals.EarlyRefusals.wants}
+use Rattle.editor_state.proofs.{Blocks.CachePages.ReadsNamed}
 use Rattle.editor_views.proofs.UnpinSteps.{lacks_own, pin_meant, pin_named, has_own}
+use Rattle.pcm_base.specs.declared.answer.Reply.TheVariants as reply
+use Rattle.pcm_base.specs.declared.refusal.Refusal.TheVariants as refusal
+use Rattle.pcm_base.specs.Studio as model
 
 -- as many frames as there are
 pub loaded_many : (src : Sources) (ts : List Track) (from most : ℕ) (l : Loaded) → IsLoaded l
@@ -124,10 +112,10 @@ module _ {D : Type 0} (disk : Ghosts D) (s : Core D) (is : IsStudio disk s) (few
         → IfErr (disk_part {T = ℕ} (Err why)) (λ e. IsFaultIn (disk.reads s.store) (point_blocks point) e))
         → (IsHeld disk s → IsNoDamage why) → (why ≡ NoMemory → (store ≡ s.store) × (cache ≡ s.cache))
         → Looks disk s load (Err (refusal_of why)) (record s { store = store; cache = cache })
-    load_looks (Block why) counted damaged sound memory =
-        unread_looks disk s load store kept cache (reason_of why) (λ held. undamaged why (sound held))
+    load_looks (Block why) counted damaged valid memory =
+        unread_looks disk s load store kept cache (reason_of why) (λ held. undamaged why (valid held))
         (load_failed why counted damaged)
-    load_looks NoMemory counted damaged sound memory =
+    load_looks NoMemory counted damaged valid memory =
         let same = memory refl in
         let wanted : Took disk s (quietly load (Err refusal.NoMemory)) (record s { store = s.store; cache = cache }) =
         subst (λ (e : Entries). Took disk s (quietly load (Err refusal.NoMemory)) (record s {

@@ -1,27 +1,16 @@
 -- Reading as many frames of a pin as there are, up to a number, is reading that number.
-use Rattle.std.proofs.Common.{◌≡◌, ⊎_elim, inl, inr, sym, ap, ◌∙◌, ℕ, ◌-◌, min, List, length, length-drop}
-use Rattle.std.proofs.Common.{take, drop, Some, Ok, arith}
-use Rattle.std.proofs.lemmas.Bool.{cases_lt}
-use Rattle.std.proofs.lemmas.List.{take_all}
+use Rattle.std.proofs.Common.{◌≡◌, ⊎_elim, inl, inr, sym, ap, ◌∙◌, ℕ, ◌-◌, min, length-drop, take, drop, Some, Ok}
+use Rattle.std.proofs.Common.{arith}
 use Rattle.std.proofs.lemmas.Option.{same_Some}
-use Rattle.pcm_base.specs.declared.answer.Reply.{Reply}
-use Rattle.pcm_base.specs.declared.answer.Reply.TheVariants as reply
 use Rattle.pcm_base.specs.declared.command.Call.TheVariants.{PinLen, ReadPin}
-use Rattle.pcm_base.specs.Cells.{Project}
 use Rattle.pcm_base.specs.Mix.{mix_of, mix_length}
-use Rattle.pcm_base.specs.Run.{CarriesOut}
-use Rattle.pcm_base.specs.Studio as model
+use Rattle.pcm_base.specs.{declared.answer.Reply.Reply, Cells.Project, Run.CarriesOut}
 use Rattle.disk_model.specs.declared.store.Store.{Ghosts}
 use Rattle.sound_export.proofs.GrowLaws.{length_mix}
-use Rattle.editor_state.specs.Core.{Core}
-use Rattle.editor_state.specs.Studios.{IsHeld, studio_of}
-use Rattle.editor_state.specs.Took.{Took, quietly, silent}
-
-take_few : {A : Type 0} (n most : ℕ) (xs : List A) → n ≡ min most (length xs) → take n xs ≡ take most xs
-take_few n most xs few = ⊎_elim
-    (λ less. take_all n xs (omega (arith, few, less)) ∙ sym (take_all most xs (omega (arith, less))))
-    (λ some. let same : n ≡ most = omega (arith, few, some) in ap (λ (k : ℕ). take k xs) same)
-    (cases_lt (length xs) most)
+use Rattle.editor_state.specs.{Core.Core, Studios.IsHeld, Studios.studio_of, Took.Took, Took.quietly, Took.silent}
+use Rattle.editor_views.proofs.MixViews.{take_few}
+use Rattle.pcm_base.specs.declared.answer.Reply.TheVariants as reply
+use Rattle.pcm_base.specs.Studio as model
 
 abbrev frames_in : Reply → ℕ
 frames_in (reply.Length n) = n

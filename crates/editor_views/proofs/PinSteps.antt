@@ -1,47 +1,35 @@
 -- A pin is a step: the current project is named once more.
-use Rattle.std.proofs.Common.{◌≡◌, inl, inr, refl, sym, ap, ◌∙◌, subst, ℕ, ◌+◌, ◌^◌, ◌<◌, List, [], ◌∷◌, ◌++◌, Some, None}
-use Rattle.std.proofs.Common.{Ok, Err, arith, append_assoc, length, IsSome, ◌↔◌}
-use Rattle.std.specs.List.{AllByRecursion}
+use Rattle.std.proofs.Common.{◌≡◌, inl, inr, refl, sym, ap, ◌∙◌, subst, ℕ, ◌+◌, ◌^◌, ◌<◌, List, [], ◌∷◌, ◌++◌, Some}
+use Rattle.std.proofs.Common.{None, Ok, Err, arith, append_assoc, length, IsSome, ◌↔◌}
 use Rattle.std.proofs.lemmas.List.{append-nil}
-use Rattle.pcm_base.specs.declared.answer.Reply.TheVariants.{Pinned}
-use Rattle.pcm_base.specs.declared.block.BlockRef.{BlockRef}
-use Rattle.pcm_base.specs.declared.command.Call.TheVariants.{Pin as Keep}
-use Rattle.pcm_base.specs.declared.refusal.Refusal.TheVariants as refusal
-use Rattle.pcm_base.specs.Cells.{Project}
-use Rattle.pcm_base.specs.Pieces.{Sources}
-use Rattle.pcm_base.specs.Run.{outside, stop_of}
-use Rattle.pcm_base.specs.Step.{after, with_pin}
-use Rattle.pcm_base.specs.Studio as model
+use Rattle.std.specs.List.{AllByRecursion}
+use Rattle.pcm_base.specs.{declared.answer.Reply.TheVariants.Pinned, declared.block.BlockRef.BlockRef}
+use Rattle.pcm_base.specs.{declared.command.Call.TheVariants.Pin as Keep, Cells.Project, Pieces.Sources, Run.outside}
+use Rattle.pcm_base.specs.{Run.stop_of, Step.after, Step.with_pin}
 use Rattle.disk_model.specs.declared.store.Store.{Ghosts}
 use Rattle.disk_model.proofs.Frames.{Fewer}
 use Rattle.sample_block.specs.Sources.{sources_of}
-use Rattle.block_ledger.specs.Counts.{Counts}
-use Rattle.block_ledger.specs.Entries.{count_of}
-use Rattle.project_state.specs.declared.track.Track.{Track}
-use Rattle.record_body.specs.Kept.{current_tracks}
-use Rattle.project_state.specs.Meaning.{point_blocks, history_blocks}
-use Rattle.record_body.specs.KeptSound.{IsSoundPoint}
-use Rattle.record_body.proofs.KeptBounds.{all_append}
-use Rattle.editor_state.specs.Core.{Core}
-use Rattle.editor_state.specs.declared.pin.Pin.{Pin}
-use Rattle.layout_uses.specs.declared.tally.Tally.{Tally}
-use Rattle.layout_uses.specs.Layouts.{AreDrawn, AreNumbered, history_tracks}
-use Rattle.layout_uses.specs.Tallies.{AreCounts, Comes, IsTally}
-use Rattle.layout_uses.proofs.Moves.{counts_swapped, drawn_swapped, numbered_swapped}
-use Rattle.layout_uses.proofs.Numbers.{shared_agree}
-use Rattle.layout_uses.proofs.Putting.{same_numbers}
+use Rattle.block_ledger.specs.{Counts.Counts, Entries.count_of}
+use Rattle.project_state.specs.{declared.track.Track.Track, Meaning.point_blocks, Meaning.history_blocks}
+use Rattle.record_body.specs.{Saved.current_tracks, SavedValid.IsValidPoint}
+use Rattle.record_body.proofs.SavedBounds.{all_append}
 use Rattle.editor_state.specs.Studios.{IsStudio, pin_at, pin_blocks, pin_tracks, clip_blocks, named_blocks, studio_of}
 use Rattle.editor_state.specs.Studios.{studio_tracks}
-use Rattle.editor_state.specs.Took.{Took, quietly, silent}
-use Rattle.editor_commits.proofs.CurrentProject.{current_sound, current_meant, old_names}
+use Rattle.editor_state.specs.{Core.Core, declared.pin.Pin.Pin, Took.Took, Took.quietly, Took.silent}
+use Rattle.layout_uses.specs.{declared.tally.Tally.Tally, Layouts.AreDrawn, Layouts.AreNumbered, Layouts.history_tracks}
+use Rattle.layout_uses.specs.{Tallies.AreCounts, Tallies.Comes, Tallies.IsTally}
+use Rattle.layout_uses.proofs.Moves.{counts_swapped, drawn_swapped, numbered_swapped}
+use Rattle.layout_uses.proofs.{Numbers.shared_agree, Putting.same_numbers}
+use Rattle.editor_commits.proofs.CurrentProject.{current_valid, current_meant, old_names}
 use Rattle.editor_state.proofs.Blocks.NamedBlocks.{current_among, tracks_few, tracks_more}
-use Rattle.editor_state.proofs.Lists.{all_left, all_right}
 use Rattle.editor_state.proofs.Calls.NameChanges.{renamed, Renames, renamed_took}
-use Rattle.editor_views.proofs.PinNumbers.{rise_more, with_one, blocks_more}
 use Rattle.editor_state.proofs.Calls.QuietCalls.{IsQuiet, quiet_passes, pins_spent, carried, room_of, refused_by}
 use Rattle.editor_state.proofs.Calls.QuietCalls.{refused_stopped, refused_wanting}
-use Rattle.editor_state.proofs.Refusals.CommitTests.{fits, spends}
-use Rattle.editor_state.proofs.Refusals.EarlyRefusals.{stopped_not}
+use Rattle.editor_state.proofs.{Lists.all_left, Lists.all_right, Refusals.CommitTests.fits, Refusals.CommitTests.spends}
+use Rattle.editor_state.proofs.{Refusals.EarlyRefusals.stopped_not}
+use Rattle.editor_views.proofs.PinNumbers.{rise_more, with_one, blocks_more}
+use Rattle.pcm_base.specs.declared.refusal.Refusal.TheVariants as refusal
+use Rattle.pcm_base.specs.Studio as model
 
 pub pin_quiet : IsQuiet Keep
 pin_quiet = record {
@@ -94,8 +82,7 @@ module _ {D : Type 0} (disk : Ghosts D) (s : Core D) (is : IsStudio disk s) (few
 
   module _ (tally tally' : Tally) (uses_are : count_of tally.uses ≡ s.uses) (counts_are : count_of tally.ledger
       ≡ s.counts)
-      (came : Comes current tally tally') (room : s.next_pin < 2 ^ 62)
-      (going : s.stopped ≡ None) where
+      (came : Comes current tally tally') (room : s.next_pin < 2 ^ 62) (going : s.stopped ≡ None) where
     abbrev uses : Counts
     uses = count_of tally'.uses
 
@@ -112,12 +99,11 @@ module _ {D : Type 0} (disk : Ghosts D) (s : Core D) (is : IsStudio disk s) (few
         is.counted)
 
     few : length current + length (studio_tracks s) < 2 ^ 128
-    few = omega (arith, tracks_few disk s is, (current_sound disk s is).few)
+    few = omega (arith, tracks_few disk s is, (current_valid disk s is).few)
 
     counted_front : IsTally (current ++ (studio_tracks s ++ [])) (clip_blocks s.clipboard) tally'
     counted_front = subst (λ (ts : List Track). IsTally (current ++ ts) (clip_blocks s.clipboard) tally')
-        (sym (append-nil (studio_tracks s)))
-        (came.counted (studio_tracks s) (clip_blocks s.clipboard) few was)
+        (sym (append-nil (studio_tracks s))) (came.counted (studio_tracks s) (clip_blocks s.clipboard) few was)
 
     pin_renames : Renames s s.clipboard pins (s.next_pin + 1) uses counts
     pin_renames = record {
@@ -130,8 +116,8 @@ module _ {D : Type 0} (disk : Ghosts D) (s : Core D) (is : IsStudio disk s) (few
       numbers = rise_more 1 s.next_pin s.pins current is.numbers is.counters.pin_least;
       pin_least = omega arith;
       pin_most = omega (arith, room);
-      sound = all_append (λ (p : Pin). IsSoundPoint s.block_size s.next_block s.next_track p.point) s.pins
-          (one ∷ []) is.pins (current_sound disk s is, tt);
+      valid = all_append (λ (p : Pin). IsValidPoint s.block_size s.next_block s.next_track p.point) s.pins
+          (one ∷ []) is.pins (current_valid disk s is, tt);
       few_clips = is.few_clips;
       clip_fits = is.clipboard;
       numbered = subst AreNumbered (swapped ∙ sym more_tracks)

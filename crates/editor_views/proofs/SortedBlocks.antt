@@ -1,14 +1,13 @@
 -- Blocks that are sorted by their ids, and of which each is kept once.
 use Rattle.std.proofs.Common.{◌≡◌, ◌≢◌, ◌∙◌, refl, sym, ap, subst, ℕ, zero, suc, ◌+◌, ◌≤◌, ◌<◌, ◌==◌, List, [], ◌∷◌}
 use Rattle.std.proofs.Common.{Bool, true, false, cond, inl, inr, arith}
-use Rattle.std.specs.Prelude.{◌&&◌, Contains, slice_index, slice_index_or}
 use Rattle.std.proofs.lemmas.Bool.{cases_Bool, eqb-true, eqb-false}
-use Rattle.std.specs.Cmp.{IsEquivalence}
-use Rattle.std.specs.List.{AllByRecursion, dedup, dedup_from}
-use Rattle.std.specs.List.Sorted.{IsNonDecreasingBy, IsPermutation, IsStrictlyIncreasing}
 use Rattle.std.proofs.lemmas.List.Elements.{All-contains_itself, All-from_recursion, recursion_from_All}
 use Rattle.std.proofs.lemmas.List.Kept.{Contains-dedup, Contains-from_dedup}
 use Rattle.std.proofs.lemmas.List.Sorted.{Contains-permutation, IsPermutation-sym}
+use Rattle.std.specs.Prelude.{◌&&◌, Contains, slice_index, slice_index_or}
+use Rattle.std.specs.{Cmp.IsEquivalence, List.AllByRecursion, List.dedup, List.dedup_from}
+use Rattle.std.specs.{List.Sorted.IsNonDecreasingBy, List.Sorted.IsPermutation, List.Sorted.IsStrictlyIncreasing}
 use Rattle.pcm_base.specs.declared.block.BlockRef.{BlockRef}
 use Rattle.editor_views.specs.Scans.{AreListed, HaveOneLength}
 use Rattle.editor_state.specs.Studios.{ids_of}

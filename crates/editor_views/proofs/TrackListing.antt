@@ -1,29 +1,22 @@
 -- Telling of the tracks.
 use Rattle.std.proofs.Common.{◌≡◌, refl, sym, ap, ◌∙◌, ℕ, List, [], ◌∷◌, ◌++◌, map, Some, None, Ok, Err, arith}
-use Rattle.pcm_base.specs.declared.answer.Reply.TheVariants as reply
-use Rattle.pcm_base.specs.declared.command.Call.{Call}
-use Rattle.pcm_base.specs.declared.command.Call.TheVariants.{Line}
-use Rattle.pcm_base.specs.declared.command.Command.TheVariants as command
-use Rattle.pcm_base.specs.declared.refusal.Refusal.TheVariants as refusal
-use Rattle.pcm_base.specs.declared.sound.TrackLine.{TrackLine}
-use Rattle.pcm_base.specs.Cells.{Project}
-use Rattle.pcm_base.specs.Pieces.{Sources}
-use Rattle.pcm_base.specs.Run.{stop_of}
-use Rattle.pcm_base.specs.Step.{line_of_track}
-use Rattle.pcm_base.specs.Studio as model
+use Rattle.pcm_base.specs.{declared.command.Call.Call, declared.command.Call.TheVariants.Line}
+use Rattle.pcm_base.specs.{declared.sound.TrackLine.TrackLine, Cells.Project, Pieces.Sources, Run.stop_of}
+use Rattle.pcm_base.specs.{Step.line_of_track}
 use Rattle.disk_model.specs.declared.store.Store.{Ghosts}
 use Rattle.disk_model.proofs.Frames.{Fewer}
 use Rattle.sample_block.specs.Sources.{sources_of}
-use Rattle.project_state.specs.declared.track.Track.{Track}
-use Rattle.record_body.specs.Kept.{current_tracks}
-use Rattle.project_state.specs.Meaning.{meant, meant_track}
-use Rattle.editor_state.specs.Core.{Core}
-use Rattle.editor_state.specs.Studios.{IsStudio, studio_of}
-use Rattle.editor_state.specs.Took.{Took, quietly}
+use Rattle.project_state.specs.{declared.track.Track.Track, Meaning.meant, Meaning.meant_track}
+use Rattle.record_body.specs.Saved.{current_tracks}
+use Rattle.editor_state.specs.{Core.Core, Studios.IsStudio, Studios.studio_of, Took.Took, Took.quietly}
 use Rattle.editor_commits.proofs.CurrentProject.{current_meant}
 use Rattle.editor_state.proofs.Calls.QuietCalls.{IsQuiet, quiet_passes, carried, room_of, refused_stopped}
 use Rattle.editor_state.proofs.Calls.QuietCalls.{refused_wanting, stays_answered}
 use Rattle.editor_state.proofs.Refusals.CommitTests.{fits}
+use Rattle.pcm_base.specs.declared.answer.Reply.TheVariants as reply
+use Rattle.pcm_base.specs.declared.command.Command.TheVariants as command
+use Rattle.pcm_base.specs.declared.refusal.Refusal.TheVariants as refusal
+use Rattle.pcm_base.specs.Studio as model
 
 -- one track more
 pub lines_more : (src : Sources) (us : List Track) (t : Track) → map line_of_track (meant src (us ++ t ∷ []))

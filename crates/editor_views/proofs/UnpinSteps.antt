@@ -1,47 +1,34 @@
 -- Letting a pin go is a step; and what holds of a pin that is found.
-use Rattle.std.proofs.Common.{◌≡◌, refl, sym, ap, ◌∙◌, subst, ℕ, List, ◌∷◌, ◌++◌, Option, Some, None}
-use Rattle.std.proofs.Common.{Contains, Ok, Err, append_assoc, IsSome, ◌↔◌, arith}
-use Rattle.std.specs.Prelude.{is_none}
-use Rattle.std.specs.List.{AllByRecursion}
-use Rattle.pcm_base.specs.declared.answer.Reply.TheVariants.{Done}
-use Rattle.pcm_base.specs.declared.block.BlockRef.{BlockRef}
-use Rattle.pcm_base.specs.declared.command.Call.TheVariants.{Unpin}
-use Rattle.pcm_base.specs.declared.refusal.Refusal.TheVariants as refusal
-use Rattle.pcm_base.specs.Cells as cells
-use Rattle.pcm_base.specs.Pieces.{Sources}
-use Rattle.pcm_base.specs.Refusals.{refused_if}
-use Rattle.pcm_base.specs.Run.{outside}
+use Rattle.std.proofs.Common.{◌≡◌, refl, sym, ap, ◌∙◌, subst, ℕ, List, ◌∷◌, ◌++◌, Option, Some, None, Contains, Ok, Err}
+use Rattle.std.proofs.Common.{append_assoc, IsSome, ◌↔◌, arith}
+use Rattle.std.specs.{Prelude.is_none, List.AllByRecursion}
 use Rattle.pcm_base.specs.Step.{after, without_pin}
-use Rattle.pcm_base.specs.Studio as model
+use Rattle.pcm_base.specs.{declared.answer.Reply.TheVariants.Done, declared.block.BlockRef.BlockRef}
+use Rattle.pcm_base.specs.{declared.command.Call.TheVariants.Unpin, Pieces.Sources, Refusals.refused_if, Run.outside}
 use Rattle.disk_model.specs.declared.store.Store.{Ghosts}
 use Rattle.disk_model.proofs.Frames.{Fewer}
 use Rattle.sample_block.specs.Sources.{sources_of, IsWhole, AllNamed, AllWhole}
-use Rattle.block_ledger.specs.Counts.{Counts}
-use Rattle.block_ledger.specs.Entries.{count_of}
-use Rattle.project_state.specs.declared.track.Track.{Track}
-use Rattle.project_state.specs.Meaning.{meant, point_blocks, history_blocks}
-use Rattle.record_body.specs.KeptSound.{IsSoundPoint}
-use Rattle.record_body.proofs.KeptBounds.{all_append}
-use Rattle.editor_state.specs.Core.{Core}
-use Rattle.editor_state.specs.declared.pin.Pin.{Pin}
-use Rattle.editor_state.specs.Edits.{AreAmong}
-use Rattle.layout_uses.specs.declared.tally.Tally.{Tally}
-use Rattle.layout_uses.specs.Layouts.{AreDrawn, AreNumbered, history_tracks}
-use Rattle.layout_uses.specs.Tallies.{AreCounts, Goes, Has, IsTally}
-use Rattle.layout_uses.proofs.Moves.{counts_swapped, drawn_without, numbered_without}
-use Rattle.editor_views.specs.Pins.{TakesPin, LacksPin, MayFind}
+use Rattle.block_ledger.specs.{Counts.Counts, Entries.count_of}
+use Rattle.project_state.specs.{declared.track.Track.Track, Meaning.meant, Meaning.point_blocks, Meaning.history_blocks}
+use Rattle.record_body.specs.SavedValid.{IsValidPoint}
+use Rattle.record_body.proofs.SavedBounds.{all_append}
 use Rattle.editor_state.specs.Studios.{PinsRise, IsHeld, IsStudio, pin_at, pin_blocks, pin_tracks, clip_blocks}
 use Rattle.editor_state.specs.Studios.{named_blocks, studio_of, studio_tracks}
-use Rattle.editor_state.specs.Took.{Took, quietly, silent}
-use Rattle.editor_state.proofs.Blocks.BlockLists.{among_itself}
-use Rattle.editor_commits.proofs.CursorTracks.{may_read}
-use Rattle.editor_state.proofs.Blocks.NamedBlocks.{tracks_around}
-use Rattle.editor_state.proofs.Lists.{all_left, all_right}
+use Rattle.editor_state.specs.{Core.Core, declared.pin.Pin.Pin, Edits.AreAmong, Took.Took, Took.quietly, Took.silent}
+use Rattle.layout_uses.specs.Tallies.{AreCounts, Goes, Has, IsTally}
+use Rattle.layout_uses.specs.{declared.tally.Tally.Tally, Layouts.AreDrawn, Layouts.AreNumbered, Layouts.history_tracks}
+use Rattle.layout_uses.proofs.Moves.{counts_swapped, drawn_without, numbered_without}
+use Rattle.editor_views.specs.Pins.{TakesPin, LacksPin, MayFind}
 use Rattle.editor_state.proofs.Calls.NameChanges.{renamed, Renames, renamed_took}
+use Rattle.editor_state.proofs.Calls.QuietCalls.{IsQuiet, quiet_passes, carried, room_of, refused_own}
+use Rattle.editor_state.proofs.{Blocks.BlockLists.among_itself, Blocks.NamedBlocks.tracks_around, Lists.all_left}
+use Rattle.editor_state.proofs.{Lists.all_right, Refusals.CommitTests.fits}
+use Rattle.editor_commits.proofs.CursorTracks.{may_read}
 use Rattle.editor_views.proofs.PinNumbers.{rise_less, lacks_none, without_one, found_at, all_but, that_one, blocks_but}
 use Rattle.editor_views.proofs.PinNumbers.{blocks_of_one}
-use Rattle.editor_state.proofs.Calls.QuietCalls.{IsQuiet, quiet_passes, carried, room_of, refused_own}
-use Rattle.editor_state.proofs.Refusals.CommitTests.{fits}
+use Rattle.pcm_base.specs.declared.refusal.Refusal.TheVariants as refusal
+use Rattle.pcm_base.specs.Cells as cells
+use Rattle.pcm_base.specs.Studio as model
 
 module _ {D : Type 0} (disk : Ghosts D) (s : Core D) (is : IsStudio disk s) (number : ℕ) where
   abbrev src : Sources
@@ -50,8 +37,8 @@ module _ {D : Type 0} (disk : Ghosts D) (s : Core D) (is : IsStudio disk s) (num
   abbrev t : model.Studio
   t = studio_of disk s
 
-  abbrev Sound : Pin → Type 0
-  Sound p = IsSoundPoint s.block_size s.next_block s.next_track p.point
+  abbrev Valid : Pin → Type 0
+  Valid p = IsValidPoint s.block_size s.next_block s.next_track p.point
 
   pub unpin_quiet : IsQuiet (Unpin number)
   unpin_quiet = record {
@@ -82,7 +69,7 @@ module _ {D : Type 0} (disk : Ghosts D) (s : Core D) (is : IsStudio disk s) (num
 
     pub pin_may_read : AllNamed (point_blocks point)
     pin_may_read =
-        may_read disk s is point (that_one Sound found.0 found.1 it (subst (AllByRecursion Sound) found.2 is.pins))
+        may_read disk s is point (that_one Valid found.0 found.1 it (subst (AllByRecursion Valid) found.2 is.pins))
 
     -- what holds of all that the studio names holds of what the pin names
     of_pin : (P : BlockRef → Type 0) → AllByRecursion P (named_blocks s) → AllByRecursion P (point_blocks point)
@@ -100,11 +87,7 @@ module _ {D : Type 0} (disk : Ghosts D) (s : Core D) (is : IsStudio disk s) (num
   -- ---- one less
 
   module _ (pins : List Pin) (pin : Pin) (takes : TakesPin s.pins pins number pin) where
-    abbrev front : List Pin
-    front = takes.front
-
-    abbrev back : List Pin
-    back = takes.back
+    open takes use {front, back}
 
     rise : PinsRise 1 s.next_pin (front ++ pin ∷ back)
     rise = subst (PinsRise 1 s.next_pin) takes.before is.numbers
@@ -179,8 +162,8 @@ module _ {D : Type 0} (disk : Ghosts D) (s : Core D) (is : IsStudio disk s) (num
         numbers = subst (PinsRise 1 s.next_pin) (sym takes.after) (rise_less 1 s.next_pin front back pin rise);
         pin_least = is.counters.pin_least;
         pin_most = is.counters.pin_most;
-        sound = subst (AllByRecursion Sound) (sym takes.after)
-            (all_but Sound front back pin (subst (AllByRecursion Sound) takes.before is.pins));
+        valid = subst (AllByRecursion Valid) (sym takes.after)
+            (all_but Valid front back pin (subst (AllByRecursion Valid) takes.before is.pins));
         few_clips = is.few_clips;
         clip_fits = is.clipboard;
         numbered = subst AreNumbered (sym tracks_after)
@@ -209,8 +192,7 @@ module _ {D : Type 0} (disk : Ghosts D) (s : Core D) (is : IsStudio disk s) (num
           let passed = quiet_passes t (Unpin number) unpin_quiet (room_of disk s (Unpin number) is) refl refl
           (has_own pin.point held_there) pin_room in
           renamed_took disk s is s.clipboard pins s.next_pin uses counts unpin_renames
-          (Unpin number) unpin_quiet tt tt Done
-          fewer (λ some. refl)
+          (Unpin number) unpin_quiet tt tt Done fewer (λ some. refl)
           (λ _. carried t (Unpin number) unpin_quiet (room_of disk s (Unpin number) is) refl Done
           (studio_of disk new) passed refl unpin_state)
 

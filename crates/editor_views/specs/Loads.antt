@@ -1,21 +1,15 @@
 -- A pin that is loaded.
 use Rattle.std.specs.Prelude.{◌≡◌, ℕ, ◌-◌, ◌≤◌, min, List, length, Some, Result, Err, IfOk}
 use Rattle.disk_model.specs.declared.store.Store.{Ghosts}
-use Rattle.pcm_base.specs.declared.answer.Reply.TheVariants as reply
-use Rattle.pcm_base.specs.declared.command.Call.TheVariants.{LoadPin}
-use Rattle.pcm_base.specs.declared.refusal.Refusal.{Refusal}
-use Rattle.pcm_base.specs.declared.refusal.Refusal.TheVariants.{NoMemory}
-use Rattle.project_state.specs.declared.track.Track.{Track}
-use Rattle.project_state.specs.Meaning.{meant}
+use Rattle.pcm_base.specs.{declared.command.Call.TheVariants.LoadPin, declared.refusal.Refusal.Refusal}
+use Rattle.pcm_base.specs.{declared.refusal.Refusal.TheVariants.NoMemory}
+use Rattle.project_state.specs.{declared.track.Track.Track, Meaning.meant}
 use Rattle.sample_block.specs.Sources.{sources_of}
-use Rattle.mixdown.specs.declared.loaded.Loaded.{Loaded}
-use Rattle.mixdown.specs.Loads.{IsLoaded, Shows, tracks_in}
-use Rattle.mix_view.specs.Tracks.{mix_length_of}
-use Rattle.editor_state.specs.Core.{Core}
+use Rattle.mixdown.specs.{declared.loaded.Loaded.Loaded, Loads.IsLoaded, Loads.Shows, Loads.tracks_in}
+use Rattle.mix_reader.specs.Tracks.{mix_length_of}
+use Rattle.editor_state.specs.{Core.Core, Reads.Looks, Studios.IsHeld, Took.Took, Took.quietly, Took.as_reply}
 use Rattle.editor_views.specs.Pins.{MayFind}
-use Rattle.editor_state.specs.Reads.{Looks}
-use Rattle.editor_state.specs.Studios.{IsHeld}
-use Rattle.editor_state.specs.Took.{Took, quietly, told_by}
+use Rattle.pcm_base.specs.declared.answer.Reply.TheVariants as reply
 
 -- what is asked: the pin, the place, and how many frames at most
 pub record Ask : Type 0 where
@@ -31,14 +25,14 @@ pub record LoadsPin {D : Type 0} (disk : Ghosts D) (s : Core D) (ask : Ask) (fra
     pub found : MayFind s.pins ask.pin (Some point)
     pub count : frames ≡ min ask.most (mix_length_of point - ask.from)
     pub len : loaded.len ≡ frames
-    pub sound : IsLoaded loaded
+    pub valid : IsLoaded loaded
     pub shows : IsHeld disk s → Shows ask.from (meant (sources_of (disk.reads s.store)) point) loaded
 
 -- This many frames are loaded, no more than were asked for. Of no track there is no frame.
 pub record HasLoaded (most frames : ℕ) (loaded : Loaded) : Type 0 where
   pub len : loaded.len ≡ frames
   pub few : frames ≤ most
-  pub sound : IsLoaded loaded
+  pub valid : IsLoaded loaded
   pub silent : length loaded.gains.items ≡ 0 → frames ≡ 0
 
 -- A call that loads a pin: it only looks. Its reply is what was loaded. If then there is no memory for the reply, it is
@@ -46,7 +40,7 @@ pub record HasLoaded (most frames : ℕ) (loaded : Loaded) : Type 0 where
 pub record Loads {D : Type 0} (disk : Ghosts D) (old : Core D) (ask : Ask) (told : Result ℕ Refusal) (loaded : Loaded)
     (new : Core D) : Type 0 where
   pub looks : Looks disk old (LoadPin ask.pin ask.from ask.most)
-      (told_by (λ _. reply.Loaded (tracks_in loaded)) told) new
+      (as_reply (λ _. reply.Loaded (tracks_in loaded)) told) new
   pub loads : IfOk told (λ count. LoadsPin disk old ask count loaded)
   pub has : IfOk told (λ count. HasLoaded ask.most count loaded)
   pub wants : IfOk told (λ _. Took disk old (quietly (LoadPin ask.pin ask.from ask.most) (Err NoMemory)) new)

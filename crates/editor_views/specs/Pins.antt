@@ -1,12 +1,10 @@
 -- Pins that come and go.
 use Rattle.std.specs.Prelude.{◌≡◌, ◌≢◌, ℕ, ◌+◌, Option, Some, None, List, [], ◌∷◌, ◌++◌, Result, MatchResult}
 use Rattle.std.specs.List.{AllByRecursion}
-use Rattle.pcm_base.specs.declared.refusal.Refusal.{Refusal}
-use Rattle.pcm_base.specs.declared.refusal.Refusal.TheVariants.{NoPin}
+use Rattle.pcm_base.specs.{declared.refusal.Refusal.Refusal, declared.refusal.Refusal.TheVariants.NoPin}
 use Rattle.project_state.specs.declared.track.Track.{Track}
-use Rattle.record_body.specs.Kept.{current_tracks}
-use Rattle.editor_state.specs.Core.{Core}
-use Rattle.editor_state.specs.declared.pin.Pin.{Pin}
+use Rattle.record_body.specs.Saved.{current_tracks}
+use Rattle.editor_state.specs.{Core.Core, declared.pin.Pin.Pin}
 
 -- the pin with this number is taken out of the others
 pub record TakesPin (old new : List Pin) (number : ℕ) (pin : Pin) : Type 0 where

@@ -1,33 +1,25 @@
 -- The cells of what is left, and the samples among them.
-use Rattle.std.proofs.Common.{◌≡◌, ℕ, zero, suc, ◌+◌, ◌-◌, ◌≤◌, ◌<◌, ℤ, List, [], ◌∷◌, ◌++◌, length, take, drop, map}
-use Rattle.std.proofs.Common.{Some, refl, sym, ap, ap₂, subst, ◌∙◌, arith, length-drop}
-use Rattle.std.specs.Prelude.{replicate, Contains, FitsSigned}
-use Rattle.std.specs.Int.{w16}
+use Rattle.std.proofs.Common.{◌≡◌, ℕ, zero, suc, ◌+◌, ◌-◌, ◌≤◌, ℤ, List, [], ◌∷◌, ◌++◌, length, take, drop, map, Some}
+use Rattle.std.proofs.Common.{refl, sym, ap, ap₂, subst, ◌∙◌, arith, length-drop}
 use Rattle.std.proofs.lemmas.List.{take-append-le, drop-append-le, drop-drop, take-map, take-replicate, length-take}
 use Rattle.std.proofs.lemmas.List.{take_rest, nil_from_length}
-use Rattle.std.proofs.lemmas.List.Elements.{All-take, All-drop, All-nil, Contains-append_left, Contains-append_right}
+use Rattle.std.proofs.lemmas.List.Elements.{All-take, All-drop, All-nil, Contains-append_right}
 use Rattle.std.proofs.Math.Seq.{take-add}
+use Rattle.std.specs.{Prelude.replicate, Prelude.Contains, Prelude.FitsSigned, Int.w16}
 use Rattle.disk_model.specs.Disk.{Files}
-use Rattle.pcm_base.specs.declared.block.BlockRef.{BlockRef}
-use Rattle.pcm_base.specs.declared.sound.Cell.{Cell}
 use Rattle.pcm_base.specs.declared.sound.Cell.TheVariants.{Gap, Sample}
 use Rattle.pcm_base.specs.Pieces.{Sources, stretch}
-use Rattle.pcm_base.specs.Edits.{part}
+use Rattle.pcm_base.specs.{declared.block.BlockRef.BlockRef, declared.sound.Cell.Cell, Edits.part}
 use Rattle.pcm_base.proofs.Pieces.{take-stretch}
-use Rattle.sample_block.specs.Blocks.{blocks}
-use Rattle.sample_block.specs.Sources.{samples_on, sources_of, IsNamed}
+use Rattle.sample_block.specs.{Blocks.blocks, Sources.samples_on, Sources.sources_of, Sources.IsNamed}
 use Rattle.sample_block.proofs.BlockLaws.{blocks_have}
 use Rattle.block_store.specs.Scans.{samples_among}
 use Rattle.block_store.proofs.StretchLaws.{block_stretch}
-use Rattle.peak_summary.specs.declared.stretch.Summary.{Summary}
-use Rattle.peak_summary.specs.Peaks.{AreSamples, summary_of}
-use Rattle.clip_track.specs.declared.rest.Stretch.{Stretch}
+use Rattle.peak_summary.specs.{declared.stretch.Summary.Summary, Peaks.AreSamples, Peaks.summary_of}
 use Rattle.clip_track.specs.declared.rest.Stretch.TheVariants.{Gaps, Block}
-use Rattle.clip_track.specs.declared.items.Item.{Item}
-use Rattle.clip_track.specs.Items.{AreItems, IsItem, item_blocks, item_cells, item_len, part_of_item, strip_blocks}
-use Rattle.clip_track.specs.Items.{strip_cells}
-use Rattle.clip_track.specs.Rests.{stretch_item}
-use Rattle.clip_track.proofs.Strips.{item_part_cells, item_some, length-item_cells}
+use Rattle.clip_track.specs.Items.{item_blocks, item_cells, item_len, part_of_item, strip_blocks, strip_cells}
+use Rattle.clip_track.specs.{declared.rest.Stretch.Stretch, declared.items.Item.Item, Rests.stretch_item}
+use Rattle.clip_track.proofs.Strips.{item_part_cells, length-item_cells}
 use Rattle.envelope_view.specs.Ahead.{IsInBlock, stretch_blocks, stretch_cells, stretch_len}
 use Rattle.envelope_view.specs.Named.{AreNamed, AreWhole}
 use Rattle.envelope_view.proofs.NamedLaws.{one_there}
@@ -109,41 +101,13 @@ front_fits files (Block b from) n ok within whole =
     (All-take (λ s. FitsSigned w16 s) (from + n - from) _
     (All-drop (λ s. FitsSigned w16 s) from w.0 (blocks_have files b.id w.0 w.1).spelled.0))
 
--- the blocks of a stretch are among those that are left
-pub front_there : {X : Type 0} (P : X → Type 0) (xs ys : List X) → ((x : X) → Contains (xs ++ ys) x → P x) → (x : X)
-    → Contains xs x → P x
-front_there P xs ys all x there = all x (Contains-append_left xs ys x there)
-
 -- the next stretch is entered where all of one is passed
-
-empty_cells : (src : Sources) (x : Stretch) → stretch_len x ≡ 0 → stretch_cells src x ≡ []
-empty_cells src x none =
-    nil_from_length (stretch_cells src x) (omega (arith, length-item_cells src (stretch_item x), none))
-
-pub entered_cells : (src : Sources) (x s : Stretch) (old new : List Item) → stretch_len x ≡ 0
-    → old ≡ stretch_item s ∷ new
-    → strip_cells src (stretch_item s ∷ new) ≡ strip_cells src (stretch_item x ∷ old)
-entered_cells src x s old new none is =
-    sym (ap (λ (cs : List Cell). cs ++ strip_cells src old) (empty_cells src x none) ∙ ap (strip_cells src) is)
-
-pub ended_cells : (src : Sources) (x : Stretch) (new : List Item) → stretch_len x ≡ 0 → new ≡ []
-    → strip_cells src (stretch_item x ∷ new) ≡ []
-ended_cells src x new none is =
-    ap (λ (cs : List Cell). cs ++ strip_cells src new) (empty_cells src x none) ∙ ap (strip_cells src) is
 
 pub entered_blocks : (x s : Stretch) (old new : List Item) (b : BlockRef) → old ≡ stretch_item s ∷ new
     → Contains (strip_blocks (stretch_item s ∷ new)) b → Contains (strip_blocks (stretch_item x ∷ old)) b
 entered_blocks x s old new b is there =
     Contains-append_right (item_blocks (stretch_item x)) (strip_blocks old) b
     (subst (λ (ys : List Item). Contains (strip_blocks ys) b) (sym is) there)
-
-in_block : (s : Stretch) → IsItem (stretch_item s) → IsInBlock s
-in_block (Gaps len) is = tt
-in_block (Block b from) is = is.1.0
-
-pub entered_ok : (s : Stretch) (old new : List Item) → AreItems old → old ≡ stretch_item s ∷ new
-    → IsInBlock s × (0 < stretch_len s)
-entered_ok s old new ok is = let here = subst AreItems is ok in (in_block s here.0, item_some (stretch_item s) here.0)
 
 -- some cells of a stretch are passed, out of this many
 

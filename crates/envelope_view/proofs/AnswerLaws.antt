@@ -1,23 +1,18 @@
 -- The reasons of tests and of faults.
 use Rattle.std.proofs.Common.{◌≡◌, ℕ, List, Result, Ok, Err, refl, sym, subst, arith}
 use Rattle.std.specs.Prelude.{IfErr}
-use Rattle.disk_model.specs.Disk.{Files, bytes_of}
-use Rattle.disk_model.specs.declared.store.Store.{Ghosts}
-use Rattle.pcm_base.specs.declared.block.BlockRef.{BlockRef}
-use Rattle.pcm_base.specs.declared.refusal.Refusal.{Refusal}
-use Rattle.pcm_base.specs.declared.refusal.Refusal.TheVariants as refusal
-use Rattle.sample_block.specs.Spelling.{size_of}
-use Rattle.sample_block.specs.Sources.{AllWhole, IsWhole}
-use Rattle.block_store.specs.declared.fault.BlockFault.{BlockFault}
-use Rattle.block_store.specs.declared.fault.BlockFault.TheVariants as fault
-use Rattle.block_store.specs.Reasons.{reason_of}
+use Rattle.disk_model.specs.{Disk.Files, Disk.bytes_of, declared.store.Store.Ghosts}
+use Rattle.pcm_base.specs.{declared.block.BlockRef.BlockRef, declared.refusal.Refusal.Refusal}
+use Rattle.sample_block.specs.{Spelling.size_of, Sources.AllWhole, Sources.IsWhole}
 use Rattle.block_store.specs.Reads.{Counted, IsFault, IsFaultIn}
-use Rattle.block_store.proofs.FaultLaws.{block_sound}
-use Rattle.block_cache.specs.declared.reader.BlockReader.{BlockReader}
-use Rattle.block_cache.specs.Readers.{Reads}
+use Rattle.block_store.specs.{declared.fault.BlockFault.BlockFault, Reasons.reason_of}
+use Rattle.block_store.proofs.FaultLaws.{block_valid}
+use Rattle.block_cache.specs.{declared.reader.BlockReader.BlockReader, Readers.Reads}
 use Rattle.block_cache.proofs.ReaderLaws.{reads_err}
 use Rattle.envelope_view.specs.Answers.{IsOfTests, IsOfReads, IsDamagedIn, IsUndamaged, IsCountedBy, read_part}
 use Rattle.envelope_view.proofs.NamedLaws.{each_of}
+use Rattle.pcm_base.specs.declared.refusal.Refusal.TheVariants as refusal
+use Rattle.block_store.specs.declared.fault.BlockFault.TheVariants as fault
 
 pub tests_undamaged : (e : Refusal) → IsOfTests e → IsUndamaged e
 tests_undamaged refusal.BadRange own = tt
@@ -52,10 +47,10 @@ module _ {D : Type 0} {disk : Ghosts D} where
   reads_tests bs a b e own f =
       subst (λ (r : Result (Unit {0}) BlockFault). Reads bs a b r) (sym (tests_part e own)) f
 
-  pub reads_reason : {T : Type 0} (bs : List BlockRef) (a b : BlockReader D disk) (why : BlockFault)
+  pub reads_reason : {T : Type 0} {bs : List BlockRef} {a b : BlockReader D disk} {why : BlockFault}
       → Reads {T = T} bs a b (Err why) → Reads bs a b (read_part (reason_of why))
-  reads_reason bs a b why f =
-      subst (λ (r : Result (Unit {0}) BlockFault). Reads bs a b r) (sym (reason_part why)) (reads_err bs a b why f)
+  reads_reason {bs = bs} {a = a} {b = b} {why = why} f =
+      subst (λ (r : Result (Unit {0}) BlockFault). Reads bs a b r) (sym (reason_part why)) (reads_err f)
 
 -- the same by reasons of lines, for the crates above
 pub counted_of : (why : Refusal) (old new : ℕ) → Counted (read_part why) old new → IsCountedBy why old new
@@ -78,7 +73,7 @@ IsOfDisk (fault.Damaged file found) = ⊥
 block_undamaged : (files : Files) (b : BlockRef) (why : BlockFault) → IsWhole files b
     → IsFault b.id b.len (bytes_of (files b.id)) why → IsOfDisk why
 block_undamaged files b why whole is =
-    subst IsOfDisk (sym (block_sound files b.id b.len (size_of b.len) whole.0 why whole.1 whole.2 (omega arith) is)) tt
+    subst IsOfDisk (sym (block_valid files b.id b.len (size_of b.len) whole.0 why whole.1 whole.2 (omega arith) is)) tt
 
 pub whole_undamaged : (files : Files) (bs : List BlockRef) (e : Refusal) → AllWhole files bs → IsDamagedIn files bs e
     → IsUndamaged e

@@ -1,9 +1,8 @@
 -- Where columns begin, and one column more.
-use Rattle.std.proofs.Common.{◌≡◌, ℕ, zero, suc, ◌+◌, ◌*◌, ◌/◌, ◌-◌, ◌≤◌, [], ◌∷◌, ◌++◌, map, ap, ◌∙◌, add-zero, arith}
-use Rattle.std.proofs.Math.Nat.{div-le_of_le-mul, mul-le-mul_left, mul_comm}
-use Rattle.std.proofs.lemmas.List.{map-append}
-use Rattle.pcm_base.specs.Arithmetic.{counted_from}
-use Rattle.pcm_base.specs.Envelope.{edge}
+use Rattle.std.proofs.Common.{◌≡◌, ℕ, ◌+◌, ◌*◌, ◌/◌, ◌-◌, ◌≤◌, [], ◌∷◌, ◌++◌, map, ap, ◌∙◌, arith}
+use Rattle.std.proofs.{Math.Nat.div-le_of_le-mul, Math.Nat.mul-le-mul_left, Math.Nat.mul_comm, lemmas.List.map-append}
+use Rattle.pcm_base.specs.{Arithmetic.counted_from, Envelope.edge}
+use Rattle.pcm_base.proofs.ListFacts.{counted_more}
 
 -- i parts of w are no more than the whole
 pub share_within : (i w n : ℕ) → i ≤ w → i * n / w ≤ n
@@ -12,14 +11,6 @@ share_within i w n among =
     let left = mul_comm i n in
     let right = mul_comm w n in
     div-le_of_le-mul w (omega arith)
-
--- one number more
-counted_more : (n k : ℕ) → counted_from n (k + 1) ≡ counted_from n k ++ (n + k) ∷ []
-counted_more n zero = rw (add-zero n)
-counted_more n (suc k) =
-    let e : n + 1 + k ≡ n + suc k = omega arith in
-    let s : suc k + 1 ≡ suc (k + 1) = omega arith in
-    rw (s, counted_more (n + 1) k, e)
 
 pub columns_more : {A : Type 0} (f : ℕ → A) (i : ℕ)
     → map f (counted_from 0 (i + 1)) ≡ map f (counted_from 0 i) ++ f i ∷ []

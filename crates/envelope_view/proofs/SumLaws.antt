@@ -1,12 +1,9 @@
 -- Summaries of parts of a block.
 use Rattle.std.proofs.Common.{◌≡◌, ℕ, zero, suc, ◌+◌, ◌-◌, ◌*◌, ◌^◌, ◌≤◌, ◌<◌, ⊎_elim, min, ℤ, List, [], ◌∷◌, length}
 use Rattle.std.proofs.Common.{take, drop, map, Some, refl, sym, ap, ap₂, ◌∙◌, arith, length-drop}
-use Rattle.std.specs.Prelude.{fold, FitsSigned}
-use Rattle.std.specs.Int.{w16}
-use Rattle.std.specs.List.{range_with_len}
-use Rattle.std.proofs.lemmas.Bool.{cases_lt}
-use Rattle.std.proofs.lemmas.List.{take_min}
 use Rattle.std.proofs.lemmas.List.Elements.{All-take, All-drop}
+use Rattle.std.proofs.{lemmas.Bool.cases_lt, lemmas.List.take_min}
+use Rattle.std.specs.{Prelude.fold, Prelude.FitsSigned, Int.w16, List.range_with_len}
 use Rattle.disk_model.specs.Disk.{Files}
 use Rattle.sample_block.specs.Blocks.{blocks}
 use Rattle.sample_block.proofs.BlockLaws.{blocks_have}

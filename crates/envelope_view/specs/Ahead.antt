@@ -1,13 +1,9 @@
 -- What is left of a layout: a stretch, and what stands after it.
 use Rattle.std.specs.Prelude.{ℕ, ◌≤◌, List, ◌∷◌}
-use Rattle.pcm_base.specs.declared.block.BlockRef.{BlockRef}
-use Rattle.pcm_base.specs.declared.sound.Cell.{Cell}
-use Rattle.pcm_base.specs.Pieces.{Sources}
-use Rattle.clip_track.specs.declared.items.Item.{Item}
-use Rattle.clip_track.specs.declared.rest.Stretch.{Stretch}
+use Rattle.pcm_base.specs.{declared.block.BlockRef.BlockRef, declared.sound.Cell.Cell, Pieces.Sources}
 use Rattle.clip_track.specs.declared.rest.Stretch.TheVariants.{Gaps, Block}
 use Rattle.clip_track.specs.Items.{item_blocks, item_cells, item_len, strip_blocks, strip_cells}
-use Rattle.clip_track.specs.Rests.{stretch_item}
+use Rattle.clip_track.specs.{declared.items.Item.Item, declared.rest.Stretch.Stretch, Rests.stretch_item}
 use Rattle.envelope_view.specs.declared.ahead.Ahead.{Ahead}
 
 abbrev pub stretch_len : Stretch → ℕ

@@ -1,14 +1,11 @@
 -- When the columns of a layout are refused.
 use Rattle.std.specs.Prelude.{◌≡◌, ◌⊎◌, ◌≤◌, ℕ, ◌-◌, List, Option, Some, None, Result, Ok, Err, MatchResult}
 use Rattle.disk_model.specs.Disk.{Files}
-use Rattle.pcm_base.specs.declared.block.BlockRef.{BlockRef}
-use Rattle.pcm_base.specs.declared.refusal.Refusal.{Refusal}
-use Rattle.pcm_base.specs.declared.refusal.Refusal.TheVariants as refusal
-use Rattle.pcm_base.specs.Causes.{Rose}
 use Rattle.pcm_base.specs.Refusals.{◌otherwise◌, bad_range, bad_columns}
-use Rattle.block_store.specs.declared.fault.BlockFault.{BlockFault}
+use Rattle.pcm_base.specs.{declared.block.BlockRef.BlockRef, declared.refusal.Refusal.Refusal, Causes.Rose}
+use Rattle.block_store.specs.{declared.fault.BlockFault.BlockFault, Reads.IsFaultIn}
+use Rattle.pcm_base.specs.declared.refusal.Refusal.TheVariants as refusal
 use Rattle.block_store.specs.declared.fault.BlockFault.TheVariants as fault
-use Rattle.block_store.specs.Reads.{IsFaultIn}
 
 -- the model's tests of a range of this many cells, and of a number of columns
 abbrev pub column_tests : ℕ → ℕ → ℕ → ℕ → Option Refusal
@@ -51,9 +48,6 @@ IsUndamaged _ = Unit {0}
 abbrev pub IsCountedBy : Refusal → ℕ → ℕ → Type 0
 IsCountedBy refusal.DiskFault old new = Rose old new × (old ≤ new)
 IsCountedBy _ old new = new ≡ old
-
-abbrev pub ReasonCounted : {A : Type 0} → Result A Refusal → ℕ → ℕ → Type 0
-ReasonCounted result old new = MatchResult result (λ _. new ≡ old) (λ reason. IsCountedBy reason old new)
 
 -- what reads say: nothing is read where a test refuses, and where memory is wanting each read was answered
 abbrev pub read_part : Refusal → Result (Unit {0}) BlockFault

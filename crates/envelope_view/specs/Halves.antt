@@ -1,15 +1,11 @@
 -- The two sides of an edge inside a long frame, and what is known of a block from them.
 use Rattle.std.specs.Prelude.{◌≡◌, ℕ, ◌+◌, ◌*◌, ◌^◌, ◌<◌, ◌≤◌, ℤ, List, length, Option, Some, None, Result, IfOk}
-use Rattle.sample_block.specs.declared.levels.TheConstants.{LONG_FRAME}
+use Rattle.sample_block.specs.{declared.levels.TheConstants.LONG_FRAME, Blocks.blocks}
 use Rattle.disk_model.specs.Disk.{Files}
-use Rattle.pcm_base.specs.declared.block.BlockRef.{BlockRef}
-use Rattle.pcm_base.specs.Edits.{part}
-use Rattle.sample_block.specs.Blocks.{blocks}
+use Rattle.pcm_base.specs.{declared.block.BlockRef.BlockRef, Edits.part}
 use Rattle.block_store.specs.declared.fault.BlockFault.{BlockFault}
-use Rattle.peak_summary.specs.declared.stretch.Summary.{Summary}
-use Rattle.peak_summary.specs.Peaks.{joined, summary_of}
-use Rattle.envelope_view.specs.declared.halves.Halves.{Halves}
-use Rattle.envelope_view.specs.declared.known.Known.{Known}
+use Rattle.peak_summary.specs.{declared.stretch.Summary.Summary, Peaks.joined, Peaks.summary_of}
+use Rattle.envelope_view.specs.{declared.halves.Halves.Halves, declared.halves.Split.Split, declared.known.Known.Known}
 
 -- a whole is a part and a rest, in either order, both with samples, whose numbers do not stand still
 pub record IsRest (whole side rest : Summary) : Type 0 where
@@ -19,17 +15,11 @@ pub record IsRest (whole side rest : Summary) : Type 0 where
   pub squares : side.squares + rest.squares < 2 ^ 64
   pub count : side.count + rest.count < 2 ^ 64
 
--- the samples of a block from one place up to another, with an edge among them
-pub record Sides : Type 0 where
-  pub from : ℕ
-  pub edge : ℕ
-  pub to : ℕ
-
 -- of a block of the disk the summaries of its samples up to the edge, and from the edge on
-abbrev pub AreHalves : Files → BlockRef → Sides → Result Halves BlockFault → Type 0
-AreHalves files b sides result = (xs : List ℤ) → blocks files b.id ≡ Some xs → length xs ≡ b.len
-    → IfOk result (λ h. (h.before ≡ summary_of (part sides.from sides.edge xs))
-    × (h.after ≡ summary_of (part sides.edge sides.to xs)))
+abbrev pub AreHalves : Files → BlockRef → Split → Result Halves BlockFault → Type 0
+AreHalves files b at result = (xs : List ℤ) → blocks files b.id ≡ Some xs → length xs ≡ b.len
+    → IfOk result (λ h. (h.before ≡ summary_of (part at.from at.edge xs))
+    × (h.after ≡ summary_of (part at.edge at.to xs)))
 
 -- what is known, if anything is, is the summary of those samples of the block of the disk
 abbrev pub IsKnown : Files → Option Known → Type 0

@@ -21,6 +21,14 @@ use sample_block::LONG_FRAME;
 /// How many long frames a block has at most.
 const MOST: usize = 4;
 
+/// From one place of a block up to another, with an edge between them.
+#[derive(Clone, Copy)]
+pub(crate) struct Split {
+    pub(crate) from: u32,
+    pub(crate) edge: u32,
+    pub(crate) to: u32,
+}
+
 /// The summaries of what stands before a place, and of what stands after it.
 #[derive(Clone, Copy)]
 pub(crate) struct Halves {
@@ -44,15 +52,15 @@ fn rest_of(whole: Summary, part: Summary) -> Option<Summary>
     None
 }
 
-/// The summary of the side of an edge that was not read: what is left of the whole, else it is read too.
+/// The summary of the side of an edge that was not read: what is left of the whole, where that is known, else it is
+/// read too.
 fn other_side<S: Store>(
     reader: &mut BlockReader<S>,
     block: BlockRef,
     reach: u64,
     from: u32,
     to: u32,
-    whole: Summary,
-    side: Summary,
+    rest: Option<Summary>,
 ) -> Result<Summary, BlockFault>
     requires block { IsBlock block.id block.len }
     requires rising { from ≤ to }
@@ -60,12 +68,12 @@ fn other_side<S: Store>(
     requires few { to ≤ from + LONG_FRAME }
     requires rest { IsTrue (S.tells reader.old.store) → (xs : List ℤ)
         → blocks (S.reads reader.old.store) block.id ≡ Some xs → length xs ≡ block.len
-        → IsRest whole side (summary_of (part_of from to xs)) }
+        → IfSome rest (λ s. s ≡ summary_of (part_of from to xs)) }
     ensures reads { Reads (block ∷ []) reader.old reader.new result }
     ensures read { IsTrue (S.tells reader.old.store) → Summarizes (S.reads reader.old.store) block from to result }
 {
-    match rest_of(whole, side) {
-        Some(rest) => Ok(rest),
+    match rest {
+        Some(summary) => Ok(summary),
         None => by_short(reader, block, reach, from, to),
     }
 }
@@ -75,25 +83,23 @@ fn before_first<S: Store>(
     reader: &mut BlockReader<S>,
     block: BlockRef,
     reach: u64,
-    from: u32,
-    edge: u32,
-    to: u32,
+    at: Split,
     whole: Summary,
 ) -> Result<Halves, BlockFault>
     requires block { IsBlock block.id block.len }
-    requires before { from < edge }
-    requires behind { edge < to }
-    requires within { to ≤ block.len }
-    requires few { to ≤ from + LONG_FRAME }
+    requires before { at.from < at.edge }
+    requires behind { at.edge < at.to }
+    requires within { at.to ≤ block.len }
+    requires few { at.to ≤ at.from + LONG_FRAME }
     requires whole { IsTrue (S.tells reader.old.store) → (xs : List ℤ)
         → blocks (S.reads reader.old.store) block.id ≡ Some xs → length xs ≡ block.len
-        → whole ≡ summary_of (part_of from to xs) }
+        → whole ≡ summary_of (part_of at.from at.to xs) }
     ensures reads { Reads (block ∷ []) reader.old reader.new result }
-    ensures read { IsTrue (S.tells reader.old.store)
-        → AreHalves (S.reads reader.old.store) block (record { from = from; edge = edge; to = to }) result }
+    ensures read { IsTrue (S.tells reader.old.store) → AreHalves (S.reads reader.old.store) block at result }
 {
-    let before = by_short(reader, block, reach, from, edge)?;
-    let after = other_side(reader, block, reach, edge, to, whole, before)?;
+    let before = by_short(reader, block, reach, at.from, at.edge)?;
+    let rest = rest_of(whole, before);
+    let after = other_side(reader, block, reach, at.edge, at.to, rest)?;
     Ok(Halves { before, after })
 }
 
@@ -102,25 +108,23 @@ fn after_first<S: Store>(
     reader: &mut BlockReader<S>,
     block: BlockRef,
     reach: u64,
-    from: u32,
-    edge: u32,
-    to: u32,
+    at: Split,
     whole: Summary,
 ) -> Result<Halves, BlockFault>
     requires block { IsBlock block.id block.len }
-    requires before { from < edge }
-    requires behind { edge < to }
-    requires within { to ≤ block.len }
-    requires few { to ≤ from + LONG_FRAME }
+    requires before { at.from < at.edge }
+    requires behind { at.edge < at.to }
+    requires within { at.to ≤ block.len }
+    requires few { at.to ≤ at.from + LONG_FRAME }
     requires whole { IsTrue (S.tells reader.old.store) → (xs : List ℤ)
         → blocks (S.reads reader.old.store) block.id ≡ Some xs → length xs ≡ block.len
-        → whole ≡ summary_of (part_of from to xs) }
+        → whole ≡ summary_of (part_of at.from at.to xs) }
     ensures reads { Reads (block ∷ []) reader.old reader.new result }
-    ensures read { IsTrue (S.tells reader.old.store)
-        → AreHalves (S.reads reader.old.store) block (record { from = from; edge = edge; to = to }) result }
+    ensures read { IsTrue (S.tells reader.old.store) → AreHalves (S.reads reader.old.store) block at result }
 {
-    let after = by_short(reader, block, reach, edge, to)?;
-    let before = other_side(reader, block, reach, from, edge, whole, after)?;
+    let after = by_short(reader, block, reach, at.edge, at.to)?;
+    let rest = rest_of(whole, after);
+    let before = other_side(reader, block, reach, at.from, at.edge, rest)?;
     Ok(Halves { before, after })
 }
 
@@ -129,27 +133,24 @@ fn sides<S: Store>(
     reader: &mut BlockReader<S>,
     block: BlockRef,
     reach: u64,
-    from: u32,
-    edge: u32,
-    to: u32,
+    at: Split,
     whole: Summary,
 ) -> Result<Halves, BlockFault>
     requires block { IsBlock block.id block.len }
-    requires before { from < edge }
-    requires behind { edge < to }
-    requires within { to ≤ block.len }
-    requires few { to ≤ from + LONG_FRAME }
+    requires before { at.from < at.edge }
+    requires behind { at.edge < at.to }
+    requires within { at.to ≤ block.len }
+    requires few { at.to ≤ at.from + LONG_FRAME }
     requires whole { IsTrue (S.tells reader.old.store) → (xs : List ℤ)
         → blocks (S.reads reader.old.store) block.id ≡ Some xs → length xs ≡ block.len
-        → whole ≡ summary_of (part_of from to xs) }
+        → whole ≡ summary_of (part_of at.from at.to xs) }
     ensures reads { Reads (block ∷ []) reader.old reader.new result }
-    ensures read { IsTrue (S.tells reader.old.store)
-        → AreHalves (S.reads reader.old.store) block (record { from = from; edge = edge; to = to }) result }
+    ensures read { IsTrue (S.tells reader.old.store) → AreHalves (S.reads reader.old.store) block at result }
 {
-    if edge - from <= to - edge {
-        return before_first(reader, block, reach, from, edge, to, whole);
+    if at.edge - at.from <= at.to - at.edge {
+        return before_first(reader, block, reach, at, whole);
     }
-    after_first(reader, block, reach, from, edge, to, whole)
+    after_first(reader, block, reach, at, whole)
 }
 
 /// From the long frames from number `first` up to `last`, and that one by itself, in one read.
@@ -176,40 +177,34 @@ fn long_frames<S: Store>(
     Ok(Halves { before, after })
 }
 
-/// The summaries of a part that ends at an edge inside a long frame, and of what is after the edge up to `to`, where
-/// the frame ends: from the frames before it, the frame's own, and one of its sides.
+/// The summaries of a part that ends at an edge inside a long frame, and of what is after the edge up to where the
+/// frame ends: from the frames before it, the frame's own, and one of its sides.
 pub(crate) fn up_to_edge<S: Store>(
     reader: &mut BlockReader<S>,
     block: BlockRef,
     reach: u64,
-    from: u32,
     frame: u32,
-    edge: u32,
-    to: u32,
+    at: Split,
 ) -> Result<Halves, BlockFault>
     requires block { IsBlock block.id block.len }
-    requires rising { from ≤ LONG_FRAME * frame }
-    requires before { LONG_FRAME * frame < edge }
-    requires behind { edge < to }
-    requires within { to ≤ block.len }
-    requires few { to ≤ LONG_FRAME * frame + LONG_FRAME }
-    requires last { to < LONG_FRAME * frame + LONG_FRAME → to ≡ block.len }
+    requires rising { at.from ≤ LONG_FRAME * frame }
+    requires before { LONG_FRAME * frame < at.edge }
+    requires behind { at.edge < at.to }
+    requires within { at.to ≤ block.len }
+    requires few { at.to ≤ LONG_FRAME * frame + LONG_FRAME }
+    requires last { at.to < LONG_FRAME * frame + LONG_FRAME → at.to ≡ block.len }
     ensures reads { Reads (block ∷ []) reader.old reader.new result }
-    ensures read { IsTrue (S.tells reader.old.store)
-        → AreHalves (S.reads reader.old.store) block (record { from = from; edge = edge; to = to }) result }
+    ensures read { IsTrue (S.tells reader.old.store) → AreHalves (S.reads reader.old.store) block at result }
 {
-    let first = from.div_ceil(LONG_FRAME);
-    let front = by_short(reader, block, reach, from, LONG_FRAME * first)?;
+    let first = at.from.div_ceil(LONG_FRAME);
+    let front = by_short(reader, block, reach, at.from, LONG_FRAME * first)?;
     let long = long_frames(reader, block, first, frame)?;
-    let halves = sides(
-        reader,
-        block,
-        reach,
-        LONG_FRAME * frame,
-        edge,
-        to,
-        long.after,
-    )?;
+    let inside = Split {
+        from: LONG_FRAME * frame,
+        edge: at.edge,
+        to: at.to,
+    };
+    let halves = sides(reader, block, reach, inside, long.after)?;
     let before = join(join(front, long.before), halves.before);
     Ok(Halves {
         before,
@@ -217,32 +212,29 @@ pub(crate) fn up_to_edge<S: Store>(
     })
 }
 
-/// The summaries of a part that ends at an edge inside a short frame, and of what is after the edge up to `stop`, where
-/// the frame ends: from what is before the frame, and the frame's samples, in one read.
+/// The summaries of a part that ends at an edge inside a short frame, and of what is after the edge up to where the
+/// frame ends: from what is before the frame, and the frame's samples, in one read.
 pub(crate) fn up_to_short_edge<S: Store>(
     reader: &mut BlockReader<S>,
     block: BlockRef,
     reach: u64,
-    from: u32,
     start: u32,
-    edge: u32,
-    stop: u32,
+    at: Split,
 ) -> Result<Halves, BlockFault>
     requires block { IsBlock block.id block.len }
-    requires rising { from ≤ start }
-    requires before { start < edge }
-    requires behind { edge < stop }
-    requires within { stop ≤ block.len }
-    requires few { stop ≤ start + 256 }
+    requires rising { at.from ≤ start }
+    requires before { start < at.edge }
+    requires behind { at.edge < at.to }
+    requires within { at.to ≤ block.len }
+    requires few { at.to ≤ start + 256 }
     ensures reads { Reads (block ∷ []) reader.old reader.new result }
-    ensures read { IsTrue (S.tells reader.old.store)
-        → AreHalves (S.reads reader.old.store) block (record { from = from; edge = edge; to = stop }) result }
+    ensures read { IsTrue (S.tells reader.old.store) → AreHalves (S.reads reader.old.store) block at result }
 {
-    let front = summarize(reader, block, reach, from, start)?;
+    let front = summarize(reader, block, reach, at.from, start)?;
     let mut buf = [0i16; 256];
-    let samples = &mut buf[..(stop - start) as usize];
+    let samples = &mut buf[..(at.to - start) as usize];
     read_samples(reader, block, reach, start, samples)?;
-    let split = (edge - start) as usize;
+    let split = (at.edge - start) as usize;
     let before = join(front, of(&samples[..split]));
     let after = of(&samples[split..]);
     Ok(Halves { before, after })

@@ -7,7 +7,7 @@ ghost use Rattle.block_cache.specs.Readers.{Reads};
 ghost use Rattle.envelope_view.specs.Halves.{IsEdgeIn, IsKnown, IsShortEdge};
 ghost use Rattle.envelope_view.specs.Parts.{Summarizes};
 
-use super::halves::{up_to_edge, up_to_short_edge};
+use super::halves::{Split, up_to_edge, up_to_short_edge};
 use super::parts::summarize;
 use block_cache::BlockReader;
 use block_store::BlockFault;
@@ -121,7 +121,12 @@ fn summarize_narrow<S: Store>(
         return summarize(reader, block, reach, from, to);
     };
     let stop = short_stop(block.len, start);
-    let halves = up_to_short_edge(reader, block, reach, from, start, to, stop)?;
+    let at = Split {
+        from,
+        edge: to,
+        to: stop,
+    };
+    let halves = up_to_short_edge(reader, block, reach, start, at)?;
     *known = Some(Known {
         block,
         from: to,
@@ -153,7 +158,12 @@ pub(crate) fn summarize_on<S: Store>(
         return summarize_narrow(reader, known, block, from, to, reach);
     };
     let stop = frame_stop(block.len, frame);
-    let halves = up_to_edge(reader, block, reach, from, frame, to, stop)?;
+    let at = Split {
+        from,
+        edge: to,
+        to: stop,
+    };
+    let halves = up_to_edge(reader, block, reach, frame, at)?;
     *known = Some(Known {
         block,
         from: to,

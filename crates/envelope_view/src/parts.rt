@@ -17,7 +17,7 @@ use peak_summary::{NOTHING, Summary, join, of};
 use sample_block::LONG_FRAME;
 
 /// How many samples, or frames, are read at once.
-const PIECE: usize = 512;
+const BUFFER_LEN: usize = 512;
 
 /// How many frames are few.
 const FEW: usize = 128;
@@ -82,7 +82,7 @@ fn by_samples<S: Store>(
     if from == to {
         return Ok(NOTHING);
     }
-    let mut buf = [0i16; PIECE];
+    let mut buf = [0i16; BUFFER_LEN];
     let samples = &mut buf[..(to - from) as usize];
     read_samples(reader, block, reach, from, samples)?;
     Ok(of(samples))
@@ -134,7 +134,7 @@ fn by_frames<S: Store>(
     if end - first <= FEW as u32 {
         return by_few_frames(reader, block, reach, level, first, end);
     }
-    let mut buf = [NOTHING; PIECE];
+    let mut buf = [NOTHING; BUFFER_LEN];
     let frames = &mut buf[..(end - first) as usize];
     read_frames(reader, block, reach, level, first, frames)?;
     Ok(join_all(frames))

@@ -33,7 +33,7 @@ pub(crate) fn read_samples<S: Store>(
     ensures read { (xs : List ℤ) → IsTrue (S.tells reader.old.store)
         → blocks (S.reads reader.old.store) block.id ≡ Some xs → length xs ≡ block.len
         → OnOk result (out.new ≡ take (length out.old) (drop from xs)) }
-    ensures sound { (xs : List ℤ) → IsTrue (S.tells reader.old.store)
+    ensures valid { (xs : List ℤ) → IsTrue (S.tells reader.old.store)
         → blocks (S.reads reader.old.store) block.id ≡ Some xs → length xs ≡ block.len
         → IsOkUnless result fault.DiskFault }
 {
@@ -58,7 +58,7 @@ pub(crate) fn read_frames<S: Store>(
     ensures read { (xs : List ℤ) → IsTrue (S.tells reader.old.store)
         → blocks (S.reads reader.old.store) block.id ≡ Some xs → length xs ≡ block.len
         → OnOk result (out.new ≡ take (length out.old) (drop from (frames_of (frame_len level) xs))) }
-    ensures sound { (xs : List ℤ) → IsTrue (S.tells reader.old.store)
+    ensures valid { (xs : List ℤ) → IsTrue (S.tells reader.old.store)
         → blocks (S.reads reader.old.store) block.id ≡ Some xs → length xs ≡ block.len
         → IsOkUnless result fault.DiskFault }
 {

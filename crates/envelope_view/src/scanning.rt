@@ -80,7 +80,7 @@ pub fn columns<S: Store>(
     // The tests refuse exactly as the model's do; where they are passed only a read or want of memory refuses.
     ensures tests { AnswersTest (column_tests from to columns (end_of 0 layout.now)) result }
     // No damage is reported where all blocks of the layout are whole.
-    ensures sound { IsTrue (S.tells reader.old.store) → AllWhole (S.reads reader.old.store) (layout_blocks layout.now)
+    ensures valid { IsTrue (S.tells reader.old.store) → AllWhole (S.reads reader.old.store) (layout_blocks layout.now)
         → IfErr result IsUndamaged }
 {
     test_columns(from, to, columns, layout.len())?;

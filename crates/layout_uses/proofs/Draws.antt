@@ -1,16 +1,12 @@
 -- Numbers that layouts get.
-use Rattle.std.proofs.Common.{◌≡◌, ⊎_elim, inl, inr, refl, sym, ap, ◌∙◌, subst, ℕ, ◌≤◌, ◌<◌, List, [], ◌∷◌}
-use Rattle.std.proofs.Common.{◌++◌}
-use Rattle.std.proofs.Common.{arith, map, Some, length, slice_get, zero, suc}
-use Rattle.std.proofs.lemmas.Bool.{cases_eq, eq-eqb, ne_eqb}
-use Rattle.std.proofs.lemmas.List.{length-map}
-use Rattle.project_state.specs.declared.track.Track.{Track}
-use Rattle.project_state.specs.Tracks.{AllBelow, track_of}
-use Rattle.project_state.specs.Numbers.{AreNewOrCurrent, unnumbered}
-use Rattle.layout_uses.specs.Drawing.{Draws, HasNumbers}
-use Rattle.layout_uses.specs.Laws.{AreAmong, IsAmong}
+use Rattle.std.proofs.Common.{◌≡◌, ⊎_elim, inl, inr, refl, sym, ap, ◌∙◌, subst, ℕ, ◌≤◌, ◌<◌, List, [], ◌∷◌, ◌++◌, arith}
+use Rattle.std.proofs.Common.{map, Some, length, slice_get, zero, suc}
+use Rattle.std.proofs.{lemmas.Bool.cases_eq, lemmas.Bool.eq-eqb, lemmas.Bool.ne_eqb, lemmas.List.length-map}
+use Rattle.project_state.specs.{declared.track.Track.Track, Tracks.AllBelow, Tracks.track_of, Numbers.AreNewOrCurrent}
+use Rattle.project_state.specs.{Numbers.unnumbered}
 use Rattle.layout_uses.specs.Layouts.{Agree, AgreesWith, AreDrawn, AreNumbered}
-use Rattle.layout_uses.proofs.Numbers.{among_agrees}
+use Rattle.layout_uses.specs.{Drawing.Draws, Drawing.HasNumbers, Laws.AreAmong, Laws.IsAmong}
+use Rattle.layout_uses.proofs.{Numbers.among_agrees, Moves.flipped}
 
 pub found_among : (id : ℕ) (ts : List Track) (t : Track) → track_of id ts ≡ Some t → IsAmong t ts
 found_among id [] t is = absurd cc
@@ -43,9 +39,6 @@ kept_among current (u ∷ us) zero t here kept some =
 kept_among current (u ∷ us) (suc i) t here kept some = kept_among current us i t here kept.1 some
 
 -- ---- a track more at the end
-
-flipped : (t u : Track) → Agree t u → Agree u t
-flipped t u agree = λ e. sym (agree (sym e))
 
 agrees_at : (t x : Track) (xs ys : List Track) → Agree x t → AgreesWith x (xs ++ ys) → AgreesWith x
     ((xs ++ t ∷ []) ++ ys)

@@ -1,25 +1,22 @@
 -- Points of a history.
 use Rattle.std.proofs.Common.{◌≡◌, refl, sym, ap, ◌∙◌, subst, ℕ, zero, suc, ◌+◌, ◌-◌, ◌^◌, ◌≤◌, ◌<◌, List, [], ◌∷◌}
-use Rattle.std.proofs.Common.{◌++◌, length, map, take, drop, append_assoc, take-append-drop, slice_get, Some}
-use Rattle.std.proofs.Common.{arith, length-append}
+use Rattle.std.proofs.Common.{◌++◌, length, map, take, drop, append_assoc, take-append-drop, slice_get, Some, arith}
+use Rattle.std.proofs.Common.{length-append}
 use Rattle.std.proofs.lemmas.List.{append-nil, drop-append-le, drop-map, take-map, length-map, length-take, map-append}
 use Rattle.std.proofs.lemmas.List.{take_all, length-take-le}
-use Rattle.std.specs.Prelude.{slice_index}
 use Rattle.std.proofs.lemmas.Grind.{flat_map-append}
+use Rattle.std.specs.Prelude.{slice_index}
 use Rattle.pcm_base.specs.declared.block.BlockRef.{BlockRef}
 use Rattle.pcm_base.specs.History.{History, IsHistory, amended, edited, kept, point_of, points_of, purged, tags_of}
 use Rattle.project_state.specs.declared.track.Track.{Track}
 use Rattle.project_state.proofs.Points.{drop_some, take_some}
-use Rattle.layout_uses.specs.declared.tally.Tally.{Tally}
-use Rattle.layout_uses.specs.Layouts.{AreDrawn, AreNumbered, history_tracks, points_tracks}
+use Rattle.layout_uses.specs.Layouts.{AreDrawn, AreNumbered, history_tracks, points_tracks, track_blocks}
 use Rattle.layout_uses.specs.Tallies.{Becomes, Comes, Goes, Has, IsTally, MayBecome}
+use Rattle.layout_uses.specs.{declared.tally.Tally.Tally, Occurrences.HasIds, Occurrences.times_named}
 use Rattle.layout_uses.proofs.Moves.{counts_swapped, drawn_swapped, drawn_without, numbered_swapped, numbered_without}
 use Rattle.layout_uses.proofs.Onward.{came_more, has_front, has_rest, times_tracks, went_more, went_none}
-use Rattle.layout_uses.proofs.Times.{Few}
-use Rattle.layout_uses.specs.Occurrences.{HasIds, times_named}
-use Rattle.layout_uses.specs.Layouts.{track_blocks}
+use Rattle.layout_uses.proofs.{Times.Few, Turns.take_take}
 use Rattle.block_ledger.specs.Entries.{count_of}
-use Rattle.layout_uses.proofs.Turns.{take_take}
 
 pub tracks_append : (xs ys : List (List Track)) → points_tracks (xs ++ ys) ≡ points_tracks xs ++ points_tracks ys
 tracks_append xs ys = flat_map-append (λ (p : List Track). p) xs ys

@@ -1,13 +1,11 @@
 -- Layouts by their numbers, and how often the blocks of those that are used come.
 use Rattle.std.proofs.Common.{◌≡◌, ◌≢◌, ⊎_elim, refl, sym, ap, ◌∙◌, subst, ℕ, zero, suc, ◌+◌, ◌≤◌, ◌<◌, Bool, true}
-use Rattle.std.proofs.Common.{false, List, []}
-use Rattle.std.proofs.Common.{◌∷◌, ◌++◌, ◌⊎◌, inl, inr, if◌then◌else◌, eqb, arith}
+use Rattle.std.proofs.Common.{false, List, [], ◌∷◌, ◌++◌, ◌⊎◌, inl, inr, if◌then◌else◌, eqb, arith}
 use Rattle.std.proofs.lemmas.Bool.{cases_eq, eq-eqb, ne_eqb}
 use Rattle.block_ledger.specs.Counts.{times}
 use Rattle.clip_track.specs.Clips.{layout_blocks}
 use Rattle.project_state.specs.declared.track.Track.{Track}
-use Rattle.layout_uses.specs.Layouts.{numbers_of, has_number, track_blocks, used_blocks, AgreesWith}
-use Rattle.layout_uses.specs.Layouts.{AreNumbered}
+use Rattle.layout_uses.specs.Layouts.{numbers_of, has_number, track_blocks, used_blocks, AgreesWith, AreNumbered}
 use Rattle.layout_uses.specs.Occurrences.{times_named}
 use Rattle.layout_uses.proofs.Times.{named_append}
 
@@ -171,15 +169,13 @@ used_most id (t ∷ ts) = ⊎_elim
       arith,
       each_again id t ts is,
       used_most id ts,
-      named_append id (layout_blocks t.layout)
-          (track_blocks ts),
+      named_append id (layout_blocks t.layout) (track_blocks ts),
     ))
     (λ is. omega (
       arith,
       each_first id t ts is,
       used_most id ts,
-      named_append id (layout_blocks t.layout)
-          (track_blocks ts),
+      named_append id (layout_blocks t.layout) (track_blocks ts),
     ))
     (number_cases (has_number t.number ts))
 

@@ -1,6 +1,6 @@
 -- The order of tracks does not matter to what is counted over them.
-use Rattle.std.proofs.Common.{◌≡◌, ⊎_elim, refl, sym, ap, ◌∙◌, ℕ, ◌+◌, Bool, true, List, []}
-use Rattle.std.proofs.Common.{◌∷◌, ◌++◌, if◌then◌else◌, eqb, arith}
+use Rattle.std.proofs.Common.{◌≡◌, ⊎_elim, refl, sym, ap, ◌∙◌, ℕ, ◌+◌, Bool, true, List, [], ◌∷◌, ◌++◌, if◌then◌else◌}
+use Rattle.std.proofs.Common.{eqb, arith}
 use Rattle.std.proofs.lemmas.List.{map-append}
 use Rattle.pcm_base.specs.declared.block.BlockRef.{BlockRef}
 use Rattle.block_ledger.specs.Counts.{Counts, times}
@@ -36,7 +36,7 @@ numbered_without (x ∷ xs) ys zs h = (
   numbered_without xs ys zs h.1,
 )
 
-flipped : (t u : Track) → Agree t u → Agree u t
+pub flipped : (t u : Track) → Agree t u → Agree u t
 flipped t u agree = λ e. sym (agree (sym e))
 
 agrees_among : (x t : Track) (xs ys : List Track) → Agree x t → AgreesWith x (xs ++ ys) → AgreesWith x (xs ++ t ∷ ys)

@@ -1,16 +1,13 @@
 -- The ids that counts over layouts name.
-use Rattle.std.proofs.Common.{◌≡◌, ℕ, ◌+◌, ◌≤◌, ◌<◌, List, ◌++◌, ⊎_elim, ap, Option, Some, None, IsSome}
-use Rattle.std.proofs.Common.{IfSome, IfNone, arith}
+use Rattle.std.proofs.Common.{◌≡◌, ℕ, ◌+◌, ◌≤◌, ◌<◌, List, ◌++◌, ⊎_elim, ap, Option, Some, None, IsSome, IfSome, IfNone}
+use Rattle.std.proofs.Common.{arith}
 use Rattle.pcm_base.specs.declared.block.BlockRef.{BlockRef}
 use Rattle.block_ledger.specs.Counts.{Counts, IsNamed, occurrences}
 use Rattle.project_state.specs.declared.track.Track.{Track}
-use Rattle.layout_uses.specs.Laws.{SameNames}
-use Rattle.layout_uses.specs.Layouts.{AreNumbered, track_blocks}
 use Rattle.layout_uses.specs.Occurrences.{Dropped, HasAll, Held, times_named}
-use Rattle.layout_uses.specs.Tallies.{AreCounts}
+use Rattle.layout_uses.specs.{Laws.SameNames, Layouts.AreNumbered, Layouts.track_blocks, Tallies.AreCounts}
 use Rattle.layout_uses.proofs.Layouts.{used_all, used_most, pos_cases}
-use Rattle.layout_uses.proofs.Times.{named_append, named_of}
-use Rattle.layout_uses.proofs.Tracks.{not_free, times_counted}
+use Rattle.layout_uses.proofs.{Times.named_append, Times.named_of, Tracks.not_free, Tracks.times_counted}
 
 pub named_some : (o : Option ℕ) → IsNamed o → 0 < occurrences o
 named_some None h = absurd h

@@ -1,10 +1,8 @@
 -- Layouts that get their numbers.
-use Rattle.std.proofs.Common.{◌≡◌, ⊎_elim, inl, inr, sym, ap, subst, ℕ, ◌+◌, ◌<◌, ◌==◌, List, [], ◌∷◌, ◌++◌}
-use Rattle.std.proofs.Common.{arith}
+use Rattle.std.proofs.Common.{◌≡◌, ⊎_elim, inl, inr, sym, ap, subst, ℕ, ◌+◌, ◌<◌, ◌==◌, List, [], ◌∷◌, ◌++◌, arith}
 use Rattle.std.proofs.lemmas.Bool.{cases_Bool, cases_eq, ne_eqb}
-use Rattle.project_state.specs.declared.track.Track.{Track}
-use Rattle.project_state.specs.Numbers.{AgreeById, AgreesIfAny}
-use Rattle.project_state.specs.Tracks.{put_in, track_of}
+use Rattle.project_state.specs.{declared.track.Track.Track, Numbers.AgreeById, Numbers.AgreesIfAny, Tracks.put_in}
+use Rattle.project_state.specs.{Tracks.track_of}
 use Rattle.project_state.proofs.Points.{put_same, put_other}
 use Rattle.layout_uses.specs.Laws.{AreAmong, IsAmong, NewAgrees, SharedAgree, AnyOrder}
 use Rattle.layout_uses.specs.Layouts.{Agree, AgreesWith, AreDrawn, AreNumbered}
@@ -88,7 +86,7 @@ any_order xs ys zs others uses counts numbered is = counts_swapped xs ys zs othe
 -- ---- tracks by their ids
 
 -- a track that agrees with these agrees with each of them
-agrees_one : (t u : Track) (ts : List Track) → AgreesWith t ts → IsAmong u ts → Agree t u
+pub agrees_one : (t u : Track) (ts : List Track) → AgreesWith t ts → IsAmong u ts → Agree t u
 agrees_one t u [] agree among = absurd among
 agrees_one t u (x ∷ xs) agree among = ⊎_elim
     (λ same. subst (λ (y : Track). Agree t y) same agree.0)

@@ -1,17 +1,14 @@
 -- Tracks that come or go one after another.
-use Rattle.std.proofs.Common.{◌≡◌, ◌↔◌, refl, sym, ap, ◌∙◌, subst, ℕ, ◌+◌, ◌≤◌, List, [], ◌∷◌, ◌++◌}
-use Rattle.std.proofs.Common.{take}
-use Rattle.std.proofs.Common.{drop, append_assoc, take-append-drop, slice_get, Some, IsSome, arith, length-append}
+use Rattle.std.proofs.Common.{◌≡◌, ◌↔◌, refl, sym, ap, ◌∙◌, subst, ℕ, ◌+◌, ◌≤◌, List, [], ◌∷◌, ◌++◌, take, drop}
+use Rattle.std.proofs.Common.{append_assoc, take-append-drop, slice_get, Some, IsSome, arith, length-append}
 use Rattle.pcm_base.specs.declared.block.BlockRef.{BlockRef}
-use Rattle.block_ledger.specs.Counts.{Counts, occurrences}
-use Rattle.block_ledger.specs.Entries.{count_of}
+use Rattle.block_ledger.specs.{Counts.Counts, Counts.occurrences, Entries.count_of}
 use Rattle.clip_track.specs.Clips.{layout_blocks}
 use Rattle.project_state.specs.declared.track.Track.{Track}
 use Rattle.project_state.proofs.Points.{take_some, drop_some}
-use Rattle.layout_uses.specs.declared.tally.Tally.{Tally}
-use Rattle.layout_uses.specs.Layouts.{track_blocks}
 use Rattle.layout_uses.specs.Occurrences.{HasIds, times_named}
 use Rattle.layout_uses.specs.Tallies.{AreCounts, IsTally, Comes, Goes, Has}
+use Rattle.layout_uses.specs.{declared.tally.Tally.Tally, Layouts.track_blocks}
 use Rattle.layout_uses.proofs.Times.{named_append, Few}
 
 pub times_tracks : (id : ℕ) (xs ys : List Track)
@@ -23,14 +20,6 @@ times_tracks id (x ∷ xs) ys = omega (
   named_append id (layout_blocks x.layout) (track_blocks (xs ++ ys)),
   named_append id (layout_blocks x.layout) (track_blocks xs),
 )
-
-pub came_none : (t : Tally) → Comes [] t t
-came_none t = record {
-  counted = λ others blocks few is. is;
-  ids = λ id. (λ h. h, λ h. h);
-  most = λ id. omega arith;
-  room = omega arith;
-}
 
 pub came_more : (xs ys : List Track) (a b c : Tally) → Comes xs a b → Comes ys b c → Comes (ys ++ xs) a c
 came_more xs ys a b c one two = record {

@@ -1,16 +1,13 @@
 -- Points that differ from the current one in some tracks, by the numbers of their layouts.
-use Rattle.std.proofs.Common.{◌≡◌, ◌⊎◌, ⊎_elim, inl, inr, refl, sym, subst, ◌∙◌, ℕ, ◌+◌, ◌<◌, List, [], ◌∷◌}
-use Rattle.std.proofs.Common.{◌++◌}
+use Rattle.std.proofs.Common.{◌≡◌, ◌⊎◌, ⊎_elim, inl, inr, refl, sym, subst, ◌∙◌, ℕ, ◌+◌, ◌<◌, List, [], ◌∷◌, ◌++◌}
 use Rattle.std.proofs.Common.{arith}
-use Rattle.std.specs.List.{AllByRecursion}
 use Rattle.std.proofs.lemmas.Bool.{cases_eq, ne_eqb}
+use Rattle.std.specs.List.{AllByRecursion}
 use Rattle.clip_track.specs.declared.clips.Clip.{Clip}
-use Rattle.project_state.specs.declared.track.Track.{Track}
-use Rattle.project_state.specs.Tracks.{put_in, without}
+use Rattle.project_state.specs.{declared.track.Track.Track, Tracks.put_in, Tracks.without}
 use Rattle.project_state.proofs.Points.{other_keeps, other_same, put_same, put_other}
-use Rattle.layout_uses.specs.Drawing.{HasNumbers}
-use Rattle.layout_uses.specs.Laws.{AreAmong, IsAmong}
 use Rattle.layout_uses.specs.Layouts.{AgreesWith, AreDrawn, AreNumbered}
+use Rattle.layout_uses.specs.{Drawing.HasNumbers, Laws.AreAmong, Laws.IsAmong}
 use Rattle.layout_uses.proofs.Draws.{above_agrees, among_all, among_behind, drawn_one, like_agrees}
 use Rattle.layout_uses.proofs.Numbers.{among_agrees}
 

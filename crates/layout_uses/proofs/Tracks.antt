@@ -1,18 +1,15 @@
 -- A use of a layout that comes or goes.
-use Rattle.std.proofs.Common.{◌≡◌, ⊎_elim, refl, sym, ap, ◌∙◌, subst, ℕ, zero, suc, ◌+◌, ◌<◌}
-use Rattle.std.proofs.Common.{true}
-use Rattle.std.proofs.Common.{length, false, List, [], ◌∷◌, ◌++◌, Option, Some, None, IsSome, is_none, arith}
+use Rattle.std.proofs.Common.{◌≡◌, ⊎_elim, refl, sym, ap, ◌∙◌, subst, ℕ, zero, suc, ◌+◌, ◌<◌, true, length, false, List}
+use Rattle.std.proofs.Common.{[], ◌∷◌, ◌++◌, Option, Some, None, IsSome, is_none, arith}
 use Rattle.std.proofs.lemmas.Bool.{cases_eq}
 use Rattle.pcm_base.specs.declared.block.BlockRef.{BlockRef}
-use Rattle.block_ledger.specs.Counts.{Counts, SetsCount, IsFreshCount, IsNamed, occurrences, one_more, one_less}
+use Rattle.block_ledger.specs.Counts.{Counts, SetsCount, IsFreshCount, occurrences, one_more, one_less}
 use Rattle.clip_track.specs.Clips.{layout_blocks}
 use Rattle.project_state.specs.declared.track.Track.{Track}
-use Rattle.layout_uses.specs.Layouts.{numbers_of, has_number, used_blocks}
 use Rattle.layout_uses.specs.Occurrences.{HasAll, Dropped, Held, times_named}
-use Rattle.layout_uses.specs.Tallies.{AreCounts}
-use Rattle.layout_uses.proofs.Times.{named_append, named_of}
-use Rattle.layout_uses.proofs.Layouts.{times_used, each_again, each_first, number_cases, number_here}
-use Rattle.layout_uses.proofs.Layouts.{times_number, times_no_number}
+use Rattle.layout_uses.specs.{Layouts.numbers_of, Layouts.has_number, Layouts.used_blocks, Tallies.AreCounts}
+use Rattle.layout_uses.proofs.Times.{named_append}
+use Rattle.layout_uses.proofs.Layouts.{times_used, each_again, each_first, number_cases, times_number, times_no_number}
 
 -- how often an id comes in what is counted
 pub times_counted : (id : ℕ) (ts : List Track) (blocks : List BlockRef)
@@ -94,13 +91,6 @@ module _ (ts : List Track) (blocks : List BlockRef) (u c : Counts) (is : AreCoun
 
 module _ (ts : List Track) (blocks : List BlockRef) (u c : Counts) (t : Track) (is : AreCounts
     (t ∷ ts) blocks u c) where
-  pub is_used : IsNamed (u t.number)
-  is_used = named_of (u t.number) (omega (
-    arith,
-    is.fresh_uses t.number,
-    times_number t.number (t ∷ ts) (number_here t.number t ts refl),
-  ))
-
   module _ (u1 : Counts) (set : SetsCount u u1 t.number (Some (one_less (u t.number))))
       (fresh : IsFreshCount (numbers_of ts) u1) where
     last : u1 t.number ≡ Some 0 → has_number t.number ts ≡ false

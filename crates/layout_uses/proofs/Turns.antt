@@ -1,17 +1,14 @@
 -- One turn of a loop over what has blocks.
 use Rattle.std.proofs.Common.{◌≡◌, refl, sym, ap, ◌∙◌, subst, ℕ, zero, suc, ◌+◌, ◌^◌, ◌≤◌, ◌<◌, List, [], ◌∷◌, ◌++◌}
-use Rattle.std.proofs.Common.{take, drop, length, flat_map, append_assoc, take-append-drop, slice_get, Some, IsSome}
-use Rattle.std.proofs.Common.{arith}
-use Rattle.std.proofs.lemmas.List.{append-nil, length-take-le, drop-append-le}
-use Rattle.std.proofs.lemmas.Grind.{flat_map-append}
+use Rattle.std.proofs.Common.{take, drop, flat_map, append_assoc, take-append-drop, slice_get, Some, IsSome, arith}
+use Rattle.std.proofs.{lemmas.List.append-nil, lemmas.Grind.flat_map-append}
 use Rattle.pcm_base.specs.declared.block.BlockRef.{BlockRef}
 use Rattle.block_ledger.specs.Counts.{Counts, IsNamed, occurrences}
-use Rattle.clip_track.specs.declared.clips.Clip.{Clip}
-use Rattle.clip_track.specs.Clips.{layout_blocks}
+use Rattle.clip_track.specs.{declared.clips.Clip.Clip, Clips.layout_blocks}
 use Rattle.project_state.proofs.Points.{take_some}
 use Rattle.layout_uses.specs.Occurrences.{HasAll, Dropped, HasIds, Held}
-use Rattle.layout_uses.proofs.Times.{dropped_none, dropped_append, has_rest, has_left, held_append, there_rest}
-use Rattle.layout_uses.proofs.Times.{there_left, Few, few_rest, few_left, named_of, named_same}
+use Rattle.layout_uses.proofs.Times.{dropped_append, has_rest, has_left, held_append, there_rest, there_left, Few}
+use Rattle.layout_uses.proofs.Times.{few_rest, few_left, named_of, named_same}
 
 module _ {X : Type 0} (f : X → List BlockRef) (xs : List X) (i : ℕ) (x : X) (here : slice_get xs i ≡ Some x) where
   abbrev front : List BlockRef
@@ -85,49 +82,3 @@ take_take zero n xs le = refl
 take_take (suc i) zero xs le = absurd (omega (arith, le))
 take_take (suc i) (suc n) [] le = refl
 take_take (suc i) (suc n) (x ∷ xs) le = ap (λ z. x ∷ z) (take_take i n xs (omega (arith, le)))
-
-module _ {X : Type 0} (f : X → List BlockRef) (xs : List X) (a to i : ℕ) (x : X) (here : slice_get xs i ≡ Some x)
-    (from : a ≤ i) (before : i < to) (within : i < length xs) where
-  abbrev done : List BlockRef
-  done = flat_map f (drop a (take i xs))
-
-  abbrev ahead : List X
-  ahead = drop (i + 1) (take to xs)
-
-  taken : length (take i xs) ≡ i
-  taken = length-take-le i xs (omega (arith, within))
-
-  range_next : flat_map f (drop a (take (i + 1) xs)) ≡ done ++ f x
-  range_next =
-      let one : drop a (take (i + 1) xs) ≡ drop a (take i xs) ++ x ∷ [] =
-      ap (drop a) (take_some xs i x here) ∙ drop-append-le a (take i xs) (x ∷ []) (omega (arith, taken, from)) in
-      ap (flat_map f) one ∙ flat_map-append f (drop a (take i xs)) (x ∷ [])
-      ∙ ap (λ (z : List BlockRef). done ++ z) (append-nil (f x))
-
-  range_split : flat_map f (drop a (take to xs)) ≡ done ++ (f x ++ flat_map f ahead)
-  range_split =
-      let front : take (i + 1) (take to xs) ≡ take i xs ++ x ∷ [] =
-      take_take (i + 1) to xs (omega (arith, before)) ∙ take_some xs i x here in
-      let all : take to xs ≡ take i xs ++ (x ∷ ahead) = sym (take-append-drop (i + 1) (take to xs))
-      ∙ ap (λ (z : List X). z ++ ahead) front ∙ append_assoc (take i xs) (x ∷ []) ahead in
-      let cut : drop a (take to xs) ≡ drop a (take i xs) ++ (x ∷ ahead) =
-      ap (drop a) all ∙ drop-append-le a (take i xs) (x ∷ ahead) (omega (arith, taken, from)) in
-      ap (flat_map f) cut ∙ flat_map-append f (drop a (take i xs)) (x ∷ ahead)
-
-  pub range_all : (o m : Counts) → HasAll o (flat_map f (drop a (take to xs))) → Dropped o m done → HasAll m (f x)
-  range_all o m all was = has_left m (f x) (flat_map f ahead)
-      (has_rest o m done (f x ++ flat_map f ahead) (subst (HasAll o) range_split all) was)
-
-  pub range_dropped : (o m n : Counts) → Dropped o m done → Dropped m n (f x)
-      → Dropped o n (flat_map f (drop a (take (i + 1) xs)))
-  range_dropped o m n was more = subst (Dropped o n) (sym range_next) (dropped_append o m n done (f x) was more)
-
--- none yet
-pub range_none : {X : Type 0} (f : X → List BlockRef) (xs : List X) (a : ℕ) (o : Counts)
-    → Dropped o o (flat_map f (drop a (take a xs)))
-range_none f xs a o = subst (λ z. Dropped o o (flat_map f z)) (sym (none a xs)) (dropped_none o)
-  where
-    none : {X : Type 0} (a : ℕ) (xs : List X) → drop a (take a xs) ≡ []
-    none zero xs = refl
-    none (suc a) [] = refl
-    none (suc a) (x ∷ xs) = none a xs

@@ -2,8 +2,7 @@
 use Rattle.std.specs.Prelude.{◌≡◌, ◌⊎◌, ℕ, ◌+◌, ◌≤◌, List, ◌++◌, length, map}
 use Rattle.pcm_base.specs.History.{History}
 use Rattle.clip_track.specs.declared.clips.Clip.{Clip}
-use Rattle.project_state.specs.declared.track.Track.{Track}
-use Rattle.project_state.specs.Numbers.{unnumbered}
+use Rattle.project_state.specs.{declared.track.Track.Track, Numbers.unnumbered}
 use Rattle.layout_uses.specs.Laws.{AreAmong, IsAmong}
 use Rattle.layout_uses.specs.Layouts.{AreDrawn, AreNumbered, history_tracks}
 

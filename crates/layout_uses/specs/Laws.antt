@@ -3,11 +3,9 @@ use Rattle.std.specs.Prelude.{◌≡◌, ◌↔◌, ◌⊎◌, ℕ, ◌+◌, Lis
 use Rattle.std.specs.List.{AllByRecursion}
 use Rattle.pcm_base.specs.declared.block.BlockRef.{BlockRef}
 use Rattle.block_ledger.specs.Counts.{Counts, IsFreshCount, IsNamed}
-use Rattle.project_state.specs.declared.track.Track.{Track}
-use Rattle.project_state.specs.Tracks.{put_in}
+use Rattle.project_state.specs.{declared.track.Track.Track, Tracks.put_in}
 use Rattle.layout_uses.specs.Layouts.{AreDrawn, AreNumbered, track_blocks}
-use Rattle.layout_uses.specs.Occurrences.{ids_of}
-use Rattle.layout_uses.specs.Tallies.{AreCounts}
+use Rattle.layout_uses.specs.{Occurrences.ids_of, Tallies.AreCounts}
 
 -- Counts over the layouts that are used, of each once, name the ids that counts over all tracks name.
 abbrev pub SameNames : Type 0

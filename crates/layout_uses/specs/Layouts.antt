@@ -1,8 +1,7 @@
 -- Layouts by their numbers, and the blocks of those that are used.
 use Rattle.std.specs.Prelude.{◌≡◌, ℕ, ◌<◌, ◌==◌, Bool, true, false, if◌then◌else◌, List, [], ◌∷◌, map}
 use Rattle.std.specs.List.{flat_map, AllByRecursion}
-use Rattle.pcm_base.specs.declared.block.BlockRef.{BlockRef}
-use Rattle.pcm_base.specs.History.{History, points_of}
+use Rattle.pcm_base.specs.{declared.block.BlockRef.BlockRef, History.History, History.points_of}
 use Rattle.clip_track.specs.Clips.{layout_blocks}
 use Rattle.project_state.specs.declared.track.Track.{Track}
 

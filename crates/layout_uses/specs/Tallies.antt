@@ -1,12 +1,10 @@
 -- What is counted: the uses of layouts, and how often each block is named.
 use Rattle.std.specs.Prelude.{◌≡◌, ◌↔◌, ℕ, ◌+◌, ◌^◌, ◌≤◌, ◌<◌, Some, IsSome, List, ◌++◌, length}
 use Rattle.pcm_base.specs.declared.block.BlockRef.{BlockRef}
-use Rattle.block_ledger.specs.Counts.{Counts, IsFreshCount, occurrences}
-use Rattle.block_ledger.specs.Entries.{count_of}
+use Rattle.block_ledger.specs.{Counts.Counts, Counts.IsFreshCount, Counts.occurrences, Entries.count_of}
 use Rattle.project_state.specs.declared.track.Track.{Track}
-use Rattle.layout_uses.specs.declared.tally.Tally.{Tally}
 use Rattle.layout_uses.specs.Layouts.{AreDrawn, AreNumbered, numbers_of, used_blocks, track_blocks}
-use Rattle.layout_uses.specs.Occurrences.{ids_of, times_named}
+use Rattle.layout_uses.specs.{declared.tally.Tally.Tally, Occurrences.ids_of, Occurrences.times_named}
 
 -- The uses are a fresh count over these tracks, and have no layout that is not used; the counts are a fresh count over
 -- the layouts so used, of each once, and over other blocks, as the clipboard's are.

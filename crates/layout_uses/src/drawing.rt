@@ -157,7 +157,7 @@ pub struct Drawn {
 /// # Errors
 ///
 /// There is no memory for the point.
-pub(crate) fn draw_numbers(
+pub fn draw_numbers(
     alloc: Global,
     tracks: &Point,
     current: &Point,

@@ -1,13 +1,12 @@
 -- Building a disk file by file.
-use Rattle.std.proofs.Common.{◌≡◌, ◌⊎◌, inl, inr, ⊎_elim, ℕ, ◌+◌, ◌<◌, Option, Some, None, List, [], ◌∷◌, get_or, refl}
-use Rattle.std.proofs.Common.{sym, ◌∙◌, ap, subst, arith}
+use Rattle.std.proofs.Common.{◌≡◌, ◌⊎◌, inl, inr, ⊎_elim, ℕ, ◌+◌, ◌<◌, Option, Some, List, [], ◌∷◌, get_or, refl, sym}
+use Rattle.std.proofs.Common.{◌∙◌, ap, subst, arith}
 use Rattle.std.proofs.lemmas.Bool.{cases_eq}
 use Rattle.disk_model.specs.Disk.{Files, bytes_of, written, SameElsewhere}
 use Rattle.memory_disk.specs.History.{Step, Wrote, Synced, Removed, reads_of}
 use Rattle.memory_disk.specs.Histories.{reads_written, reads_elsewhere, reads_removed, elsewhere_removed}
-use Rattle.memory_disk.specs.Calls.{AllHeld, history_of}
-use Rattle.memory_disk.specs.declared.call.Call.{Call}
-use Rattle.memory_disk.specs.Settled.{IsBuilt, SetsFile}
+use Rattle.memory_disk.specs.{Calls.AllHeld, Calls.history_of, declared.call.Call.Call, Settled.IsBuilt}
+use Rattle.memory_disk.specs.{Settled.SetsFile}
 use Rattle.disk_model.proofs.Writes.{written_new}
 
 -- files that agree at one and elsewhere
@@ -16,16 +15,6 @@ same_files file c d here there = λ i f. point f i
   where
     point : (f : ℕ) → c f ≡ d f
     point f = ⊎_elim (λ e. subst (λ (g : ℕ). c g ≡ d g) (sym e) here) (λ ne. there f ne) (cases_eq f file)
-
-pub sets_none : (file : ℕ) (h : List Step) → SetsFile file None h (Synced file ∷ Removed file ∷ h)
-sets_none file h = record {
-  there = reads_removed file h;
-  others = elsewhere_removed file h;
-  settled = λ only c image.
-      let d = image.0.0 in
-      same_files file c (reads_of (Removed file ∷ h)) image.1 (λ o ne. image.0.2.others o ne
-      ∙ ap (λ (f : Files). f o) (only d image.0.1) ∙ sym (elsewhere_removed file h o ne));
-}
 
 pub sets_some : (file : ℕ) (v : List ℕ) (h : List Step)
     → SetsFile file (Some v) h (Synced file ∷ Wrote file 0 v ∷ Removed file ∷ h)

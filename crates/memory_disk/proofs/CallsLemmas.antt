@@ -2,10 +2,8 @@
 use Rattle.std.proofs.Common.{◌≡◌, ℕ, zero, suc, ◌+◌, ◌≤◌, ◌<◌, List, [], ◌∷◌, ◌++◌, length, take, drop, get_or, refl}
 use Rattle.std.proofs.Common.{sym, ◌∙◌, ap, subst, arith, length-drop}
 use Rattle.std.proofs.lemmas.List.{take-append-le, drop-append-le, drop_at, take_all, take_more, take-append-drop}
-use Rattle.std.proofs.lemmas.List.{length-take-le}
-use Rattle.memory_disk.specs.History.{Step}
 use Rattle.memory_disk.specs.Calls.{step_by, step_of, history_on, history_of, Held, AllHeld}
-use Rattle.memory_disk.specs.declared.call.Call.{Call}
+use Rattle.memory_disk.specs.{History.Step, declared.call.Call.Call}
 
 pub history_push : (done : List Step) (row : List ℕ) (calls : List Call) (call : Call)
     → history_on done row (calls ++ call ∷ []) ≡ step_of row call ∷ history_on done row calls
@@ -83,11 +81,6 @@ pub held_take : (n : ℕ) (calls : List Call) (i : ℕ) → AllHeld n calls → 
 held_take n calls zero held = tt
 held_take n [] (suc i) held = tt
 held_take n (c ∷ calls) (suc i) held = (held.0, held_take n calls i held.1)
-
-pub bytes_long : (row : List ℕ) (call : Call) (bytes : List ℕ) → Held (length row) call
-    → bytes ≡ take call.len (drop call.from row) → length bytes ≡ call.len
-bytes_long row call bytes held is =
-    ap length is ∙ length-take-le call.len (drop call.from row) (omega (arith, held.within, length-drop call.from row))
 
 pub history_append : (done : List Step) (row : List ℕ) (first more : List Call)
     → history_on done row (first ++ more) ≡ history_on (history_on done row first) row more

@@ -1,10 +1,9 @@
 -- One call more in the index.
 use Rattle.std.proofs.Common.{◌≡◌, ◌≢◌, ⊎_elim, ℕ, ◌+◌, ◌^◌, ◌≤◌, ◌<◌, eqb, cond, Option, Some, None, IfSome, List, []}
 use Rattle.std.proofs.Common.{◌∷◌, ◌++◌, length, get_or, set, refl, sym, ◌∙◌, ap, subst, arith, length-append}
-use Rattle.std.specs.Prelude.{IsSome}
 use Rattle.std.proofs.lemmas.Bool.{cases_eq, cases_lt, cond-true, cond-false, eq-eqb, ne_eqb}
 use Rattle.std.proofs.lemmas.List.{get_or-set_same, get_or-set_other, get_or_append_left, length-set}
-use Rattle.std.specs.Option.{option_map}
+use Rattle.std.specs.{Prelude.IsSome, Option.option_map}
 use Rattle.disk_model.specs.Disk.{Files}
 use Rattle.memory_disk.specs.Index.{AreRising, LeadsTo, IsChain, IsHead, IsIndexed, head_of, size_from}
 use Rattle.memory_disk.specs.declared.heads.Head.{Head}
@@ -193,8 +192,7 @@ module _ (reads : ℕ → Files) (file_of : ℕ → ℕ) (n : ℕ) where
           chain = λ _. chain_next links after head size (sym old.0) (λ i lt.
               apart i (omega (arith, chain.bound)) (omega arith)) (get_or-set_same more head.last n 0 here) chain;
         })
-        rising
-        (length-set more head.last n ∙ long_pushed x)
+        rising (length-set more head.last n ∙ long_pushed x)
         (λ i lt ne. apart i lt (λ e. ne (ap file_of e ∙ chain.ends ∙ old.0)))
         put
 

@@ -2,28 +2,21 @@
 use Rattle.std.proofs.Common.{◌≡◌, ◌≢◌, ⊎_elim, ℕ, zero, suc, ◌+◌, ◌-◌, ◌≤◌, ◌<◌, true, false, not, ◌&&◌, eqb, Option}
 use Rattle.std.proofs.Common.{Some, List, [], ◌∷◌, ◌++◌, length, take, drop, get_or, refl, sym, ◌∙◌, ap, subst, arith}
 use Rattle.std.proofs.Common.{length-drop, take-append-drop}
-use Rattle.std.specs.List.{All}
-use Rattle.std.specs.List.Sorted.{ties, IsStableByKey}
-use Rattle.std.specs.Ordering.{nat_cmp, is_lt}
 use Rattle.std.proofs.lemmas.Bool.{cases_eq, cases_lt, cond-true, cond-false, eq-eqb, ne_eqb}
 use Rattle.std.proofs.lemmas.Bool.Decides.{nat_tests}
 use Rattle.std.proofs.lemmas.List.{get_or-take, get_or-drop, append-nil, length-take-le}
 use Rattle.std.proofs.lemmas.List.Elements.{filter-append, filter_agree}
+use Rattle.std.specs.{List.All, List.Sorted.ties, List.Sorted.IsStableByKey, Ordering.nat_cmp, Ordering.is_lt}
 use Rattle.disk_model.specs.Disk.{bytes_of, written}
-use Rattle.memory_disk.specs.History.{Step, reads_of}
-use Rattle.memory_disk.specs.Histories.{reads_written, reads_removed}
 use Rattle.memory_disk.specs.Images.{Left, IsLeft, left_of, state_at, image_of, after_write, after_removal}
 use Rattle.memory_disk.specs.Calls.{AllHeld, Held, step_by, step_of, history_on, history_of}
-use Rattle.memory_disk.specs.ByFile.{is_of, calls_of}
-use Rattle.memory_disk.specs.Index.{no_call}
-use Rattle.memory_disk.specs.declared.call.Kind.{Kind}
 use Rattle.memory_disk.specs.declared.call.Kind.TheVariants.{Write, Sync, Remove}
-use Rattle.memory_disk.specs.declared.call.Call.{Call}
-use Rattle.memory_disk.proofs.CallsLemmas.{held_at}
+use Rattle.memory_disk.specs.{History.Step, History.reads_of, Histories.reads_written, Histories.reads_removed}
+use Rattle.memory_disk.specs.{ByFile.is_of, ByFile.calls_of, Index.no_call, declared.call.Kind.Kind}
+use Rattle.memory_disk.specs.{declared.call.Call.Call}
 use Rattle.memory_disk.proofs.LeftFiles.{wrote_here, wrote_other, synced_here, synced_other, removed_here}
 use Rattle.memory_disk.proofs.LeftFiles.{removed_other}
-use Rattle.memory_disk.proofs.Noted.{step_other}
-use Rattle.memory_disk.proofs.Rising.{state_first, state_next}
+use Rattle.memory_disk.proofs.{CallsLemmas.held_at, Noted.step_other, Rising.state_first, Rising.state_next}
 
 -- two histories that a file cannot tell apart
 record AreAlike (f : ℕ) (h k : List Step) : Type 0 where

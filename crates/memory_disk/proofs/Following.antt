@@ -1,6 +1,6 @@
 -- One call more.
-use Rattle.std.proofs.Common.{◌≡◌, ◌⊎◌, inl, inr, ⊎_elim, ℕ, Option, Some, None, List, ◌∷◌, length, refl, sym}
-use Rattle.std.proofs.Common.{ap, subst, arith}
+use Rattle.std.proofs.Common.{◌≡◌, ◌⊎◌, inl, inr, ⊎_elim, ℕ, Option, Some, None, List, ◌∷◌, length, refl, sym, ap}
+use Rattle.std.proofs.Common.{subst, arith}
 use Rattle.disk_model.specs.Moment.{Moment, At, Both, IsUpTo}
 use Rattle.disk_model.specs.Disk.{Files, Torn, TornFile, WriteStep, RemoveStep, StaysStep, Follows}
 use Rattle.memory_disk.specs.History.{Step, Wrote, Synced, Removed, IsImage, SinceMoment}

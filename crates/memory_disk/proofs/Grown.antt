@@ -1,21 +1,15 @@
 -- An index while its list of calls grows.
 use Rattle.std.proofs.Common.{◌≡◌, ◌≢◌, ℕ, zero, suc, ◌+◌, ◌≤◌, ◌<◌, Option, None, Result, Ok, Err, List, [], ◌∷◌, ◌++◌}
 use Rattle.std.proofs.Common.{length, take, drop, get_or, refl, sym, ◌∙◌, ap, subst, arith}
-use Rattle.std.specs.Prelude.{IsSome, IsOk, OnOk}
-use Rattle.std.specs.Option.{option_map}
-use Rattle.std.proofs.lemmas.Bool.{false≢true}
-use Rattle.std.proofs.lemmas.List.{take-append-drop, get_or-take}
+use Rattle.std.proofs.{lemmas.Bool.false≢true, lemmas.List.take-append-drop, lemmas.List.get_or-take}
+use Rattle.std.specs.{Prelude.IsSome, Prelude.IsOk, Prelude.OnOk, Option.option_map}
 use Rattle.disk_model.specs.Disk.{Files}
-use Rattle.memory_disk.specs.History.{Step, reads_of}
-use Rattle.memory_disk.specs.Histories.{reads_removed}
 use Rattle.memory_disk.specs.Calls.{AllHeld, step_by, history_of}
 use Rattle.memory_disk.specs.Index.{IsChain, IsIndexed, MakesFile, reads_at, file_at, no_call}
-use Rattle.memory_disk.specs.declared.call.Kind.{Kind}
 use Rattle.memory_disk.specs.declared.call.Kind.TheVariants.{Write, Sync, Remove}
-use Rattle.memory_disk.specs.declared.call.Call.{Call}
-use Rattle.memory_disk.specs.declared.heads.Head.{Head}
-use Rattle.memory_disk.proofs.CallsLemmas.{history_row, held_take}
-use Rattle.memory_disk.proofs.ReadChain.{reads_all}
+use Rattle.memory_disk.specs.{History.Step, History.reads_of, Histories.reads_removed, declared.call.Kind.Kind}
+use Rattle.memory_disk.specs.{declared.call.Call.Call, declared.heads.Head.Head}
+use Rattle.memory_disk.proofs.{CallsLemmas.history_row, CallsLemmas.held_take, ReadChain.reads_all}
 
 pub on_ok : {T E P : Type 0} (r : Result T E) → IsOk r → OnOk r P → P
 on_ok (Ok x) ok p = p

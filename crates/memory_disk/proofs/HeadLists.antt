@@ -4,10 +4,8 @@ use Rattle.std.proofs.Common.{[], ◌∷◌, length, get_or, set, refl, sym, ◌
 use Rattle.std.proofs.lemmas.Bool.{cases_eq, cases_lt, cond-true, cond-false, eq-eqb, ne_eqb}
 use Rattle.std.proofs.lemmas.List.{get_or-set_same, get_or-set_other, length-set}
 use Rattle.std.proofs.lemmas.List.Edits.{length-insert, get_or-insert_below, get_or-insert_at, get_or-insert_above}
-use Rattle.std.specs.List.{insert}
-use Rattle.std.specs.List.Sorted.{IsNonDecreasingBy}
-use Rattle.memory_disk.specs.Index.{head_of, AreRising}
-use Rattle.memory_disk.specs.declared.heads.Head.{Head}
+use Rattle.std.specs.{List.insert, List.Sorted.IsNonDecreasingBy}
+use Rattle.memory_disk.specs.{Index.head_of, Index.AreRising, declared.heads.Head.Head}
 
 -- the first head of a list is the file's or not
 pub head_here : (h : Head) (hs : List Head) (f : ℕ) → h.file ≡ f → head_of (h ∷ hs) f ≡ Some h

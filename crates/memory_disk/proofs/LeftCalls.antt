@@ -2,12 +2,9 @@
 use Rattle.std.proofs.Common.{◌≡◌, ℕ, ◌+◌, ◌-◌, ◌≤◌, ◌<◌, Option, List, ◌∷◌, length, take, drop, get_or, sym, ◌∙◌, ap}
 use Rattle.std.proofs.Common.{subst, arith, length-drop}
 use Rattle.std.proofs.lemmas.List.{take_all}
-use Rattle.memory_disk.specs.History.{Step, Synced, reads_of}
-use Rattle.memory_disk.specs.Images.{IsLeft, IsAtSync}
 use Rattle.memory_disk.specs.Calls.{AllHeld, step_by, step_of, history_on, history_of}
-use Rattle.memory_disk.specs.declared.call.Kind.{Kind}
-use Rattle.memory_disk.specs.declared.call.Kind.TheVariants.{Sync}
-use Rattle.memory_disk.specs.declared.call.Call.{Call}
+use Rattle.memory_disk.specs.{History.Step, History.Synced, History.reads_of, Images.IsLeft, Images.IsAtSync}
+use Rattle.memory_disk.specs.{declared.call.Kind.Kind, declared.call.Kind.TheVariants.Sync, declared.call.Call.Call}
 use Rattle.memory_disk.proofs.CallsLemmas.{history_next, history_on_next, history_parts, held_drop}
 use Rattle.memory_disk.proofs.LeftFiles.{settled_synced}
 

@@ -3,9 +3,8 @@ use Rattle.std.proofs.Common.{◌≡◌, ◌≢◌, ◌⊎◌, inl, inr, ⊎_eli
 use Rattle.std.proofs.Common.{Some, None, List, [], ◌∷◌, length, replicate, get_or, eqb, refl, sym, ◌∙◌, ap, subst}
 use Rattle.std.proofs.Common.{arith, length-append}
 use Rattle.std.proofs.lemmas.Bool.{cases_eq, cases_lt, cond-true}
-use Rattle.std.proofs.lemmas.Bool.Decides.{nat_tests}
 use Rattle.std.proofs.lemmas.List.{get_or-take, length-replicate, length-take-le}
-use Rattle.std.proofs.lemmas.Grind.{same_number_lists}
+use Rattle.std.proofs.{lemmas.Bool.Decides.nat_tests, lemmas.Grind.same_number_lists}
 use Rattle.disk_model.specs.Disk.{bytes_of, written, Torn, TornFile}
 use Rattle.memory_disk.specs.History.{Step, Wrote, Synced, Removed, IsImage, IsFileImage, reads_of}
 use Rattle.memory_disk.specs.Histories.{same_eq, length-written, reads_is_image, reads_written, reads_elsewhere}
@@ -260,10 +259,6 @@ none_left f start (Removed file ∷ h) =
 
 pub image_1 : (h : List Step) → image_of 1 h ≡ synced_of h
 image_1 h = λ i f. none_left f (state_at 1 h f) h i
-
--- a file at its last sync, or with no call at all, has no draw before
-pub settled_none : (choice f start : ℕ) → IsLeft choice f [] start None start
-settled_none choice f start = record { is = refl }
 
 pub settled_synced : (choice f start : ℕ) (h : List Step)
     → IsLeft choice f (Synced f ∷ h) start (reads_of (Synced f ∷ h) f) start

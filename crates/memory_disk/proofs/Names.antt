@@ -1,27 +1,16 @@
 -- Files that no call wrote or removed.
-use Rattle.std.proofs.Common.{◌≡◌, ◌≢◌, ⊎_elim, ℕ, ◌+◌, ◌<◌, Option, None, List, ◌∷◌, length, get_or, refl, sym, ◌∙◌}
-use Rattle.std.proofs.Common.{ap, subst, arith, true, false}
-use Rattle.std.proofs.lemmas.Bool.{cases_eq}
-use Rattle.std.specs.Prelude.{Contains}
-use Rattle.std.specs.List.Sorted.{IsStrictlyIncreasing, IsStrictlySortedBy}
-use Rattle.std.specs.Ordering.{nat_cmp}
-use Rattle.std.specs.BTreeSet.{BTreeSet, contains, Updates}
-use Rattle.std.proofs.lemmas.Bool.Decides.{nat_tests}
-use Rattle.std.proofs.lemmas.Grind.{common_steps}
-use Rattle.std.proofs.lemmas.List.{get_or_default}
-use Rattle.std.proofs.lemmas.Map.Keys.{below_from_sorted}
-use Rattle.std.proofs.lemmas.Map.Views.{btree_set_contains_iff}
-use Rattle.std.proofs.lemmas.Map.Lookups.{exact_unsigned}
-use Rattle.std.proofs.lemmas.Cmp.{nat_cmp_total}
+use Rattle.std.proofs.Common.{◌≡◌, ◌≢◌, ℕ, ◌+◌, ◌<◌, None, List, ◌∷◌, length, get_or, refl, sym, ◌∙◌, subst, arith}
+use Rattle.std.proofs.Common.{true, false}
+use Rattle.std.proofs.{lemmas.Bool.Decides.nat_tests, lemmas.Grind.common_steps, lemmas.List.get_or_default}
+use Rattle.std.proofs.{lemmas.Map.Keys.below_from_sorted, lemmas.Map.Views.btree_set_contains_iff}
+use Rattle.std.proofs.{lemmas.Map.Lookups.exact_unsigned, lemmas.Cmp.nat_cmp_total}
+use Rattle.std.specs.{Prelude.Contains, List.Sorted.IsStrictlyIncreasing, List.Sorted.IsStrictlySortedBy}
+use Rattle.std.specs.{Ordering.nat_cmp, BTreeSet.BTreeSet, BTreeSet.contains, BTreeSet.Updates}
 use Rattle.disk_model.specs.Disk.{Files}
-use Rattle.memory_disk.specs.History.{Step, Synced, reads_of}
-use Rattle.memory_disk.specs.Images.{IsUnnamed, left_of}
-use Rattle.memory_disk.specs.Histories.{reads_elsewhere, elsewhere_removed}
-use Rattle.memory_disk.specs.Calls.{step_by}
-use Rattle.memory_disk.specs.Settled.{IsBuilt}
-use Rattle.memory_disk.specs.declared.call.Kind.{Kind}
 use Rattle.memory_disk.specs.declared.call.Kind.TheVariants.{Write, Sync, Remove}
-use Rattle.memory_disk.proofs.LeftFiles.{wrote_other, synced_here, synced_other, removed_other}
+use Rattle.memory_disk.specs.{History.Step, History.reads_of, Images.IsUnnamed, Histories.reads_elsewhere}
+use Rattle.memory_disk.specs.{Histories.elsewhere_removed, Calls.step_by, Settled.IsBuilt, declared.call.Kind.Kind}
+use Rattle.memory_disk.proofs.LeftFiles.{wrote_other, synced_other, removed_other}
 
 pub still_absent : (k f : ℕ) (s n : BTreeSet ℕ) → Updates nat_cmp s n k true → contains nat_cmp n f ≡ false
     → (k ≢ f) × (contains nat_cmp s f ≡ false)
@@ -44,21 +33,6 @@ other_next Remove file at bytes h f ne was = (
   (λ choice start. removed_other choice file h f start (λ e. ne (sym e)) ∙ was.0 choice start),
   elsewhere_removed file h f (λ e. ne (sym e)) ∙ was.1,
 )
-
--- a sync names no file
-pub sync_next : (file at : ℕ) (bytes : List ℕ) (h : List Step) (f : ℕ) → IsUnnamed h f × (reads_of h f ≡ None)
-    → IsUnnamed (step_by Sync file at bytes ∷ h) f × (reads_of (step_by Sync file at bytes ∷ h) f ≡ None)
-sync_next file at bytes h f was = ⊎_elim
-    (λ same. (
-      (λ choice start. subst (λ (g : ℕ). left_of choice f (Synced g ∷ h) start ≡ record {
-        content = None;
-        state = start;
-      }) same
-          (synced_here choice h f start ∙ ap (λ (o : Option (List ℕ)). record { content = o; state = start }) was.1)),
-      was.1,
-    ))
-    (λ ne. other_next Sync file at bytes h f (λ e. ne (sym e)) was)
-    (cases_eq f file)
 
 -- the keys of a set are what it contains
 pub not_listed : (s : BTreeSet ℕ) (numbers : List ℕ) (f : ℕ) → numbers ≡ s.keys → (Contains numbers f → ⊥)

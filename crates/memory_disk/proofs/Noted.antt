@@ -1,16 +1,12 @@
 -- One call more of a list, in its index.
 use Rattle.std.proofs.Common.{◌≡◌, ◌≢◌, ℕ, ◌+◌, ◌^◌, ◌≤◌, ◌<◌, eqb, cond, Option, Some, None, IfSome, List, [], ◌∷◌}
 use Rattle.std.proofs.Common.{◌++◌, length, take, get_or, set, refl, sym, ◌∙◌, ap, subst, arith}
-use Rattle.std.specs.Prelude.{IsSome}
-use Rattle.std.specs.Option.{option_map}
-use Rattle.memory_disk.specs.History.{Step, reads_of}
-use Rattle.memory_disk.specs.Histories.{reads_elsewhere, elsewhere_removed}
+use Rattle.std.specs.{Prelude.IsSome, Option.option_map}
 use Rattle.memory_disk.specs.Calls.{step_by, step_of, history_of}
 use Rattle.memory_disk.specs.Index.{AreRising, IsIndexed, MakesFile, reads_at, file_at, no_call, head_of, size_from}
-use Rattle.memory_disk.specs.declared.call.Kind.{Kind}
 use Rattle.memory_disk.specs.declared.call.Kind.TheVariants.{Write, Sync, Remove}
-use Rattle.memory_disk.specs.declared.call.Call.{Call}
-use Rattle.memory_disk.specs.declared.heads.Head.{Head}
+use Rattle.memory_disk.specs.{History.Step, History.reads_of, Histories.reads_elsewhere, Histories.elsewhere_removed}
+use Rattle.memory_disk.specs.{declared.call.Kind.Kind, declared.call.Call.Call, declared.heads.Head.Head}
 use Rattle.memory_disk.proofs.CallsLemmas.{history_next}
 use Rattle.memory_disk.proofs.Chains.{size_is, absent_is, indexed_follow, indexed_made, indexed_absent}
 
@@ -45,9 +41,6 @@ module _ (row : List ℕ) (calls : List Call) where
 
     pub within_links : (head : Head) → head_of heads (file_at calls n) ≡ Some head → IsSome head.size → head.last < n
     within_links head found some = ((was.known (file_at calls n) head found).1.chain some).bound
-
-    pub head_is : (head : Head) → head_of heads (file_at calls n) ≡ Some head → head.file ≡ file_at calls n
-    head_is head found = (was.known (file_at calls n) head found).0
 
     pub noted_follow : (new : List Head) (x : ℕ) (more : List ℕ) (head : Head) (size : Option ℕ)
         → head_of heads (file_at calls n) ≡ Some head → IsSome head.size

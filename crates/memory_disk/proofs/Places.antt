@@ -1,10 +1,8 @@
 -- Room for a file that a write makes.
 use Rattle.std.proofs.Common.{◌≡◌, ◌≢◌, inr, ⊎_elim, ℕ, ◌+◌, ◌≤◌, Option, Some, None, List, length, refl, sym, ◌∙◌, ap}
 use Rattle.std.proofs.Common.{subst, arith}
-use Rattle.std.specs.Prelude.{IsSome, IsNone}
-use Rattle.std.specs.Option.{option_map}
-use Rattle.memory_disk.specs.History.{reads_of}
-use Rattle.memory_disk.specs.Ram.{Log, IsFull, files_after}
+use Rattle.std.specs.{Prelude.IsSome, Prelude.IsNone, Option.option_map}
+use Rattle.memory_disk.specs.{History.reads_of, Ram.Log, Ram.IsFull, Ram.files_after}
 
 unmapped : (o : Option (List ℕ)) → IsNone (option_map length o) → o ≡ None
 unmapped None e = refl

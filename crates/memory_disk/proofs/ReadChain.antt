@@ -1,17 +1,13 @@
 -- What is read along a file's calls.
 use Rattle.std.proofs.Common.{◌≡◌, ℕ, ◌+◌, ◌<◌, Option, Some, None, List, ◌∷◌, length, take, get_or, refl, sym, ◌∙◌, ap}
 use Rattle.std.proofs.Common.{subst, arith}
-use Rattle.std.specs.Prelude.{is_some}
-use Rattle.std.specs.Option.{option_map}
 use Rattle.std.proofs.lemmas.List.{take_all}
+use Rattle.std.specs.{Prelude.is_some, Option.option_map}
 use Rattle.disk_model.specs.Disk.{Files, bytes_of}
-use Rattle.memory_disk.specs.History.{Step, reads_of}
 use Rattle.memory_disk.specs.Calls.{IsWindow, step_of, history_of}
 use Rattle.memory_disk.specs.Index.{IsChain, IsHead, IsIndexed, reads_at, file_at, no_call, head_of, size_from}
-use Rattle.memory_disk.specs.declared.call.Call.{Call}
-use Rattle.memory_disk.specs.declared.heads.Head.{Head}
-use Rattle.memory_disk.proofs.CallsLemmas.{history_next}
-use Rattle.memory_disk.proofs.Chains.{size_is, absent_is}
+use Rattle.memory_disk.specs.{History.Step, History.reads_of, declared.call.Call.Call, declared.heads.Head.Head}
+use Rattle.memory_disk.proofs.{CallsLemmas.history_next, Chains.size_is, Chains.absent_is}
 
 -- after all of the calls
 pub reads_all : (row : List ℕ) (calls : List Call) → reads_at row calls (length calls) ≡ reads_of (history_of row calls)

@@ -1,7 +1,5 @@
 -- The calls of one file among others.
-use Rattle.std.specs.Prelude.{ℕ, Bool, ◌==◌, List}
-use Rattle.std.specs.List.{filter}
-use Rattle.std.specs.List.Sorted.{IsNonDecreasingBy}
+use Rattle.std.specs.{Prelude.ℕ, Prelude.Bool, Prelude.◌==◌, Prelude.List, List.filter, List.Sorted.IsNonDecreasingBy}
 use Rattle.memory_disk.specs.declared.call.Call.{Call}
 
 abbrev pub is_of : ℕ → Call → Bool

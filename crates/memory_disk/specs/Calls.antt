@@ -1,12 +1,11 @@
 -- The history that a list of calls and a row of bytes stand for.
-use Rattle.std.specs.Prelude.{◌≡◌, ℕ, ◌+◌, ◌≤◌, ◌<◌, slice_index, Option, Some, None, Vec, List, [], ◌∷◌, length}
-use Rattle.std.specs.Prelude.{take, drop}
+use Rattle.std.specs.Prelude.{◌≡◌, ℕ, ◌+◌, ◌≤◌, ◌<◌, slice_index, Option, Some, None, Vec, List, [], ◌∷◌, length, take}
+use Rattle.std.specs.Prelude.{drop}
 use Rattle.std.specs.declared.alloc.Global.{Global}
 use Rattle.pcm_base.specs.declared.limits.TheConstants.{COUNTER_LIMIT}
 use Rattle.memory_disk.specs.History.{Step, Wrote, Synced, Removed}
-use Rattle.memory_disk.specs.declared.call.Kind.{Kind}
 use Rattle.memory_disk.specs.declared.call.Kind.TheVariants.{Write, Sync, Remove}
-use Rattle.memory_disk.specs.declared.call.Call.{Call}
+use Rattle.memory_disk.specs.{declared.call.Kind.Kind, declared.call.Call.Call}
 
 abbrev pub step_by : Kind → ℕ → ℕ → List ℕ → Step
 step_by Write file at bytes = Wrote file at bytes

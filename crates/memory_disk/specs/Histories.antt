@@ -2,9 +2,8 @@
 use Rattle.std.proofs.Common.{◌≡◌, inl, inr, ℕ, zero, suc, ◌+◌, ◌-◌, ◌≤◌, min, max, eqb, true, Option, Some, None, List}
 use Rattle.std.proofs.Common.{[], ◌∷◌, ◌++◌, length, take, drop, replicate, refl, sym, ◌∙◌, ap, subst, arith}
 use Rattle.std.proofs.Common.{append_assoc, length-append, length-drop}
-use Rattle.std.proofs.lemmas.Bool.{eq-eqb, cond-true}
-use Rattle.std.proofs.lemmas.Bool.Decides.{nat_tests}
 use Rattle.std.proofs.lemmas.List.{drop_at, take-append-le, length-take-le, length-replicate}
+use Rattle.std.proofs.{lemmas.Bool.eq-eqb, lemmas.Bool.cond-true, lemmas.Bool.Decides.nat_tests}
 use Rattle.disk_model.specs.Moment.{Moment, At, Both, IsUpTo}
 use Rattle.disk_model.specs.Disk.{Files, bytes_of, written, Torn, TornFile, SameElsewhere}
 use Rattle.memory_disk.specs.History.{Step, Wrote, Synced, Removed, IsImage, SinceImage, SinceMoment, reads_of}

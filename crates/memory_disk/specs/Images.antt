@@ -1,7 +1,6 @@
 -- What `RamStore::image` leaves: which of the pending calls have reached the disk, by a choice and a generator.
 use Rattle.std.specs.Prelude.{◌≡◌, ℕ, zero, suc, ◌+◌, ◌-◌, ◌*◌, ◌^◌, ◌==◌, if◌then◌else◌, Bool, true, false, Option}
-use Rattle.std.specs.Prelude.{Some, None, List, [], ◌∷◌, ◌++◌, length, take, replicate}
-use Rattle.std.specs.Prelude.{◌/◌, ◌%◌}
+use Rattle.std.specs.Prelude.{Some, None, List, [], ◌∷◌, ◌++◌, length, take, replicate, ◌/◌, ◌%◌}
 use Rattle.disk_model.specs.Disk.{Files, bytes_of, written}
 use Rattle.memory_disk.specs.History.{Step, Wrote, Synced, Removed, reads_of}
 

@@ -1,15 +1,11 @@
 -- The index of a list of calls by file.
-use Rattle.std.specs.Prelude.{◌≡◌, ◌≢◌, ℕ, ◌+◌, ◌≤◌, ◌<◌, ◌==◌, if◌then◌else◌, Option, Some, None, IsSome, IfSome}
-use Rattle.std.specs.Prelude.{List, [], ◌∷◌, length, take, slice_index, slice_index_or}
-use Rattle.std.specs.List.{AllPairs}
-use Rattle.std.specs.Option.{option_map}
+use Rattle.std.specs.Prelude.{◌≡◌, ◌≢◌, ℕ, ◌+◌, ◌≤◌, ◌<◌, ◌==◌, if◌then◌else◌, Option, Some, None, IsSome, IfSome, List}
+use Rattle.std.specs.Prelude.{[], ◌∷◌, length, take, slice_index, slice_index_or}
+use Rattle.std.specs.{List.AllPairs, Option.option_map}
 use Rattle.pcm_base.specs.declared.limits.TheConstants.{COUNTER_LIMIT}
 use Rattle.disk_model.specs.Disk.{Files}
-use Rattle.memory_disk.specs.History.{reads_of}
-use Rattle.memory_disk.specs.Calls.{history_of}
-use Rattle.memory_disk.specs.declared.call.Kind.TheVariants.{Write}
-use Rattle.memory_disk.specs.declared.call.Call.{Call}
-use Rattle.memory_disk.specs.declared.heads.Head.{Head}
+use Rattle.memory_disk.specs.{History.reads_of, Calls.history_of, declared.call.Kind.TheVariants.Write}
+use Rattle.memory_disk.specs.{declared.call.Call.Call, declared.heads.Head.Head}
 
 -- what is read after the first k of these calls
 abbrev pub reads_at : List ℕ → List Call → ℕ → Files

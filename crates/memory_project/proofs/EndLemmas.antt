@@ -1,36 +1,26 @@
 -- Where the script of a number ends.
 use Rattle.std.proofs.Common.{◌≡◌, ℕ, zero, suc, ◌-◌, Bool, true, false, None, List, [], ◌∷◌, pos, negsuc, Result, Ok}
 use Rattle.std.proofs.Common.{refl, sym, ap, ◌∙◌, subst, arith}
-use Rattle.std.specs.Prelude.{if◌then◌else◌, IsOk}
-use Rattle.std.specs.List.{AllByRecursion}
 use Rattle.std.proofs.lemmas.List.Elements.{All-cons, All-nil}
-use Rattle.pcm_base.specs.declared.answer.Reply.{Reply}
-use Rattle.pcm_base.specs.declared.command.Call.{Call}
-use Rattle.pcm_base.specs.declared.command.Call.TheVariants.{Line}
-use Rattle.pcm_base.specs.declared.command.Command.{Command}
-use Rattle.pcm_base.specs.declared.command.Command.TheVariants as command
-use Rattle.pcm_base.specs.declared.entry.Entry.{Entry}
-use Rattle.pcm_base.specs.declared.refusal.Refusal.{Refusal}
+use Rattle.std.specs.{Prelude.if◌then◌else◌, Prelude.IsOk, List.AllByRecursion}
 use Rattle.pcm_base.specs.Run.{Answers, CarriesOut, Step, followed, outside, result_of}
 use Rattle.pcm_base.specs.State.{State, new_state}
-use Rattle.pcm_base.specs.Studio.{Studio}
+use Rattle.pcm_base.specs.{declared.answer.Reply.Reply, declared.command.Call.Call}
+use Rattle.pcm_base.specs.{declared.command.Call.TheVariants.Line, declared.command.Command.Command}
+use Rattle.pcm_base.specs.{declared.entry.Entry.Entry, declared.refusal.Refusal.Refusal, Studio.Studio}
 use Rattle.editor_state.specs.Took.{silent}
 use Rattle.editor_state.proofs.Calls.RunEntries.{plain, plain_result}
 use Rattle.model_laws.proofs.Answered.{answered_same}
-use Rattle.script_gen.specs.declared.kind.Kind.{Kind}
-use Rattle.script_gen.specs.declared.kind.Kind.TheVariants as kind
-use Rattle.script_gen.specs.declared.place.Place.{Place}
-use Rattle.script_gen.specs.Bounds.{IsPlace}
-use Rattle.script_gen.specs.Room.{script_project}
 use Rattle.script_gen.specs.Script.{drawn_at, first_place, kind_at, line_at, lines_from, redo_at, script_of, undo_at}
 use Rattle.script_gen.specs.Script.{written_as}
-use Rattle.script_gen.specs.Validity.{HasRun}
-use Rattle.script_gen.proofs.Editing.{IsAt, current-track}
+use Rattle.script_gen.specs.{declared.kind.Kind.Kind, declared.place.Place.Place, Bounds.IsPlace, Room.script_project}
+use Rattle.script_gen.specs.{Validity.HasRun}
 use Rattle.script_gen.proofs.LineSteps.{Goes, ramp-goes, track-goes}
-use Rattle.script_gen.proofs.PlaceSteps.{Stands, line-leads}
-use Rattle.script_gen.proofs.Places.{first_place-bounds, line-bounds}
-use Rattle.memory_project.specs.Lines.{AreCarriedOut, IsOfScript}
-use Rattle.memory_project.specs.Sums.{HasOneTrack}
+use Rattle.script_gen.proofs.{Editing.IsAt, Editing.current-track, PlaceSteps.Stands, PlaceSteps.line-leads}
+use Rattle.script_gen.proofs.{Places.first_place-bounds, Places.line-bounds}
+use Rattle.memory_project.specs.{Lines.AreCarriedOut, Lines.IsOfScript, Sums.HasOneTrack}
+use Rattle.pcm_base.specs.declared.command.Command.TheVariants as command
+use Rattle.script_gen.specs.declared.kind.Kind.TheVariants as kind
 
 -- ---- of which kinds the lines are
 
@@ -39,14 +29,8 @@ undo_kind zero p = tt
 undo_kind (suc left) p = tt
 
 written_kind : (k : Kind) (left : ℕ) (p : Place) → IsOfScript (written_as k left p).line
-written_kind kind.Ramp left p = tt
-written_kind kind.Delete left p = tt
-written_kind kind.Gain left p = tt
-written_kind kind.Silence left p = tt
-written_kind kind.Copy left p = tt
-written_kind kind.Paste left p = tt
 written_kind kind.Undo left p = undo_kind left p
-written_kind kind.Envelope left p = tt
+written_kind _ left p = tt
 
 line_kind : (left : ℕ) (p : Place) → IsOfScript (line_at left p).line
 line_kind left p = by p.undone
@@ -100,10 +84,6 @@ carried_run t (c ∷ cs) u kinds done =
     }
 
 -- ---- the last line of a script
-
--- no undo is the last line
-undo_last : (p : Place) → p.undone ≡ false → (undo_at 0 p).place.undone ≡ false
-undo_last p e = e
 
 written_last : (k : Kind) (p : Place) → p.undone ≡ false → (written_as k 0 p).place.undone ≡ false
 written_last kind.Ramp p e = e

@@ -1,25 +1,16 @@
 -- A disk without files, and a project that was made on it.
-use Rattle.std.proofs.Common.{◌≡◌, ◌≢◌, ⊎_elim, ℕ, zero, suc, IsTrue, IsSome, Option, Some, None, Err, refl}
-use Rattle.std.proofs.Common.{sym, ◌∙◌, subst, arith}
+use Rattle.std.proofs.Common.{◌≡◌, ◌≢◌, ⊎_elim, ℕ, zero, suc, IsTrue, IsSome, Option, Some, None, Err, refl, sym, ◌∙◌}
+use Rattle.std.proofs.Common.{subst, arith}
 use Rattle.std.proofs.lemmas.Bool.{true≢false}
-use Rattle.disk_model.specs.Disk.{SameElsewhere}
-use Rattle.disk_model.specs.Frames.{Changed}
-use Rattle.disk_model.specs.Room.{IsWithin}
-use Rattle.disk_model.specs.declared.store.Store.{Ghosts}
-use Rattle.project_journal.specs.Gate.{EachNow}
-use Rattle.project_journal.specs.Header.{form_3}
-use Rattle.project_journal.specs.Journal.{IsAt, fresh}
-use Rattle.project_journal.specs.Rooms.{create_room}
-use Rattle.record_body.specs.Kept.{Keeps}
-use Rattle.editor_recovery.specs.declared.fault.OpenFault.{OpenFault}
-use Rattle.editor_recovery.specs.declared.fault.OpenFault.TheVariants as fault
-use Rattle.editor_recovery.specs.Causes.{Causes}
-use Rattle.editor_recovery.specs.Creating.{Creates}
-use Rattle.editor_recovery.specs.Honest.{IsHonest}
-use Rattle.editor_recovery.specs.Standing.{HasNone}
+use Rattle.disk_model.specs.{Disk.SameElsewhere, Frames.Changed, Room.IsWithin, declared.store.Store.Ghosts}
+use Rattle.project_journal.specs.{Gate.EachNow, Header.form_3, Journal.IsAt, Journal.fresh, Rooms.create_room}
+use Rattle.record_body.specs.Saved.{Keeps}
+use Rattle.editor_recovery.specs.{declared.fault.OpenFault.OpenFault, Causes.Causes, Creating.Creates, Honest.IsHonest}
+use Rattle.editor_recovery.specs.{Standing.HasNone}
 use Rattle.memory_project.specs.declared.fresh.FreshProject.{FreshProject}
 use Rattle.memory_project.specs.Fresh.{CanBeMade, IsEmpty, IsMade, found_of, left_behind, made_room, room_of_project}
 use Rattle.memory_project.proofs.RoomLemmas.{Takes, asked_by, files_few, no_fault_within, no_project, room_left}
+use Rattle.editor_recovery.specs.declared.fault.OpenFault.TheVariants as fault
 
 pub absent : {A : Type 0} (x : Option A) → x ≡ None → IsSome x → ⊥
 absent None e some = true≢false (sym some)

@@ -1,38 +1,25 @@
 -- One line: nothing refuses it, so it is carried out, or there is no memory for it.
 use Rattle.std.proofs.Common.{◌≡◌, ⊎_elim, ℕ, ◌+◌, ◌-◌, ◌≤◌, IsTrue, None, Err, Ok, Result, IfErr, refl, sym, ap, ◌∙◌}
-use Rattle.std.proofs.Common.{Bool, true, false, if◌then◌else◌, ◌==◌, List, length, Option, Some}
-use Rattle.std.proofs.Common.{subst, arith}
+use Rattle.std.proofs.Common.{Bool, true, false, if◌then◌else◌, ◌==◌, List, length, Option, Some, subst, arith}
 use Rattle.std.proofs.lemmas.Option.{none-some}
-use Rattle.pcm_base.specs.declared.answer.Reply.{Reply}
-use Rattle.pcm_base.specs.declared.command.Call.{Call}
-use Rattle.pcm_base.specs.declared.command.Call.TheVariants.{Line}
-use Rattle.pcm_base.specs.declared.command.Command.{Command}
-use Rattle.pcm_base.specs.declared.command.Command.TheVariants as command
-use Rattle.pcm_base.specs.declared.refusal.Refusal.{Refusal}
-use Rattle.pcm_base.specs.declared.refusal.Refusal.TheVariants as refusal
-use Rattle.pcm_base.specs.Causes.{Rose}
 use Rattle.pcm_base.specs.Counters.{Needs, commits_of, places_of}
-use Rattle.pcm_base.specs.Refusals.{◌otherwise◌}
 use Rattle.pcm_base.specs.Run.{Answers, Breaks, CarriesOut, ChangeFailed, DiskFails, LeavesAll, ReadFailed, Refuses}
 use Rattle.pcm_base.specs.Run.{may_change, name_in_line, outside, refusal_of, stop_of}
-use Rattle.pcm_base.specs.Studio.{Studio}
-use Rattle.disk_model.specs.Frames.{asked}
-use Rattle.disk_model.specs.Room.{Room, files_made, together}
-use Rattle.disk_model.specs.declared.store.Store.{Ghosts}
+use Rattle.pcm_base.specs.{declared.answer.Reply.Reply, declared.command.Call.Call}
+use Rattle.pcm_base.specs.{declared.command.Call.TheVariants.Line, declared.command.Command.Command}
+use Rattle.pcm_base.specs.{declared.refusal.Refusal.Refusal, Causes.Rose, Refusals.◌otherwise◌, Studio.Studio}
+use Rattle.disk_model.specs.{Frames.asked, Room.Room, Room.files_made, Room.together, declared.store.Store.Ghosts}
 use Rattle.envelope_view.specs.Answers.{IsUndamaged}
-use Rattle.editor_state.specs.Applied.{EndsAlike}
-use Rattle.editor_state.specs.Core.{Core}
-use Rattle.editor_state.specs.Left.{LeavesOthers, MayRemove}
-use Rattle.editor_state.specs.Packing.{packed_by, packs}
-use Rattle.editor_state.specs.Studios.{studio_of}
-use Rattle.editor_state.specs.Exchanges.{begun_in_vain, is_broken_off}
-use Rattle.editor_state.specs.Took.{Exchange, Took, asks, quietly, silent, told_by}
+use Rattle.editor_state.specs.Took.{Exchange, Took, asks, quietly, silent, as_reply}
+use Rattle.editor_state.specs.{Applied.EndsAlike, Core.Core, Left.LeavesOthers, Left.MayRemove, Packing.packed_by}
+use Rattle.editor_state.specs.{Packing.packs, Studios.studio_of, Exchanges.begun_in_vain, Exchanges.is_broken_off}
 use Rattle.model_laws.proofs.Answered.{carried_is}
 use Rattle.editor_state.proofs.Calls.VaultCalls.{names_none as none_named}
 use Rattle.memory_project.specs.Lines.{Asked, IsOfScript, MayCome, Went, line_room}
 use Rattle.memory_project.specs.Memory.{HasAsked, HasRoom, no_room}
-use Rattle.memory_project.proofs.FreshLemmas.{absent}
-use Rattle.memory_project.proofs.RoomLemmas.{Takes, asked_by, room_left}
+use Rattle.memory_project.proofs.{FreshLemmas.absent, RoomLemmas.Takes, RoomLemmas.asked_by, RoomLemmas.room_left}
+use Rattle.pcm_base.specs.declared.command.Command.TheVariants as command
+use Rattle.pcm_base.specs.declared.refusal.Refusal.TheVariants as refusal
 
 -- no line of a script names a sound
 names_none : (c : Command) → IsOfScript c → name_in_line c ≡ None
@@ -52,16 +39,16 @@ packed_none s c kind = refl
 -- ---- an answer as a reply
 
 pub told_ends : {A : Type 0} (f : A → Reply) (answer : Result A Refusal) (short : Result (Unit {0}) Refusal)
-    → EndsAlike answer short → EndsAlike (told_by f answer) short
+    → EndsAlike answer short → EndsAlike (as_reply f answer) short
 told_ends f (Ok a) (Ok u) ends = tt
 told_ends f (Ok a) (Err why) ends = absurd ends
 told_ends f (Err why) (Ok u) ends = absurd ends
 told_ends f (Err why) (Err other) ends = ends
 
-pub told_sound : {A : Type 0} (f : A → Reply) (answer : Result A Refusal) → IfErr answer IsUndamaged
-    → IfErr (told_by f answer) IsUndamaged
-told_sound f (Ok a) sound = tt
-told_sound f (Err why) sound = sound
+pub told_valid : {A : Type 0} (f : A → Reply) (answer : Result A Refusal) → IfErr answer IsUndamaged
+    → IfErr (as_reply f answer) IsUndamaged
+told_valid f (Ok a) valid = tt
+told_valid f (Err why) valid = valid
 
 -- ---- why there is no answer
 
@@ -74,28 +61,28 @@ module _ (t u : Studio) (c : Command) (names : name_in_line c ≡ None)
   line_or other = c
 
   breaks : (why : Refusal) → IsUndamaged why → Breaks t (Line c) silent why u → (why ≡ refusal.NoMemory) × (u ≡ t)
-  breaks (refusal.Damaged file at want have) sound b = absurd sound
-  breaks refusal.DiskFault sound b = absurd (no_fault b)
-  breaks refusal.VaultFault sound b = absurd (absent (name_in_line c) names b.0)
-  breaks refusal.NoMemory sound b = (refl, b.same)
-  breaks why sound b = absurd b
+  breaks (refusal.Damaged file at want have) valid b = absurd valid
+  breaks refusal.DiskFault valid b = absurd (no_fault b)
+  breaks refusal.VaultFault valid b = absurd (absent (name_in_line c) names b.0)
+  breaks refusal.NoMemory valid b = (refl, b.same)
+  breaks why valid b = absurd b
 
   pub no_answer : (why : Refusal) → IsUndamaged why
       → ((blocks len : ℕ) → Needs (outside t silent) t (Line c) blocks len →
       refusal_of (outside t silent) t (Line c) blocks len ≡ None)
       → Answers t (Line c) silent (Err why) u → (why ≡ refusal.NoMemory) × (u ≡ t)
   unfolding line_or
-  no_answer why sound passes answers = ⊎_elim
+  no_answer why valid passes answers = ⊎_elim
       (λ (r : Refuses t (Line c) silent why u).
       absurd (none-some why (sym (passes r.blocks r.len r.needs) ∙ r.first)))
       (λ rest. ⊎_elim
       (λ (left : LeavesAll t (Line c) silent why u). absurd (no_purge left.bytes (ap line_or left.line)))
-      (λ (b : Breaks t (Line c) silent why u). breaks why sound b)
+      (λ (b : Breaks t (Line c) silent why u). breaks why valid b)
       rest)
       answers
 
 -- a count that is 0 has not risen
-rose_not : (old new : ℕ) → old ≡ 0 → new ≡ 0 → Rose old new → ⊥
+pub rose_not : (old new : ℕ) → old ≡ 0 → new ≡ 0 → Rose old new → ⊥
 rose_not old new a b rose = absurd (omega (arith, a, b, rose))
 
 -- where no fault was counted the disk did not fail
@@ -225,8 +212,8 @@ module _ {D : Type 0} (disk : Ghosts D) (old new : Core D) (c : Command) (may : 
 
   pub line_wants : (why : Refusal) → Took disk old (quietly (Line c) (Err why)) new → IsUndamaged why
       → (why ≡ refusal.NoMemory) × (u ≡ t)
-  line_wants why took sound = no_answer t u c (names_none c may.kind)
-      (λ bytes is. subst IsOfScript is may.kind) no_fault why sound (may.valid silent)
+  line_wants why took valid = no_answer t u c (names_none c may.kind)
+      (λ bytes is. subst IsOfScript is may.kind) no_fault why valid (may.valid silent)
       (took.step may.held)
     where
       no_fault : DiskFails t (Line c) silent u → ⊥
@@ -245,10 +232,10 @@ module _ {D : Type 0} (disk : Ghosts D) (old new : Core D) (c : Command) (may : 
       by (Err why) took ends = absurd ends
 
   pub asked_wants : (why : Refusal) → Asked disk old c (Err why) new → (why ≡ refusal.NoMemory) × (u ≡ t)
-  asked_wants why asked = by asked.told asked.took asked.ends (asked.sound may.held)
+  asked_wants why asked = by asked.told asked.took asked.ends (asked.valid may.held)
     where
       by : (told : Result Reply Refusal) → Took disk old (quietly (Line c) told) new
           → EndsAlike {B = Unit {0}} told (Err why) → IfErr told IsUndamaged → (why ≡ refusal.NoMemory) × (u ≡ t)
-      by (Ok r) took ends sound = absurd ends
-      by (Err other) took ends sound =
-          let w = line_wants other took sound in (ends ∙ w.0, w.1)
+      by (Ok r) took ends valid = absurd ends
+      by (Err other) took ends valid =
+          let w = line_wants other took valid in (ends ∙ w.0, w.1)

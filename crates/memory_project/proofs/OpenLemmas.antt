@@ -1,39 +1,28 @@
 -- A fresh project, opened: its studio is that of the model's fresh project.
 use Rattle.std.proofs.Common.{◌≡◌, inr, ⊎_elim, ℕ, zero, suc, ◌+◌, ◌≤◌, IsTrue, IsSome, Err, Ok, List, [], ◌∷◌, ◌++◌}
 use Rattle.std.proofs.Common.{length, map, refl, sym, ap, ◌∙◌, subst, arith}
-use Rattle.std.specs.Prelude.{if◌then◌else◌, nat_lt}
-use Rattle.std.specs.List.{flat_map}
 use Rattle.std.proofs.lemmas.List.{append-nil}
-use Rattle.disk_model.specs.Disk.{Files, StaysStep}
-use Rattle.disk_model.specs.Frames.{Changed}
-use Rattle.disk_model.specs.Room.{IsWithin, Room}
-use Rattle.disk_model.specs.declared.store.Store.{Ghosts}
-use Rattle.pcm_base.specs.Studio as model
-use Rattle.project_journal.specs.Gate.{EachNow}
-use Rattle.project_journal.specs.Header.{Form, IsForm, form_3}
+use Rattle.std.specs.{Prelude.if◌then◌else◌, Prelude.nat_lt, List.flat_map}
+use Rattle.disk_model.specs.{Disk.Files, Disk.StaysStep, Frames.Changed, Room.IsWithin, Room.Room}
+use Rattle.disk_model.specs.{declared.store.Store.Ghosts}
 use Rattle.project_journal.specs.Journal.{Entry, HasLog, IsAt, IsLog, Log, body_of, entry, fresh}
-use Rattle.project_journal.proofs.Bases.{length-head}
+use Rattle.project_journal.specs.{Gate.EachNow, Header.Form, Header.IsForm, Header.form_3}
 use Rattle.project_journal.proofs.Chosen.{IsOne, one_journal}
-use Rattle.project_journal.proofs.Kept.{is_project}
-use Rattle.project_journal.proofs.Parses.{form_known}
-use Rattle.record_body.specs.Kept.{Keeps, Kept, new_project}
-use Rattle.record_body.proofs.KeptOnce.{keeps_once}
+use Rattle.project_journal.proofs.{Bases.length-head, Kept.is_project, Parses.form_known}
+use Rattle.record_body.specs.Saved.{Keeps, Saved, new_project}
+use Rattle.record_body.proofs.SavedOnce.{keeps_once}
 use Rattle.editor_state.specs.Core.{Core, form_at}
 use Rattle.editor_state.specs.Studios.{IsDurable, IsHeld, IsStudio, clip_cells, pin_at, shown, studio_of}
 use Rattle.sample_block.specs.Sources.{sources_of}
-use Rattle.editor_recovery.specs.declared.fault.OpenFault.{OpenFault}
-use Rattle.editor_recovery.specs.declared.fault.OpenFault.TheVariants as fault
-use Rattle.editor_recovery.specs.Causes.{Causes}
-use Rattle.editor_recovery.specs.Files.{IsNextBlock}
 use Rattle.editor_recovery.specs.Found.{Found, IsNew, found_by}
-use Rattle.editor_recovery.specs.Honest.{IsHonest, OpensHonest}
-use Rattle.editor_recovery.specs.Opening.{Finds, Opens}
-use Rattle.editor_recovery.proofs.Created.{new_stands}
-use Rattle.editor_recovery.proofs.Honest.{same_kept, stands_once}
-use Rattle.memory_project.specs.declared.fresh.FreshProject.{FreshProject}
+use Rattle.editor_recovery.specs.{declared.fault.OpenFault.OpenFault, Causes.Causes, Files.IsNextBlock, Honest.IsHonest}
+use Rattle.editor_recovery.specs.{Honest.OpensHonest, Opening.Finds, Opening.Opens}
+use Rattle.editor_recovery.proofs.{Created.new_stands, Honest.same_saved, Honest.stands_once}
 use Rattle.memory_project.specs.Fresh.{CanBeMade, IsFresh, IsMade, found_of, left_behind, made_room}
-use Rattle.memory_project.specs.Memory.{HasAsked, HasRoom}
+use Rattle.memory_project.specs.{declared.fresh.FreshProject.FreshProject, Memory.HasAsked, Memory.HasRoom}
 use Rattle.memory_project.proofs.RoomLemmas.{Takes, asked_by, no_fault_within, room_left}
+use Rattle.pcm_base.specs.Studio as model
+use Rattle.editor_recovery.specs.declared.fault.OpenFault.TheVariants as fault
 
 abbrev two_calls : Room
 two_calls = record { files = 0; bytes = 0; calls = 2 }
@@ -102,14 +91,14 @@ module _ {D : Type 0} (disk : Ghosts D) (p : FreshProject) (can : CanBeMade p) (
 
     -- nothing was recorded yet
     kept_is : finds.kept ≡ new_project p.depth
-    kept_is = same_kept (disk.reads store) finds.form (form_3 0) finds.log (fresh p.rate p.block_size p.depth)
+    kept_is = same_saved (disk.reads store) finds.form (form_3 0) finds.log (fresh p.rate p.block_size p.depth)
         finds.kept (new_project p.depth) finds.project.stands
         (new_stands p.rate p.block_size p.depth (disk.reads store) made.there)
 
     next_is : start.next_block ≡ 16
     next_is =
         first_block (disk.reads store) start.next_block made.only
-        (subst (λ (n : ℕ). IsNextBlock (disk.reads store) n start.next_block) (ap (λ (k : Kept). k.next_block) kept_is)
+        (subst (λ (n : ℕ). IsNextBlock (disk.reads store) n start.next_block) (ap (λ (k : Saved). k.next_block) kept_is)
         finds.found.next_block)
 
     end_is : start.journal_end ≡ 80
@@ -148,8 +137,7 @@ module _ {D : Type 0} (disk : Ghosts D) (p : FreshProject) (can : CanBeMade p) (
 
     room_is : HasRoom disk start.store (left_behind 10 p)
     room_is = room_left disk store start.store StaysStep two_calls (left_behind 8 p) (left_behind 10 p) to.changed
-        made.tells
-        made.room takes
+        made.tells made.room takes
 
     asked_is : HasAsked disk start.store (made_room 10)
     asked_is =

@@ -1,16 +1,11 @@
 -- What is left of the room of a disk.
-use Rattle.std.proofs.Common.{◌≡◌, ◌⊎◌, inl, ⊎_elim, ℕ, ◌+◌, ◌≤◌, ◌<◌, ◌^◌, ◌-◌, IsTrue, IsSome, Option, Some, None}
-use Rattle.std.proofs.Common.{List, length, refl, sym, ap, ◌∙◌, subst, arith}
-use Rattle.std.proofs.lemmas.Bool.{true≢false}
-use Rattle.disk_model.specs.Disk.{Files, bytes_of}
+use Rattle.std.proofs.Common.{◌≡◌, ◌⊎◌, ⊎_elim, ℕ, ◌+◌, ◌≤◌, ◌<◌, ◌^◌, ◌-◌, IsTrue, IsSome, Option, Some, None, List}
+use Rattle.std.proofs.Common.{length, refl, sym, ap, ◌∙◌, subst, arith}
 use Rattle.disk_model.specs.Frames.{Changed, Kept, asked}
 use Rattle.disk_model.specs.Room.{IsOver, IsSpent, IsWithin, Room, StaysRoom, files_made, together}
-use Rattle.disk_model.specs.declared.store.Store.{Ghosts}
+use Rattle.disk_model.specs.{Disk.Files, Disk.bytes_of, declared.store.Store.Ghosts}
 use Rattle.project_journal.specs.Answer.{HasFault}
-use Rattle.project_journal.specs.Gate.{EachNow}
-use Rattle.editor_recovery.specs.Honest.{IsHonest}
 use Rattle.editor_recovery.specs.Standing.{HasNone}
-use Rattle.editor_recovery.specs.StayingHonest.{ImagesAreHonest, IsHonestImage}
 use Rattle.memory_project.specs.Memory.{Fits, HasAsked, HasRoom}
 
 -- no file is there
@@ -23,18 +18,6 @@ no_project files none = (λ project. absent 0 project.0, λ project. absent 1 pr
   where
     absent : (file : ℕ) → 33 ≤ length (bytes_of (files file)) → ⊥
     absent file long = omega (arith, long, ap (λ (x : Option (List ℕ)). length (bytes_of x)) (none file))
-
-bare : IsHonestImage nothing
-bare = record {
-  foreign = λ file there foreign. absurd (true≢false (sym there));
-  whole = inl (no_project nothing (λ file. refl));
-}
-
--- a disk without files is honest
-pub empty_is_honest : {D : Type 0} (disk : Ghosts D) → ImagesAreHonest disk → (store : D) → IsTrue
-    (disk.keeps_model store)
-    → EachNow disk store (λ c. c ≡ nothing) → IsHonest disk store
-empty_is_honest disk images store model only = images store nothing bare model only
 
 module _ {D : Type 0} (disk : Ghosts D) (old new : D) (step : Files → Files → Type 0) (more : Room)
     (changed : Changed disk step more old new) (tells : IsTrue (disk.tells old)) (fits : HasRoom disk old more) where
@@ -113,14 +96,11 @@ module _ {D : Type 0} (disk : Ghosts D) (old new : D) (step : Files → Files �
     room = room;
     is = is;
     files = rest (disk.absent_writes old) (disk.absent_writes new) much.files first.files later.files fits.room.files
-        room.files
-        (changed.files tells) takes.0 h.files fits.files;
+        room.files (changed.files tells) takes.0 h.files fits.files;
     bytes = rest (disk.asked_bytes old) (disk.asked_bytes new) much.bytes first.bytes later.bytes fits.room.bytes
-        room.bytes
-        changed.bytes takes.1 h.bytes fits.bytes;
+        room.bytes changed.bytes takes.1 h.bytes fits.bytes;
     calls = rest (disk.change_calls old) (disk.change_calls new) much.calls first.calls later.calls fits.room.calls
-        room.calls
-        changed.calls takes.2 h.calls fits.calls;
+        room.calls changed.calls takes.2 h.calls fits.calls;
     reads = reads_none disk old new step much changed tells within;
     changes = changes_none disk old new step much changed tells within;
   }
@@ -135,10 +115,6 @@ module _ {D : Type 0} (disk : Ghosts D) (old new : D) (step : Files → Files �
 pub files_few : {A : Type 0} (x : Option A) → files_made x ≤ 1
 files_few None = omega arith
 files_few (Some x) = omega arith
-
--- nothing was asked yet
-pub fits_new : (now more room : ℕ) → now ≡ 0 → more ≤ room → more < 2 ^ 62 → Fits now more room
-fits_new now more room none le small = record { within = omega (arith, none, le); small = omega (arith, none, small) }
 
 -- ---- what was asked in all
 

@@ -1,22 +1,18 @@
 -- The script of a number on a fresh project.
-use Rattle.std.proofs.Common.{◌≡◌, ℕ, ◌≤◌, List, length, Result, Ok, Err, IfOk, OnOk, refl, sym, ap, ◌∙◌, subst, arith}
+use Rattle.std.proofs.Common.{◌≡◌, ℕ, List, length, Result, Ok, Err, IfOk, OnOk, sym, ap, ◌∙◌, subst, arith}
 use Rattle.std.specs.List.{AllByRecursion}
-use Rattle.pcm_base.specs.declared.command.Command.{Command}
-use Rattle.pcm_base.specs.declared.failed.NoMemory.{NoMemory}
-use Rattle.pcm_base.specs.Studio as model
+use Rattle.pcm_base.specs.{declared.command.Command.Command, declared.failed.NoMemory.NoMemory}
 use Rattle.disk_model.specs.declared.store.Store.{Ghosts}
-use Rattle.editor_state.specs.Core.{Core}
-use Rattle.editor_state.specs.Studios.{studio_of}
-use Rattle.script_gen.specs.Room.{EachNeedsAtMost, script_project}
-use Rattle.script_gen.specs.Script.{script_of}
-use Rattle.script_gen.specs.Validity.{AreAlwaysValid, AreValid}
+use Rattle.editor_state.specs.{Core.Core, Studios.studio_of}
+use Rattle.script_gen.specs.{Room.EachNeedsAtMost, Room.script_project, Script.script_of, Validity.AreAlwaysValid}
+use Rattle.script_gen.specs.{Validity.AreValid}
 use Rattle.script_text.specs.declared.summary.Summary.{Summary}
-use Rattle.memory_project.specs.declared.fresh.FreshProject.{FreshProject}
-use Rattle.memory_project.specs.Fresh.{CanBeMade, IsFresh, left_behind}
 use Rattle.memory_project.specs.Lines.{AreCarriedOut, IsOfScript, MayRun, RanLines, room_for}
 use Rattle.memory_project.specs.Sums.{IsSumOf, Looked, MaySum, RanScript, project_for}
+use Rattle.memory_project.specs.{declared.fresh.FreshProject.FreshProject, Fresh.IsFresh, Fresh.left_behind}
 use Rattle.memory_project.proofs.EndLemmas.{carried_run, script_end, script_kinds}
 use Rattle.memory_project.proofs.RoomLemmas.{room_less}
+use Rattle.pcm_base.specs.Studio as model
 
 -- ---- the same by equal values
 
@@ -32,30 +28,11 @@ module _ {D : Type 0} (disk : Ghosts D) (old new : Core D) where
 
 -- ---- the script and its project
 
-pub can_be_made : (lines : ℕ) → lines ≤ 4096 → CanBeMade (project_for lines)
-can_be_made lines few = record {
-  format = record {
-    rate_least = omega arith;
-    even = refl;
-    block_least = omega arith;
-    block_most = omega arith;
-    depth_least = omega arith;
-    depth_most = omega arith;
-  };
-  files_least = omega arith;
-  files_most = omega (arith, few);
-  bytes_least = omega arith;
-  bytes_most = omega (arith, few);
-  calls_least = omega arith;
-  calls_most = omega (arith, few);
-}
-
 module _ {D : Type 0} (disk : Ghosts D) (number lines : ℕ) (start : Core D)
     (fresh : IsFresh disk (project_for lines) start)
   where
     module _ (cs : List Command) (is : cs ≡ script_of number lines) (count : length cs ≡ lines)
-        (valid : AreAlwaysValid cs)
-        (few : EachNeedsAtMost script_project cs 11 6872) where
+        (valid : AreAlwaysValid cs) (few : EachNeedsAtMost script_project cs 11 6872) where
       pub script_runs : MayRun disk start cs
       script_runs = record {
         studio = fresh.studio;
@@ -83,8 +60,7 @@ module _ {D : Type 0} (disk : Ghosts D) (number lines : ℕ) (start : Core D)
             → RanScript disk number lines sum
         script_ran last sum looked is_sum =
             let to = carried_run script_project (script_of number lines) (studio_of disk end)
-            (script_kinds number lines)
-            carried in
+            (script_kinds number lines) carried in
             record {
               end = last;
               studio = looked.studio;

@@ -1,14 +1,8 @@
 -- Lines one after another.
 use Rattle.std.proofs.Common.{List, [], ◌∷◌, length, refl, ap, ◌∙◌, arith}
-use Rattle.pcm_base.specs.declared.command.Call.TheVariants.{Line}
-use Rattle.pcm_base.specs.declared.command.Command.{Command}
-use Rattle.pcm_base.specs.Studio.{Studio}
-use Rattle.disk_model.specs.Frames.{asked}
-use Rattle.disk_model.specs.Room.{IsWithin, together}
-use Rattle.disk_model.specs.declared.store.Store.{Ghosts}
-use Rattle.editor_state.specs.Core.{Core}
-use Rattle.editor_state.specs.Studios.{studio_of}
-use Rattle.editor_state.specs.Took.{silent}
+use Rattle.pcm_base.specs.{declared.command.Call.TheVariants.Line, declared.command.Command.Command, Studio.Studio}
+use Rattle.disk_model.specs.{Frames.asked, Room.IsWithin, Room.together, declared.store.Store.Ghosts}
+use Rattle.editor_state.specs.{Core.Core, Studios.studio_of, Took.silent}
 use Rattle.model_laws.proofs.Answered.{carried_is}
 use Rattle.memory_project.specs.Lines.{AreCarriedOut, MayCome, MayRun, RanLines, Went, line_room, room_for}
 use Rattle.memory_project.specs.Memory.{no_room}
@@ -85,6 +79,5 @@ module _ {D : Type 0} (disk : Ghosts D) (first : Core D) (all : List Command) wh
         let a = so.files in let b = so.bytes in let d = so.calls in
         record { files = omega (arith, a); bytes = omega (arith, b); calls = omega (arith, d) };
     room = room_less disk s.store no_room (room_for 0)
-        (record { files = omega arith; bytes = omega arith; calls = omega arith })
-        way.may.room;
+        (record { files = omega arith; bytes = omega arith; calls = omega arith }) way.may.room;
   }

@@ -1,53 +1,34 @@
 -- What is told of a studio with one track.
-use Rattle.std.proofs.Common.{◌≡◌, ◌⊎◌, ⊎_elim, ℕ, ◌+◌, ◌-◌, ◌^◌, ◌≤◌, ◌<◌, Bool, Option, None, Err, Ok, List, []}
-use Rattle.std.proofs.Common.{length, map, refl, sym, ap, ◌∙◌, subst, arith}
-use Rattle.std.specs.Prelude.{nat_le, nat_lt, not}
-use Rattle.std.proofs.lemmas.Bool.{and_from, le-leb, le-ltb, lt-ltb}
-use Rattle.std.proofs.lemmas.Grind.{common_steps}
-use Rattle.pcm_base.specs.declared.sound.Cell.{Cell}
-use Rattle.pcm_base.specs.declared.sound.Scan.{Scan}
-use Rattle.pcm_base.specs.declared.sound.TrackLine.{TrackLine}
-use Rattle.pcm_base.specs.declared.answer.Reply.{Reply}
-use Rattle.pcm_base.specs.declared.answer.Reply.TheVariants as reply
-use Rattle.pcm_base.specs.declared.command.Call.TheVariants.{Line}
-use Rattle.pcm_base.specs.declared.command.Command.{Command}
-use Rattle.pcm_base.specs.declared.command.Command.TheVariants as command
-use Rattle.pcm_base.specs.declared.refusal.Refusal.{Refusal}
-use Rattle.pcm_base.specs.declared.refusal.Refusal.TheVariants as refusal
-use Rattle.pcm_base.specs.Cells.{Project, cells_at, tracks_from}
+use Rattle.std.proofs.Common.{◌≡◌, ◌⊎◌, ⊎_elim, ℕ, ◌+◌, ◌-◌, Bool, Option, None, Err, Ok, List, [], length, refl, sym}
+use Rattle.std.proofs.Common.{ap, ◌∙◌, subst, arith}
+use Rattle.std.proofs.{lemmas.Bool.le-ltb, lemmas.Grind.common_steps}
 use Rattle.pcm_base.specs.Envelope.{columns_of, edge, scan_of}
-use Rattle.pcm_base.specs.Edits.{part}
-use Rattle.pcm_base.specs.Refusals.{◌otherwise◌, bad_columns, bad_range, call_tests, is_empty, own_tests, range_tests}
-use Rattle.pcm_base.specs.Refusals.{refused_if}
+use Rattle.pcm_base.specs.Refusals.{◌otherwise◌, bad_columns, call_tests, own_tests, range_tests, refused_if}
 use Rattle.pcm_base.specs.Run.{Answers, followed, name_in_line, outside, refusal_of, stop_of, stop_test}
 use Rattle.pcm_base.specs.Counters.{Needs, commits_needed, commits_of, counter_tests, generations_of, no_room}
 use Rattle.pcm_base.specs.Counters.{places_of, record_test, tracks_needed, layouts_of, tracks_of}
-use Rattle.pcm_base.specs.State.{current}
-use Rattle.pcm_base.specs.Step.{line_of_track}
-use Rattle.pcm_base.specs.Studio.{Studio}
+use Rattle.pcm_base.specs.{declared.sound.Cell.Cell, declared.sound.Scan.Scan, declared.answer.Reply.Reply}
+use Rattle.pcm_base.specs.{declared.command.Call.TheVariants.Line, declared.command.Command.Command}
+use Rattle.pcm_base.specs.{declared.refusal.Refusal.Refusal, Cells.Project, Cells.cells_at, Edits.part, Studio.Studio}
 use Rattle.disk_model.specs.declared.store.Store.{Ghosts}
 use Rattle.envelope_view.specs.Answers.{IsUndamaged}
-use Rattle.editor_state.specs.Core.{Core}
-use Rattle.editor_state.specs.Reads.{Looks}
-use Rattle.editor_state.specs.Studios.{studio_of}
-use Rattle.editor_state.specs.Took.{silent}
-use Rattle.script_gen.proofs.Passing.{both-pass}
+use Rattle.editor_state.specs.{Core.Core, Reads.Looks, Studios.studio_of, Took.silent}
+use Rattle.model_laws.proofs.Together.{both_pass, room_passes}
 use Rattle.model_laws.proofs.Answered.{answered_same, moves_of, no_generation}
-use Rattle.memory_project.specs.Sums.{HasOneTrack, Looked, MaySum, first_column, first_len, track_cells}
+use Rattle.memory_project.specs.Sums.{HasOneTrack, Looked, MaySum, first_column, track_cells}
 use Rattle.memory_project.specs.Memory.{no_room as nothing_more}
 use Rattle.memory_project.proofs.LineLemmas.{fails_not, no_answer}
 use Rattle.memory_project.proofs.RoomLemmas.{asked_kept, room_kept}
+use Rattle.script_gen.proofs.Passing.{range-passes, range_tests_of}
+use Rattle.pcm_base.specs.declared.answer.Reply.TheVariants as reply
+use Rattle.pcm_base.specs.declared.command.Command.TheVariants as command
+use Rattle.pcm_base.specs.declared.refusal.Refusal.TheVariants as refusal
 
 -- ---- how long the track is
 
 -- the cells of the only track
 only_cells : (t : Studio) (one : HasOneTrack t) → track_cells t ≡ one.cells
 only_cells t one = ap (λ (p : Project). cells_at 1 p) one.is
-
-pub first_is_len : (t : Studio) (lines : List TrackLine) → HasOneTrack t → lines ≡ map line_of_track (current t.state)
-    → first_len lines ≡ length (track_cells t)
-first_is_len t lines one is =
-    ap first_len is ∙ ap (λ (p : Project). first_len (map line_of_track p)) one.is ∙ ap length (sym (only_cells t one))
 
 -- ---- one column is the whole track
 
@@ -70,19 +51,6 @@ same_columns : (a b : List (Option Scan)) → reply.Columns a ≡ reply.Columns 
 same_columns a b e = ap columns_in e
 
 -- ---- what is only looked at is not refused
-
-range_passes : (from to len : ℕ) → from < to → to ≤ len → bad_range from to len ≡ None
-range_passes from to len order within =
-    ap (λ (b : Bool). refused_if (not b) refusal.BadRange)
-    (and_from (nat_lt from to) (nat_le to len) (lt-ltb from to order) (le-leb to len within))
-
-room_passes : (have need : ℕ) → have + need ≤ 2 ^ 62 → no_room have need ≡ None
-room_passes have need few =
-    ap (λ (b : Bool). refused_if b (refusal.SpaceSpent have need)) (le-ltb (2 ^ 62) (have + need) few)
-
-abbrev range_tests_in : ℕ → ℕ → Project → Option Refusal
-range_tests_in from to p =
-    (refused_if (is_empty (tracks_from 1 p)) (refusal.NoTrack 1)) otherwise (bad_range from to (length (cells_at 1 p)))
 
 -- a line that needs no block, no record and no number, not of a layout either
 pub record IsLook (t : Studio) (c : Command) : Type 0 where
@@ -122,25 +90,25 @@ module _ {D : Type 0} (disk : Ghosts D) (s : Core D) (may : MaySum disk s) where
         let f = no_room t.journal_end (places_of (Line c) 0) in
         let g = no_room t.generation (generations_of (Line c)) in
         let h = no_room t.next_layout (layouts_of (outside t silent) t.state (Line c)) in
-        both-pass a (b otherwise d otherwise e otherwise f otherwise g otherwise h)
+        both_pass a (b otherwise d otherwise e otherwise f otherwise g otherwise h)
         (room_passes t.next_block 0 (omega arith))
-        (both-pass b (d otherwise e otherwise f otherwise g otherwise h)
+        (both_pass b (d otherwise e otherwise f otherwise g otherwise h)
         (room_passes t.state.next_track (tracks_of (outside t silent) (Line c)) (omega arith))
-        (both-pass d (e otherwise f otherwise g otherwise h)
+        (both_pass d (e otherwise f otherwise g otherwise h)
         (room_passes t.state.commit (commits_of (Line c)) (omega arith))
-        (both-pass e (f otherwise g otherwise h) (room_passes t.state.next_pin 0 (omega arith))
-        (both-pass f (g otherwise h) (room_passes t.journal_end (places_of (Line c) 0) (omega arith))
-        (both-pass g h (room_passes t.generation (generations_of (Line c)) (omega arith))
+        (both_pass e (f otherwise g otherwise h) (room_passes t.state.next_pin 0 (omega arith))
+        (both_pass f (g otherwise h) (room_passes t.journal_end (places_of (Line c) 0) (omega arith))
+        (both_pass g h (room_passes t.generation (generations_of (Line c)) (omega arith))
         (room_passes t.next_layout (layouts_of (outside t silent) t.state (Line c)) (omega arith)))))))
 
     none_passes : refusal_of (outside t silent) t (Line c) 0 0 ≡ None
     none_passes =
         let out = outside t silent in
-        both-pass (stop_test t.stopped (Line c))
+        both_pass (stop_test t.stopped (Line c))
         (call_tests out t.state (Line c) otherwise counter_tests out t (Line c) 0 0 otherwise record_test 0)
         (ap stop_of may.going)
-        (both-pass (call_tests out t.state (Line c)) (counter_tests out t (Line c) 0 0 otherwise record_test 0) look.own
-        (both-pass (counter_tests out t (Line c) 0 0) (record_test 0) counters_pass refl))
+        (both_pass (call_tests out t.state (Line c)) (counter_tests out t (Line c) 0 0 otherwise record_test 0) look.own
+        (both_pass (counter_tests out t (Line c) 0 0) (record_test 0) counters_pass refl))
 
     look_passes : (blocks len : ℕ) → Needs (outside t silent) t (Line c) blocks len
         → refusal_of (outside t silent) t (Line c) blocks len ≡ None
@@ -153,10 +121,10 @@ module _ {D : Type 0} (disk : Ghosts D) (s : Core D) (may : MaySum disk s) where
     pub look_wants : (new : Core D) (why : Refusal) → disk.read_fault_count new.store ≡ 0
         → disk.change_fault_count new.store ≡ 0 → IsUndamaged why
         → Answers t (Line c) silent (Err why) (studio_of disk new) → why ≡ refusal.NoMemory
-    look_wants new why reads changes sound answers =
+    look_wants new why reads changes valid answers =
         (no_answer t (studio_of disk new) c look.names
         (λ bytes is. omega (arith, look.commits, ap commits_needed is))
-        (fails_not t (studio_of disk new) c may.room.reads may.room.changes reads changes) why sound look_passes
+        (fails_not t (studio_of disk new) c may.room.reads may.room.changes reads changes) why valid look_passes
         answers).0
 
   tracks_look : IsLook t command.Tracks
@@ -186,8 +154,8 @@ module _ {D : Type 0} (disk : Ghosts D) (s : Core D) (may : MaySum disk s) where
         let cells = may.track.cells in
         let some = may.track.some in
         let long : len ≡ length cells = is ∙ ap length (only_cells t may.track) in
-        both-pass (range_tests t.state 1 0 len) (bad_columns 1 (len - 0))
-        (ap (range_tests_in 0 len) may.track.is ∙ range_passes 0 len (length cells) (omega (arith, long, some))
+        both_pass (range_tests t.state 1 0 len) (bad_columns 1 (len - 0))
+        (ap (range_tests_of 0 len) may.track.is ∙ range-passes 0 len (length cells) (omega (arith, long, some))
         (omega (arith, long)))
         (ap (λ (b : Bool). refused_if b refusal.BadColumns) (le-ltb (len - 0) 1 (omega (arith, long, some))))
 
@@ -206,7 +174,7 @@ module _ {D : Type 0} (disk : Ghosts D) (s : Core D) (may : MaySum disk s) where
     pub scan_wants : (new : Core D) (why : Refusal) → Looks disk s (Line line) (Err why) new → why ≡ refusal.NoMemory
     scan_wants new why looks =
         let left = room_kept disk s.store new.store nothing_more looks.kept may.room in
-        look_wants line scan_look new why left.reads left.changes (looks.sound may.held) (looks.took.step may.held)
+        look_wants line scan_look new why left.reads left.changes (looks.valid may.held) (looks.took.step may.held)
 
     pub scan_looked : (new : Core D) (r : Reply) → Looks disk s (Line line) (Ok r) new → Looked disk s new
     scan_looked new r looks =

@@ -1,19 +1,14 @@
 -- A fresh project on a disk in memory.
 use Rattle.std.specs.Prelude.{◌≡◌, ℕ, ◌-◌, ◌≤◌, ◌<◌, IsTrue, IsSome, None}
-use Rattle.pcm_base.specs.declared.limits.TheConstants.{COUNTER_LIMIT}
-use Rattle.disk_model.specs.Room.{Room}
-use Rattle.disk_model.specs.declared.store.Store.{Ghosts}
-use Rattle.pcm_base.specs.Studio.{fresh}
-use Rattle.project_journal.specs.Gate.{EachNow}
-use Rattle.project_journal.specs.Header.{IsFormat, form_3}
-use Rattle.project_journal.specs.Journal as journal
-use Rattle.record_body.specs.Kept.{Keeps, Opened}
-use Rattle.editor_state.specs.Core.{Core}
-use Rattle.editor_state.specs.Studios.{IsHeld, IsStudio, studio_of}
-use Rattle.editor_recovery.specs.Creating.{new_opened}
-use Rattle.editor_recovery.specs.Honest.{IsHonest}
+use Rattle.pcm_base.specs.{declared.limits.TheConstants.COUNTER_LIMIT, Studio.fresh}
+use Rattle.disk_model.specs.{Room.Room, declared.store.Store.Ghosts}
+use Rattle.project_journal.specs.{Gate.EachNow, Header.IsFormat, Header.form_3}
+use Rattle.record_body.specs.Saved.{Keeps, Opened}
+use Rattle.editor_state.specs.{Core.Core, Studios.IsHeld, Studios.IsStudio, Studios.studio_of}
+use Rattle.editor_recovery.specs.{Creating.new_opened, Honest.IsHonest}
 use Rattle.memory_project.specs.declared.fresh.FreshProject.{FreshProject}
 use Rattle.memory_project.specs.Memory.{HasAsked, HasRoom, no_room}
+use Rattle.project_journal.specs.Journal as journal
 
 -- A project that can be made: in its bounds, on a disk with room for it.
 pub record CanBeMade (p : FreshProject) : Type 0 where

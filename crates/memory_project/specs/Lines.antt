@@ -1,26 +1,17 @@
 -- Lines that nothing refuses, carried out on a disk that has room for them.
 use Rattle.std.specs.Prelude.{◌≡◌, ℕ, ◌+◌, ◌*◌, List, [], ◌∷◌, length, Result, IfErr}
 use Rattle.std.specs.List.{AllByRecursion}
-use Rattle.pcm_base.specs.declared.answer.Reply.{Reply}
-use Rattle.pcm_base.specs.declared.command.Call.TheVariants.{Line}
-use Rattle.pcm_base.specs.declared.command.Command.{Command}
-use Rattle.pcm_base.specs.declared.command.Command.TheVariants as command
-use Rattle.pcm_base.specs.declared.refusal.Refusal.{Refusal}
-use Rattle.pcm_base.specs.Form.{IsInForm}
-use Rattle.pcm_base.specs.Run.{CarriesOut}
-use Rattle.pcm_base.specs.Studio.{Studio}
-use Rattle.disk_model.specs.Frames.{asked}
-use Rattle.disk_model.specs.Room.{Room, together}
-use Rattle.disk_model.specs.declared.store.Store.{Ghosts}
+use Rattle.pcm_base.specs.{declared.answer.Reply.Reply, declared.command.Call.TheVariants.Line}
+use Rattle.pcm_base.specs.{declared.command.Command.Command, declared.refusal.Refusal.Refusal, Form.IsInForm}
+use Rattle.pcm_base.specs.{Run.CarriesOut, Studio.Studio}
+use Rattle.disk_model.specs.{Frames.asked, Room.Room, Room.together, declared.store.Store.Ghosts}
 use Rattle.sample_block.specs.Spelling.{size_of}
 use Rattle.envelope_view.specs.Answers.{IsUndamaged}
-use Rattle.editor_state.specs.Applied.{EndsAlike}
-use Rattle.editor_state.specs.Core.{Core}
-use Rattle.editor_state.specs.Studios.{IsHeld, IsStudio, studio_of}
-use Rattle.editor_state.specs.Took.{Took, quietly, silent}
-use Rattle.script_gen.specs.Room.{EachNeedsAtMost, NeedsAtMost}
-use Rattle.script_gen.specs.Validity.{AreValid, IsValid}
+use Rattle.editor_state.specs.{Applied.EndsAlike, Core.Core, Studios.IsHeld, Studios.IsStudio, Studios.studio_of}
+use Rattle.editor_state.specs.{Took.Took, Took.quietly, Took.silent}
+use Rattle.script_gen.specs.{Room.EachNeedsAtMost, Room.NeedsAtMost, Validity.AreValid, Validity.IsValid}
 use Rattle.memory_project.specs.Memory.{HasAsked, HasRoom, no_room}
+use Rattle.pcm_base.specs.declared.command.Command.TheVariants as command
 
 -- the kinds of line that the script of a number has
 abbrev pub IsOfScript : Command → Type 0
@@ -37,6 +28,10 @@ IsOfScript command.Tracks = Unit {0}
 IsOfScript (command.Envelope id from to columns) = Unit {0}
 IsOfScript _ = ⊥
 
+abbrev pub IsRamp : Command → Type 0
+IsRamp (command.Ramp id at n start step) = Unit {0}
+IsRamp _ = ⊥
+
 -- ---- one line
 
 -- what it may ask of the disk: 11 blocks and one that is begun in vain, and its record
@@ -49,7 +44,7 @@ pub record Asked {D : Type 0} (disk : Ghosts D) (old : Core D) (c : Command) (an
   pub told : Result Reply Refusal
   pub took : Took disk old (quietly (Line c) told) new
   pub ends : EndsAlike told answer
-  pub sound : IsHeld disk old → IfErr told IsUndamaged
+  pub valid : IsHeld disk old → IfErr told IsUndamaged
 
 -- A studio to which a line may come: nothing refuses it, and the disk has room for it.
 pub record MayCome {D : Type 0} (disk : Ghosts D) (s : Core D) (c : Command) : Type 0 where

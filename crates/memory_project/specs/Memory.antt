@@ -1,9 +1,7 @@
 -- A disk with room for what is asked of it.
 use Rattle.std.specs.Prelude.{◌≡◌, ℕ, ◌+◌, ◌≤◌, ◌<◌, Some}
 use Rattle.pcm_base.specs.declared.limits.TheConstants.{COUNTER_LIMIT}
-use Rattle.disk_model.specs.Frames.{asked}
-use Rattle.disk_model.specs.Room.{IsWithin, Room}
-use Rattle.disk_model.specs.declared.store.Store.{Ghosts}
+use Rattle.disk_model.specs.{Frames.asked, Room.IsWithin, Room.Room, declared.store.Store.Ghosts}
 
 -- so much more fits
 pub record Fits (now more room : ℕ) : Type 0 where

@@ -1,25 +1,14 @@
 -- The sum of a script that was run.
 use Rattle.std.specs.Prelude.{◌≡◌, ℕ, ◌+◌, ◌*◌, ◌≤◌, List, [], ◌∷◌, length, Option, None}
-use Rattle.pcm_base.specs.declared.sound.Cell.{Cell}
-use Rattle.pcm_base.specs.declared.sound.Scan.{Scan}
-use Rattle.pcm_base.specs.declared.sound.TrackLine.{TrackLine}
-use Rattle.pcm_base.specs.Cells.{cells_at}
-use Rattle.pcm_base.specs.Envelope.{scan_of}
-use Rattle.pcm_base.specs.State.{current}
-use Rattle.pcm_base.specs.Step.{new_track}
-use Rattle.pcm_base.specs.Studio.{Studio}
-use Rattle.disk_model.specs.Frames.{asked}
-use Rattle.disk_model.specs.declared.store.Store.{Ghosts}
-use Rattle.editor_state.specs.Core.{Core}
+use Rattle.pcm_base.specs.{declared.sound.Cell.Cell, declared.sound.Scan.Scan, declared.sound.TrackLine.TrackLine}
+use Rattle.pcm_base.specs.{Cells.cells_at, Envelope.scan_of, State.current, Step.new_track, Studio.Studio}
+use Rattle.disk_model.specs.{Frames.asked, declared.store.Store.Ghosts}
+use Rattle.editor_state.specs.{Core.Core, Studios.IsHeld, Studios.IsStudio, Studios.studio_of}
 use Rattle.editor_core.specs.Facts.{AreBlocksOf}
-use Rattle.editor_state.specs.Studios.{IsHeld, IsStudio, studio_of}
-use Rattle.script_gen.specs.Room.{script_project}
-use Rattle.script_gen.specs.Script.{script_of}
-use Rattle.script_gen.specs.Validity.{HasRun}
+use Rattle.script_gen.specs.{Room.script_project, Script.script_of, Validity.HasRun}
 use Rattle.script_text.specs.declared.summary.Summary.{Summary}
-use Rattle.memory_project.specs.declared.fresh.FreshProject.{FreshProject}
-use Rattle.memory_project.specs.Fresh.{room_of_project}
 use Rattle.memory_project.specs.Memory.{HasAsked, HasRoom, no_room}
+use Rattle.memory_project.specs.{declared.fresh.FreshProject.FreshProject, Fresh.room_of_project}
 
 -- the cells of track 1
 abbrev pub track_cells : Studio → List Cell

@@ -1,11 +1,10 @@
 // A line that a script of a number may have, carried out by the call that is its own.
 ghost use Rattle.std.specs.Prelude.{◌≡◌, OnErr, OnOk};
-ghost use Rattle.pcm_base.specs.declared.command.Command.TheVariants.{Ramp};
-ghost use Rattle.pcm_base.specs.Form.{IsInForm, IsNumber};
+ghost use Rattle.pcm_base.specs.Form.{IsInForm};
 ghost use Rattle.editor_state.specs.Applied.{EndsAlike};
 ghost use Rattle.editor_core.specs.Core.{core_of};
 ghost use Rattle.editor_state.specs.Studios.{IsStudio, studio_of};
-ghost use Rattle.memory_project.specs.Lines.{Asked, IsOfScript, MayCome, Went};
+ghost use Rattle.memory_project.specs.Lines.{Asked, IsOfScript, IsRamp, MayCome, Went};
 
 use disk_model::Store;
 use editor_core::Studio;
@@ -13,7 +12,7 @@ use pcm_base::{Command, NoMemory, Placing, RangeEdit, Refusal};
 use std::alloc::Global;
 
 // Whether there was an answer, or why there was none.
-fn told<T: Drop>(answer: Result<T, Refusal>) -> Result<(), Refusal>
+fn without_value<T: Drop>(answer: Result<T, Refusal>) -> Result<(), Refusal>
     ensures { EndsAlike answer result }
 {
     match answer {
@@ -26,17 +25,23 @@ fn told<T: Drop>(answer: Result<T, Refusal>) -> Result<(), Refusal>
 fn ask_ramp<S: Store>(
     alloc: Global,
     studio: &mut Studio<S>,
-    track: u64,
-    at: u64,
-    count: u32,
-    start: i16,
-    step: i16,
+    command: &Command,
 ) -> Result<(), Refusal>
     requires studio { IsStudio S.Store (core_of studio.old) }
-    requires form { IsNumber at }
-    ensures { Asked S.Store (core_of studio.old) (Ramp track at count start step) result (core_of studio.new) }
+    requires kind { IsRamp command.now }
+    requires form { IsInForm command.now }
+    ensures { Asked S.Store (core_of studio.old) command.now result (core_of studio.new) }
 {
-    told(studio.ramp(alloc, track, at, count, start, step))
+    match command {
+        Command::Ramp {
+            track,
+            at,
+            count,
+            start,
+            step,
+        } => without_value(studio.ramp(alloc, *track, *at, *count, *start, *step)),
+        _ => unreachable!(),
+    }
 }
 
 // Carries out a line of the kinds that such a script has.
@@ -51,16 +56,10 @@ fn carry_line<S: Store>(
     ensures { Asked S.Store (core_of studio.old) command.now result (core_of studio.new) }
 {
     match command {
-        Command::Track => told(studio.track(alloc)),
-        Command::Ramp {
-            track,
-            at,
-            count,
-            start,
-            step,
-        } => ask_ramp(alloc, studio, *track, *at, *count, *start, *step),
+        Command::Track => without_value(studio.track(alloc)),
+        Command::Ramp { .. } => ask_ramp(alloc, studio, command),
         Command::Delete { track, from, to } => {
-            told(studio.edit_range(alloc, *track, *from, *to, RangeEdit::Delete))
+            without_value(studio.edit_range(alloc, *track, *from, *to, RangeEdit::Delete))
         }
         Command::Gain {
             track,
@@ -69,29 +68,29 @@ fn carry_line<S: Store>(
             gain,
         } => {
             let edit = RangeEdit::Gain { gain: *gain };
-            told(studio.edit_range(alloc, *track, *from, *to, edit))
+            without_value(studio.edit_range(alloc, *track, *from, *to, edit))
         }
         Command::Silence { track, from, to } => {
-            told(studio.edit_range(alloc, *track, *from, *to, RangeEdit::Silence))
+            without_value(studio.edit_range(alloc, *track, *from, *to, RangeEdit::Silence))
         }
         Command::Copy {
             track,
             count,
             from,
             to,
-        } => told(studio.copy(alloc, *track, *count, *from, *to)),
+        } => without_value(studio.copy(alloc, *track, *count, *from, *to)),
         Command::Paste { track, at } => {
-            told(studio.paste_strips(alloc, *track, *at, Placing::Insert))
+            without_value(studio.paste_strips(alloc, *track, *at, Placing::Insert))
         }
-        Command::Undo => told(studio.undo()),
-        Command::Redo => told(studio.redo()),
-        Command::Tracks => told(studio.tracks(alloc)),
+        Command::Undo => without_value(studio.undo()),
+        Command::Redo => without_value(studio.redo()),
+        Command::Tracks => without_value(studio.tracks(alloc)),
         Command::Envelope {
             track,
             from,
             to,
             columns,
-        } => told(studio.envelope(alloc, *track, *from, *to, *columns)),
+        } => without_value(studio.envelope(alloc, *track, *from, *to, *columns)),
         _ => unreachable!(),
     }
 }

@@ -12,22 +12,20 @@ use rayon::current_num_threads;
 use std::alloc::Global;
 use std::thread::Threads;
 
-/// How many cells a stretch has at least that is shared among threads. The mix of fewer takes less time than threads
-/// take to start.
-const SHARED_CELLS: usize = 2_000_000;
+/// How many cells a part has at least, or about as many, so that the start of a thread is small beside it.
+const PART_CELLS: usize = 524_288;
 
-/// How many frames a part has: all of them, or this many that each processor has one part.
+/// How many frames a part has: so many that it has enough cells, and that no processor has two parts.
 fn part_len(rt: &impl Threads, cells: usize, frames: usize) -> usize
     ensures { 0 < result }
 {
-    if cells < SHARED_CELLS {
-        return frames.max(1);
-    }
-    frames.div_ceil(current_num_threads(rt)).max(1)
+    let parts = (cells / PART_CELLS).min(current_num_threads(rt)).max(1);
+    frames.div_ceil(parts).max(1)
 }
 
 /// The mix of a loaded stretch, written to as many frames as it has. A stretch of few cells is mixed in one part and
-/// starts no thread. Of any other each processor has one part. It takes no memory but what a thread takes.
+/// starts no thread. Any other is cut into at most one part for each processor. It takes no memory but what a thread
+/// takes.
 pub fn mix_loaded(rt: &(impl Threads + Sync), loaded: &Loaded, out: &mut [Frame])
     requires loaded { IsLoaded loaded.now }
     requires room { length out.old ≡ loaded.now.len }

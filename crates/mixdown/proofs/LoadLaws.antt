@@ -1,22 +1,17 @@
 -- The mix of a loaded stretch is that of the project that it shows.
-use Rattle.std.proofs.Common.{◌≡◌, ℕ, zero, suc, ◌+◌, ◌*◌, ◌≤◌, ◌<◌, List, [], ◌∷◌, length, take, drop, map, get_or, refl}
-use Rattle.std.proofs.Common.{sym, ap, ap₂, ◌∙◌, Bool, true, false, Some, arith, length-drop, slice_get}
-use Rattle.std.specs.List.{AllByRecursion}
-use Rattle.std.specs.Prelude.{if◌then◌else◌, not}
+use Rattle.std.proofs.Common.{◌≡◌, ℕ, zero, suc, ◌+◌, ◌*◌, ◌≤◌, ◌<◌, List, [], ◌∷◌, length, take, drop, map, get_or}
+use Rattle.std.proofs.Common.{refl, sym, ap, ap₂, ◌∙◌, Bool, true, false, Some, arith, length-drop, slice_get}
 use Rattle.std.proofs.lemmas.List.{drop-drop, get_or_default, length-map, length-take, same_lists}
 use Rattle.std.proofs.lemmas.List.FromFn.{get_or-map-range_with_len, length-map-range_with_len}
 use Rattle.std.proofs.lemmas.Option.{none-some, same_Some}
-use Rattle.pcm_base.specs.declared.lists.LoadedTrack.{LoadedTrack}
-use Rattle.pcm_base.specs.declared.sound.Cell.{Cell}
-use Rattle.pcm_base.specs.declared.sound.Cell.TheVariants.{Gap}
-use Rattle.pcm_base.specs.declared.sound.Side.{Side}
-use Rattle.pcm_base.specs.Arithmetic.{counted_from}
+use Rattle.std.specs.{List.AllByRecursion, Prelude.if◌then◌else◌, Prelude.not}
 use Rattle.pcm_base.specs.Cells.{Project, Track, longest}
 use Rattle.pcm_base.specs.Mix.{frame_at, loaded_track, mix_of, stretch_of, unmuted}
-use Rattle.mixdown.specs.declared.loaded.Loaded.{Loaded}
-use Rattle.mixdown.specs.Laid.{heard, laid}
+use Rattle.pcm_base.specs.{declared.lists.LoadedTrack.LoadedTrack, declared.sound.Cell.Cell}
+use Rattle.pcm_base.specs.{declared.sound.Cell.TheVariants.Gap, declared.sound.Side.Side, Arithmetic.counted_from}
 use Rattle.mixdown.specs.Loads.{IsLoaded, Shows, cut_in, heard_track, loaded_cells, loaded_tracks, tracks_in}
 use Rattle.mixdown.specs.Stretches.{AreStretches, IsStretch, gains_of, sides_of}
+use Rattle.mixdown.specs.{declared.loaded.Loaded.Loaded, Laid.heard, Laid.laid}
 use Rattle.mixdown.proofs.StretchLaws.{unmuted_frames}
 
 pub shown_frames : (from : ℕ) (p : Project) (l : Loaded) → Shows from p l

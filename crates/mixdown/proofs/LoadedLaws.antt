@@ -1,18 +1,13 @@
 -- The mix of the tracks that the model loads is the project's from their place on.
-use Rattle.std.proofs.Common.{◌≡◌, ◌<◌, ◌≤◌, ◌+◌, ◌-◌, ℕ, ℤ, pos, List, [], ◌∷◌, Bool, true, false, map, min}
-use Rattle.std.proofs.Common.{get_or, refl, sym, ap, ap₂, ◌∙◌, arith}
-use Rattle.std.specs.Prelude.{◌+ℤ◌, if◌then◌else◌}
+use Rattle.std.proofs.Common.{◌≡◌, ◌<◌, ◌≤◌, ◌+◌, ◌-◌, ℕ, ℤ, pos, List, [], ◌∷◌, Bool, true, false, map, min, get_or}
+use Rattle.std.proofs.Common.{refl, sym, ap, ap₂, ◌∙◌, arith}
 use Rattle.std.proofs.lemmas.List.FromFn.{get_or-map-range_with_len, length-map-range_with_len}
-use Rattle.pcm_base.specs.declared.sound.Cell.{Cell}
-use Rattle.pcm_base.specs.declared.sound.Cell.TheVariants.{Gap}
-use Rattle.pcm_base.specs.declared.sound.Side.{Side}
-use Rattle.pcm_base.specs.Arithmetic.{counted_from}
-use Rattle.pcm_base.specs.Cells.{Project, Track, longest}
+use Rattle.std.specs.Prelude.{◌+ℤ◌, if◌then◌else◌}
 use Rattle.pcm_base.specs.Mix.{frame_at, is_on_left, is_on_right, loaded_of, loaded_track, mix_length, mix_of}
 use Rattle.pcm_base.specs.Mix.{stretch_of, unmuted, weight}
-use Rattle.mixdown.specs.Laid.{left_sum, right_sum}
-use Rattle.mixdown.specs.Loads.{heard_track}
-use Rattle.mixdown.specs.Sums.{limited}
+use Rattle.pcm_base.specs.{declared.sound.Cell.Cell, declared.sound.Cell.TheVariants.Gap, declared.sound.Side.Side}
+use Rattle.pcm_base.specs.{Arithmetic.counted_from, Cells.Project, Cells.Track, Cells.longest}
+use Rattle.mixdown.specs.{Laid.left_sum, Laid.right_sum, Loads.heard_track, Sums.limited}
 use Rattle.mixdown.proofs.LaidLaws.{left_first, right_first}
 use Rattle.mixdown.proofs.StretchLaws.{left_of, right_of, same_counted}
 
@@ -26,8 +21,7 @@ stretch_cell from k i t lt =
 
 left_one : (from k i id gain : ℕ) (side : Side) (mute : Bool) (cells : List Cell) (ts : Project) → i < k
     → left_sum (loaded_by from k ts) i ≡ left_sum ts (from + i)
-    → left_sum
-    (loaded_by from k (record { id = id; gain = gain; side = side; mute = mute; cells = cells } ∷ ts)) i
+    → left_sum (loaded_by from k (record { id = id; gain = gain; side = side; mute = mute; cells = cells } ∷ ts)) i
     ≡ left_sum (record { id = id; gain = gain; side = side; mute = mute; cells = cells } ∷ ts) (from + i)
 left_one from k i id gain side true cells ts lt rest = rest
 left_one from k i id gain side false cells ts lt rest =
@@ -44,8 +38,7 @@ left_loaded from k i (t ∷ ts) lt =
 
 right_one : (from k i id gain : ℕ) (side : Side) (mute : Bool) (cells : List Cell) (ts : Project) → i < k
     → right_sum (loaded_by from k ts) i ≡ right_sum ts (from + i)
-    → right_sum
-    (loaded_by from k (record { id = id; gain = gain; side = side; mute = mute; cells = cells } ∷ ts)) i
+    → right_sum (loaded_by from k (record { id = id; gain = gain; side = side; mute = mute; cells = cells } ∷ ts)) i
     ≡ right_sum (record { id = id; gain = gain; side = side; mute = mute; cells = cells } ∷ ts) (from + i)
 right_one from k i id gain side true cells ts lt rest = rest
 right_one from k i id gain side false cells ts lt rest =

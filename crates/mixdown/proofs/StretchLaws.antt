@@ -2,16 +2,12 @@
 use Rattle.std.proofs.Common.{◌≡◌, ◌<◌, ◌+◌, ℕ, zero, suc, ℤ, pos, List, [], ◌∷◌, Bool, true, false, take, drop, map}
 use Rattle.std.proofs.Common.{get_or, refl, sym, ap, ap₂, ◌∙◌, arith}
 use Rattle.std.specs.Prelude.{◌+ℤ◌, if◌then◌else◌, filter}
-use Rattle.pcm_base.specs.declared.sound.Cell.{Cell}
-use Rattle.pcm_base.specs.declared.sound.Cell.TheVariants.{Gap}
-use Rattle.pcm_base.specs.declared.sound.Side.{Side}
 use Rattle.pcm_base.specs.declared.sound.Side.TheVariants.{Both, Left, Right}
-use Rattle.pcm_base.specs.Arithmetic.{counted_from}
-use Rattle.pcm_base.specs.Cells.{Project}
 use Rattle.pcm_base.specs.Mix.{weight, is_on_left, is_on_right, unmuted, sum_at, frame_at}
-use Rattle.mixdown.specs.Laid.{laid, left_sum, right_sum}
-use Rattle.mixdown.specs.Stretches.{AreStretches, gains_of, sides_of}
-use Rattle.mixdown.specs.Sums.{limited}
+use Rattle.pcm_base.specs.{declared.sound.Cell.Cell, declared.sound.Cell.TheVariants.Gap, declared.sound.Side.Side}
+use Rattle.pcm_base.specs.{Arithmetic.counted_from, Cells.Project}
+use Rattle.mixdown.specs.{Laid.laid, Laid.left_sum, Laid.right_sum, Stretches.AreStretches, Stretches.gains_of}
+use Rattle.mixdown.specs.{Stretches.sides_of, Sums.limited}
 use Rattle.mixdown.proofs.LaidLaws.{left_first, right_first, none_before}
 
 pub left_of : (id gain : ℕ) (side : Side) (mute : Bool) (cells : List Cell) (ts : Project) (i : ℕ)

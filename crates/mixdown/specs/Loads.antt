@@ -1,14 +1,9 @@
 -- Stretches of the tracks that are heard, in memory.
 use Rattle.std.specs.Prelude.{◌≡◌, ◌≤◌, ◌*◌, ℕ, List, [], ◌∷◌, length, take, drop}
-use Rattle.pcm_base.specs.declared.limits.TheConstants.{MAX_TRACKS}
-use Rattle.pcm_base.specs.declared.lists.LoadedTrack.{LoadedTrack}
-use Rattle.pcm_base.specs.declared.sound.Cell.{Cell}
-use Rattle.pcm_base.specs.declared.sound.Side.{Side}
-use Rattle.pcm_base.specs.Cells.{Project, Track}
-use Rattle.pcm_base.specs.Mix.{unmuted}
-use Rattle.mixdown.specs.Laid.{heard, laid}
+use Rattle.pcm_base.specs.{declared.limits.TheConstants.MAX_TRACKS, declared.lists.LoadedTrack.LoadedTrack}
+use Rattle.pcm_base.specs.{declared.sound.Cell.Cell, declared.sound.Side.Side, Cells.Project, Cells.Track, Mix.unmuted}
 use Rattle.mixdown.specs.Stretches.{AreStretches, gains_of, sides_of}
-use Rattle.mixdown.specs.declared.loaded.Loaded.{Loaded}
+use Rattle.mixdown.specs.{Laid.heard, Laid.laid, declared.loaded.Loaded.Loaded}
 
 -- the cells of its tracks, one track after the other
 abbrev pub loaded_cells : Loaded → List Cell

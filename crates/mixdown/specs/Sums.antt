@@ -1,11 +1,9 @@
 -- Sums of a piece of the frames, one list for each way to be heard.
 use Rattle.std.specs.Prelude.{◌≡◌, ◌≤◌, ◌<◌, ◌+◌, ◌^◌, ℕ, ℤ, pos, ◌+ℤ◌, nat_abs, List, length, Bool, if◌then◌else◌}
 use Rattle.std.specs.Prelude.{slice_index_or}
-use Rattle.pcm_base.specs.declared.sound.Cell.{Cell}
-use Rattle.pcm_base.specs.declared.sound.Cell.TheVariants.{Gap}
-use Rattle.pcm_base.specs.declared.sound.Frame.{Frame}
-use Rattle.pcm_base.specs.Arithmetic.{clamped}
-use Rattle.pcm_base.specs.Mix.{weight}
+use Rattle.pcm_base.specs.declared.limits.TheConstants.{MAX_GAIN}
+use Rattle.pcm_base.specs.{declared.sound.Cell.Cell, declared.sound.Cell.TheVariants.Gap, declared.sound.Frame.Frame}
+use Rattle.pcm_base.specs.{Arithmetic.clamped, Mix.weight}
 
 abbrev pub sum_in : List ℤ → ℕ → ℤ
 sum_in sums k = slice_index_or sums k (pos 0)
@@ -14,13 +12,17 @@ sum_in sums k = slice_index_or sums k (pos 0)
 abbrev pub weight_in : ℕ → List Cell → ℕ → ℤ
 weight_in gain cells k = weight gain (slice_index_or cells k Gap)
 
+-- gains that a track may have
+abbrev pub AreUsual : List ℕ → Type 0
+AreUsual gains = (k : ℕ) → k < length gains → slice_index_or gains k 0 ≤ MAX_GAIN
+
 -- the first n sums are no greater than this in size
 abbrev pub AreWithin : ℕ → ℕ → List ℤ → Type 0
 AreWithin most n sums = (k : ℕ) → k < n → nat_abs (sum_in sums k) ≤ most
 
--- the first n sums have grown in size by no more than what a cell can add
+-- the first n sums have grown in size by no more than what a cell can add under a gain that a track may have
 abbrev pub Grows : ℕ → List ℤ → List ℤ → Type 0
-Grows n old new = (k : ℕ) → k < n → nat_abs (sum_in new k) ≤ nat_abs (sum_in old k) + 2 ^ 32
+Grows n old new = (k : ℕ) → k < n → nat_abs (sum_in new k) ≤ nat_abs (sum_in old k) + 2 ^ 19
 
 -- the cells are added to the first sums, each at its place
 abbrev pub IsAdded : ℕ → List Cell → List ℤ → List ℤ → Type 0

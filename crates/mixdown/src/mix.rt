@@ -1,17 +1,21 @@
 // The frames of a mix.
-ghost use Rattle.std.specs.Prelude.{◌≡◌, ◌≤◌, ◌+◌, ◌*◌, ℕ, length, map};
+ghost use Rattle.std.specs.Prelude.{◌≡◌, ◌≤◌, ◌<◌, ◌+◌, ◌*◌, ℕ, length, map};
 ghost use Rattle.std.specs.List.{range_with_len};
 ghost use Rattle.pcm_base.specs.declared.limits.TheConstants.{MAX_TRACKS};
 ghost use Rattle.pcm_base.specs.Arithmetic.{counted_from};
 ghost use Rattle.pcm_base.specs.Cells.{Project};
 ghost use Rattle.pcm_base.specs.Mix.{frame_at, unmuted};
 ghost use Rattle.mixdown.specs.Laid.{laid};
+ghost use Rattle.mixdown.specs.Sums.{AreUsual};
 ghost use Rattle.mixdown.specs.Stretches.{AreStretches, gains_of, sides_of};
 
+use super::loud::mix_frames;
 use super::sums::{PIECE, Sums};
+use super::weights::are_usual;
 use pcm_base::{Cell, Frame, Side};
 
-/// The frames from place `at` on, so few that their sums stand on the stack, of stretches of `len` cells each.
+/// The frames from place `at` on, so few that their sums stand on the stack, of stretches of `len` cells each, under
+/// gains that a track may have.
 fn mix_piece(
     stretches: &[Cell],
     gains: &[u32],
@@ -21,9 +25,10 @@ fn mix_piece(
     out: &mut [Frame],
 )
     requires few { length gains.now ≤ MAX_TRACKS }
+    requires usual { AreUsual gains.now }
     requires sides { length sides.now ≡ length gains.now }
     requires stretches { length stretches.now ≡ length gains.now * len }
-    requires piece { length out.old ≤ 256 }
+    requires piece { length out.old ≤ PIECE }
     requires within { at + length out.old ≤ len }
     ensures { out.new ≡ map (frame_at (laid len stretches.now gains.now sides.now))
         (range_with_len at (length out.old)) }
@@ -72,6 +77,30 @@ pub fn mix_part(
     out: &mut [Frame],
 )
     requires few { length gains.now ≤ MAX_TRACKS }
+    requires sides { length sides.now ≡ length gains.now }
+    requires stretches { length stretches.now ≡ length gains.now * len }
+    requires within { at + length out.old ≤ len }
+    ensures { out.new ≡ map (frame_at (laid len stretches.now gains.now sides.now))
+        (counted_from at (length out.old)) }
+{
+    if are_usual(gains) {
+        mix_pieces(stretches, gains, sides, len, at, out);
+    } else {
+        mix_frames(stretches, gains, sides, len, at, out);
+    }
+}
+
+/// The frames of a part, piece by piece, under gains that a track may have.
+fn mix_pieces(
+    stretches: &[Cell],
+    gains: &[u32],
+    sides: &[Side],
+    len: usize,
+    at: usize,
+    out: &mut [Frame],
+)
+    requires few { length gains.now ≤ MAX_TRACKS }
+    requires usual { AreUsual gains.now }
     requires sides { length sides.now ≡ length gains.now }
     requires stretches { length stretches.now ≡ length gains.now * len }
     requires within { at + length out.old ≤ len }

@@ -5,25 +5,25 @@ ghost use Rattle.pcm_base.specs.Mix.{is_on_left, is_on_right};
 ghost use Rattle.mixdown.specs.Sums.{AreWithin, Grows, IsHeard, limited as limited_of, frame_in};
 
 use super::weights::{add, add_cells};
-use pcm_base::{Cell, Frame, Side, clamped};
+use pcm_base::{Cell, Frame, MAX_GAIN, Side, clamped};
 
 /// How many frames are summed at a time.
-pub(crate) const PIECE: usize = 256;
+pub(crate) const PIECE: usize = 1024;
 
-/// What is heard of a piece, before it is limited. Each track is in one of the three, by the sides where it is heard.
+/// What is heard of a piece, before it is limited, under gains that a track may have. Each track is in one of the three, by the sides where it is heard.
 #[derive(Debug, Drop)]
 pub(crate) struct Sums {
-    both: [i64; PIECE],
-    left: [i64; PIECE],
-    right: [i64; PIECE],
+    both: [i32; PIECE],
+    left: [i32; PIECE],
+    right: [i32; PIECE],
 }
 
 impl Sums {
     /// The sums of no track.
     pub(crate) fn new() -> Sums
-        ensures both { result.both ≡ replicate 256 (pos 0) }
-        ensures left { result.left ≡ replicate 256 (pos 0) }
-        ensures right { result.right ≡ replicate 256 (pos 0) }
+        ensures both { result.both ≡ replicate PIECE (pos 0) }
+        ensures left { result.left ≡ replicate PIECE (pos 0) }
+        ensures right { result.right ≡ replicate PIECE (pos 0) }
     {
         Sums {
             both: [0; PIECE],
@@ -34,10 +34,11 @@ impl Sums {
 
     /// Adds the piece of one track.
     pub(crate) fn add(&mut self, side: Side, gain: u32, cells: &[Cell])
-        requires few { length cells.now ≤ 256 }
-        requires both { AreWithin (2 ^ 39) (length cells.now) self.old.both }
-        requires left { AreWithin (2 ^ 39) (length cells.now) self.old.left }
-        requires right { AreWithin (2 ^ 39) (length cells.now) self.old.right }
+        requires usual { gain ≤ MAX_GAIN }
+        requires few { length cells.now ≤ PIECE }
+        requires both { AreWithin (2 ^ 26) (length cells.now) self.old.both }
+        requires left { AreWithin (2 ^ 26) (length cells.now) self.old.left }
+        requires right { AreWithin (2 ^ 26) (length cells.now) self.old.right }
         ensures left { IsHeard (is_on_left side) gain cells.now (self.old.both, self.old.left) (
           self.new.both,
           self.new.left,
@@ -59,10 +60,10 @@ impl Sums {
 
     /// The first frames of the sums.
     pub(crate) fn limit(&self, out: &mut [Frame])
-        requires few { length out.old ≤ 256 }
-        requires both { AreWithin (2 ^ 39) (length out.old) self.now.both }
-        requires left { AreWithin (2 ^ 39) (length out.old) self.now.left }
-        requires right { AreWithin (2 ^ 39) (length out.old) self.now.right }
+        requires few { length out.old ≤ PIECE }
+        requires both { AreWithin (2 ^ 26) (length out.old) self.now.both }
+        requires left { AreWithin (2 ^ 26) (length out.old) self.now.left }
+        requires right { AreWithin (2 ^ 26) (length out.old) self.now.right }
         ensures { out.new
             ≡ map (frame_in self.now.both self.now.left self.now.right) (range_with_len 0 (length out.old)) }
     {
@@ -74,7 +75,14 @@ impl Sums {
 }
 
 /// A frame of what is heard on each side, limited to what a sample can be.
-fn limited(left: i64, right: i64) -> Frame
+fn limited(left: i32, right: i32) -> Frame
+    ensures { result ≡ limited_of left right }
+{
+    limited_wide(i64::from(left), i64::from(right))
+}
+
+/// The same of sums of 64 bits.
+pub(crate) fn limited_wide(left: i64, right: i64) -> Frame
     ensures { result ≡ limited_of left right }
 {
     Frame {

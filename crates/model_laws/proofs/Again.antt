@@ -1,15 +1,14 @@
 -- A piece of a recording after another of it, and a track that is edited twice.
-use Rattle.std.proofs.Common.{◌≡◌, ◌==◌, ◌∙◌, refl, sym, ap, ℕ, ◌+◌, ◌-◌, ◌≤◌, Bool, true, false, List, [], ◌∷◌}
-use Rattle.std.proofs.Common.{◌++◌, length, map, take, drop, arith}
-use Rattle.std.specs.Prelude.{if◌then◌else◌, slice_index, ◌&&◌, not}
+use Rattle.std.proofs.Common.{◌≡◌, ◌==◌, ◌∙◌, refl, sym, ap, ℕ, ◌+◌, ◌-◌, ◌≤◌, Bool, true, false, List, [], ◌∷◌, ◌++◌}
+use Rattle.std.proofs.Common.{length, map, take, drop, arith}
 use Rattle.std.proofs.lemmas.Bool.{eqb-true, eq-eqb, ne_eqb}
 use Rattle.std.proofs.lemmas.List.{drop-append-le, length-drop, length_push}
-use Rattle.pcm_base.specs.declared.sound.Cell.{Cell}
+use Rattle.std.specs.Prelude.{if◌then◌else◌, slice_index, ◌&&◌, not}
 use Rattle.pcm_base.specs.Cells.{Project, cells_at, cells_of_first, each_edited, edited_at, run_edited, tracks_from}
 use Rattle.pcm_base.specs.Cells.{with_cells}
-use Rattle.pcm_base.specs.History.{History, amended, edited, ending_with, is_of_recording, kept, recorded, tag_of, tags_of}
-use Rattle.pcm_base.specs.Refusals.{is_empty}
-use Rattle.pcm_base.specs.State.{first_point}
+use Rattle.pcm_base.specs.History.{History, amended, edited, ending_with, is_of_recording, kept, recorded, tag_of}
+use Rattle.pcm_base.specs.History.{tags_of}
+use Rattle.pcm_base.specs.{declared.sound.Cell.Cell, Refusals.is_empty, State.first_point}
 
 same_number : (n : ℕ) → (n == n) ≡ true
 same_number n = eq-eqb n n refl
@@ -131,8 +130,7 @@ pub recorded_current : (h : History Project) (p : Project) (tag : ℕ) → 1 ≤
     → first_point (drop (recorded h p tag).cursor (recorded h p tag).points) ≡ p
 recorded_current h p tag some =
     let at = recorded_behind h tag in
-    ap (λ (z : History Project). first_point (drop z.cursor z.points))
-    (at.1 p ∙ ending_is h at.0 (p, tag) some)
+    ap (λ (z : History Project). first_point (drop z.cursor z.points)) (at.1 p ∙ ending_is h at.0 (p, tag) some)
     ∙ last_point (staying h.depth at.0) (p, tag)
 
 -- ---- projects

@@ -1,23 +1,18 @@
 -- What an answer makes of the studio: another journal where it was packed, fewer points where the oldest go, and else
 -- the same.
 use Rattle.std.proofs.Common.{◌≡◌, ◌∙◌, refl, ap, ℕ, ◌+◌, ◌^◌, ◌≤◌, ◌<◌, arith}
-use Rattle.pcm_base.specs.declared.answer.Reply.{Reply}
-use Rattle.pcm_base.specs.declared.answer.Reply.TheVariants as reply
-use Rattle.pcm_base.specs.declared.command.Call.{Call}
-use Rattle.pcm_base.specs.declared.command.Call.TheVariants as call
-use Rattle.pcm_base.specs.declared.entry.SoundMove.{SoundMove}
-use Rattle.pcm_base.specs.declared.limits.TheConstants.{COUNTER_LIMIT, FIRST_RECORD}
-use Rattle.pcm_base.specs.Counters.{generations_by, generations_of}
-use Rattle.pcm_base.specs.Outside.{Outside}
-use Rattle.pcm_base.specs.Run.{CarriesOut, answered, followed, outside, told_state}
 use Rattle.pcm_base.specs.Shape.{Shape, NewTrack, DropTrack, SetTrack, PutIn, EditRange, CutRun, CopyRun, PasteRun}
 use Rattle.pcm_base.specs.Shape.{MoveTo, Purge, PurgeTo, Look, Reclaim, Compact, Import, Export, Bounce, View, Cells}
 use Rattle.pcm_base.specs.Shape.{Frames, Columns, Tracks, shape_of}
-use Rattle.pcm_base.specs.State.{State}
-use Rattle.pcm_base.specs.Step.{MayAnswer, MayReplyBy, after, after_shape, seen}
-use Rattle.pcm_base.specs.Studio.{Studio}
+use Rattle.pcm_base.specs.{declared.answer.Reply.Reply, declared.command.Call.Call, declared.entry.SoundMove.SoundMove}
+use Rattle.pcm_base.specs.{declared.limits.TheConstants.COUNTER_LIMIT, declared.limits.TheConstants.FIRST_RECORD}
+use Rattle.pcm_base.specs.{Counters.generations_by, Counters.generations_of, Outside.Outside, Run.CarriesOut}
+use Rattle.pcm_base.specs.{Run.answered, Run.followed, Run.outside, Run.told_state, State.State, Step.MayAnswer}
+use Rattle.pcm_base.specs.{Step.MayReplyBy, Step.after, Step.after_shape, Step.seen, Studio.Studio}
 use Rattle.model_laws.specs.Bounds.{IsBoundedStudio}
 use Rattle.model_laws.proofs.Histories.{purged_points}
+use Rattle.pcm_base.specs.declared.answer.Reply.TheVariants as reply
+use Rattle.pcm_base.specs.declared.command.Call.TheVariants as call
 
 -- the commit number stays
 pub answered_commit : (r : Reply) (t : Studio) → (answered r t).state.commit ≡ t.state.commit
@@ -37,21 +32,21 @@ answered_commit (reply.Loaded tracks) t = refl
 answered_commit (reply.Refused why) t = refl
 
 -- what the answer says of the history
-pub answered_told : (r : Reply) (t : Studio) → (answered r t).state ≡ told_state r t.state
-answered_told reply.Done t = refl
-answered_told reply.Copied t = refl
-answered_told (reply.Cells cells) t = refl
-answered_told (reply.Frames frames) t = refl
-answered_told (reply.Columns columns) t = refl
-answered_told (reply.Tracks tracks) t = refl
-answered_told (reply.Freed count) t = refl
-answered_told (reply.Packed bytes) t = refl
-answered_told (reply.Purged n) t = refl
-answered_told (reply.Wrote bytes) t = refl
-answered_told (reply.Pinned pin) t = refl
-answered_told (reply.Length frames) t = refl
-answered_told (reply.Loaded tracks) t = refl
-answered_told (reply.Refused why) t = refl
+pub answered_replied : (r : Reply) (t : Studio) → (answered r t).state ≡ told_state r t.state
+answered_replied reply.Done t = refl
+answered_replied reply.Copied t = refl
+answered_replied (reply.Cells cells) t = refl
+answered_replied (reply.Frames frames) t = refl
+answered_replied (reply.Columns columns) t = refl
+answered_replied (reply.Tracks tracks) t = refl
+answered_replied (reply.Freed count) t = refl
+answered_replied (reply.Packed bytes) t = refl
+answered_replied (reply.Purged n) t = refl
+answered_replied (reply.Wrote bytes) t = refl
+answered_replied (reply.Pinned pin) t = refl
+answered_replied (reply.Length frames) t = refl
+answered_replied (reply.Loaded tracks) t = refl
+answered_replied (reply.Refused why) t = refl
 
 -- and all but the history and the journal
 pub answered_is : (r : Reply) (t : Studio) → answered r t ≡ record t {
@@ -89,90 +84,33 @@ carried_is t u c sound r h = h.is ∙ answered_is r (followed (outside t sound) 
 
 -- whether the answer of a line says what changes: 1 for a compact, and for a purge to a size
 abbrev pub moves_by : Shape → ℕ
-moves_by NewTrack = 0
-moves_by (DropTrack id) = 0
-moves_by (SetTrack id setting) = 0
-moves_by (PutIn id at source) = 0
-moves_by (EditRange id from to edit) = 0
-moves_by (CutRun id n from to removing) = 0
-moves_by (CopyRun id n from to) = 0
-moves_by (PasteRun id at placing) = 0
-moves_by (MoveTo move) = 0
-moves_by (Purge n) = 0
 moves_by (PurgeTo bytes) = 1
-moves_by (Look view) = 0
-moves_by (Reclaim limit) = 0
 moves_by Compact = 1
-moves_by (Import name) = 0
-moves_by (Export name) = 0
-moves_by (Bounce name) = 0
+moves_by _ = 0
 
 abbrev pub moves_of : Call → ℕ
 moves_of (call.Line c) = moves_by (shape_of c)
-moves_of (call.Piece track tag samples) = 0
-moves_of call.Pin = 0
-moves_of (call.PinLen pin) = 0
-moves_of (call.ReadPin pin from count) = 0
-moves_of (call.LoadPin pin from count) = 0
-moves_of (call.Unpin pin) = 0
+moves_of _ = 0
 
 -- what is answered by `ok` is no such line
 done_line : (out : Outside) (s : State) (shape : Shape) → MayReplyBy out s shape reply.Done → moves_by shape ≡ 0
-done_line out s NewTrack e = refl
-done_line out s (DropTrack id) e = refl
-done_line out s (SetTrack id setting) e = refl
-done_line out s (PutIn id at source) e = refl
-done_line out s (EditRange id from to edit) e = refl
-done_line out s (CutRun id n from to removing) e = refl
-done_line out s (CopyRun id n from to) e = refl
-done_line out s (PasteRun id at placing) e = refl
-done_line out s (MoveTo move) e = refl
-done_line out s (Purge n) e = refl
 done_line out s (PurgeTo bytes) (n, e, some, most) = let no : ⊥ = cc e in absurd no
-done_line out s (Look view) e = refl
-done_line out s (Reclaim limit) e = refl
 done_line out s Compact (n, e, least, most) = let no : ⊥ = cc e in absurd no
-done_line out s (Import name) e = refl
-done_line out s (Export name) e = refl
 done_line out s (Bounce name) e = absurd e
+done_line out s _ e = refl
 
 pub done_stays : (out : Outside) (s : State) (c : Call) → MayAnswer out s c reply.Done → moves_of c ≡ 0
 done_stays out s (call.Line c) e = done_line out s (shape_of c) e
-done_stays out s (call.Piece track tag samples) e = refl
-done_stays out s call.Pin e = refl
-done_stays out s (call.PinLen pin) e = refl
-done_stays out s (call.ReadPin pin from count) e = refl
-done_stays out s (call.LoadPin pin from count) e = refl
-done_stays out s (call.Unpin pin) e = refl
+done_stays out s _ e = refl
 
 -- a call whose answer says nothing of what changes takes no generation
 line_still : (shape : Shape) → moves_by shape ≡ 0 → generations_by shape ≡ 0
-line_still NewTrack none = refl
-line_still (DropTrack id) none = refl
-line_still (SetTrack id setting) none = refl
-line_still (PutIn id at source) none = refl
-line_still (EditRange id from to edit) none = refl
-line_still (CutRun id n from to removing) none = refl
-line_still (CopyRun id n from to) none = refl
-line_still (PasteRun id at placing) none = refl
-line_still (MoveTo move) none = refl
-line_still (Purge n) none = refl
-line_still (PurgeTo bytes) none = refl
-line_still (Look view) none = refl
-line_still (Reclaim limit) none = refl
 line_still Compact none = absurd (omega (arith, none))
-line_still (Import name) none = refl
-line_still (Export name) none = refl
-line_still (Bounce name) none = refl
+line_still _ none = refl
 
 pub no_generation : (c : Call) → moves_of c ≡ 0 → generations_of c ≡ 0
 no_generation (call.Line c) none = line_still (shape_of c) none
-no_generation (call.Piece track tag samples) none = refl
-no_generation call.Pin none = refl
-no_generation (call.PinLen pin) none = refl
-no_generation (call.ReadPin pin from count) none = refl
-no_generation (call.LoadPin pin from count) none = refl
-no_generation (call.Unpin pin) none = refl
+no_generation _ none = refl
 
 -- a number of bytes that a packed journal may have, and the generation that it takes
 record Packs (moves generations bytes : ℕ) : Type 0 where
@@ -271,35 +209,17 @@ purges out s (call.Unpin pin) n e = let no : ⊥ = cc e in absurd no
 -- a call that neither packs the journal nor purges to a size leaves the studio as it is
 pub answered_same : (out : Outside) (s : State) (c : Call) (r : Reply) → MayAnswer out s c r → moves_of c ≡ 0 →
     (t : Studio) → answered r t ≡ t
-answered_same out s c reply.Done may none t = refl
-answered_same out s c reply.Copied may none t = refl
-answered_same out s c (reply.Cells cells) may none t = refl
-answered_same out s c (reply.Frames frames) may none t = refl
-answered_same out s c (reply.Columns columns) may none t = refl
-answered_same out s c (reply.Tracks tracks) may none t = refl
-answered_same out s c (reply.Freed count) may none t = refl
 answered_same out s c (reply.Packed bytes) may none t =
     let is = packs out s c bytes may in absurd (omega (arith, is.moved, none))
 answered_same out s c (reply.Purged n) may none t =
     let is = purges out s c n may in absurd (omega (arith, is.moved, none))
-answered_same out s c (reply.Wrote bytes) may none t = refl
-answered_same out s c (reply.Pinned pin) may none t = refl
-answered_same out s c (reply.Length frames) may none t = refl
-answered_same out s c (reply.Loaded tracks) may none t = refl
-answered_same out s c (reply.Refused why) may none t = refl
+answered_same out s c _ may none t = refl
 
 -- an answer that the call may give keeps the bounds, where its generation is within them, and the history is the one
 -- that the call leads to
 pub answered_bounded : (out : Outside) (t : Studio) (c : Call) (r : Reply) (u : Studio) → MayAnswer out t.state c r →
     u.generation + generations_of c ≤ 2 ^ 62 → u.state ≡ after out t.state c → IsBoundedStudio u →
     IsBoundedStudio (answered r u)
-answered_bounded out t c reply.Done u may room led b = b
-answered_bounded out t c reply.Copied u may room led b = b
-answered_bounded out t c (reply.Cells cells) u may room led b = b
-answered_bounded out t c (reply.Frames frames) u may room led b = b
-answered_bounded out t c (reply.Columns columns) u may room led b = b
-answered_bounded out t c (reply.Tracks tracks) u may room led b = b
-answered_bounded out t c (reply.Freed count) u may room led b = b
 answered_bounded out t c (reply.Packed bytes) u may room led b =
     let is = packs out t.state c bytes may in
     record {
@@ -334,8 +254,4 @@ answered_bounded out t c (reply.Purged n) u may room led b =
       journal_end = b.journal_end;
       next_layout = b.next_layout;
     }
-answered_bounded out t c (reply.Wrote bytes) u may room led b = b
-answered_bounded out t c (reply.Pinned pin) u may room led b = b
-answered_bounded out t c (reply.Length frames) u may room led b = b
-answered_bounded out t c (reply.Loaded tracks) u may room led b = b
-answered_bounded out t c (reply.Refused why) u may room led b = b
+answered_bounded out t c _ u may room led b = b

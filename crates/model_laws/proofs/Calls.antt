@@ -1,30 +1,18 @@
 -- What each call leaves of a state, and of a studio.
 use Rattle.std.proofs.Common.{◌≡◌, ℕ, ℤ, ◌+◌, ◌^◌, ◌≤◌, Bool, true, false, List, ◌++◌, length, None, arith}
 use Rattle.std.specs.Prelude.{if◌then◌else◌, ◌==◌}
-use Rattle.pcm_base.specs.declared.sound.Cell.{Cell}
-use Rattle.pcm_base.specs.declared.command.Call.{Call}
-use Rattle.pcm_base.specs.declared.command.Call.TheVariants as call
 use Rattle.pcm_base.specs.Cells.{trimmed, cells_at, edited_at}
 use Rattle.pcm_base.specs.Counters.{no_room, commits_of, tracks_of, pins_of, record_bytes, places_of, counter_tests}
 use Rattle.pcm_base.specs.Counters.{MayDraw, generations_of, layouts_of, record_test}
-use Rattle.pcm_base.specs.Edits.{as_cells}
-use Rattle.pcm_base.specs.Form.{IsCallInForm}
-use Rattle.pcm_base.specs.History.{recorded}
-use Rattle.pcm_base.specs.Outside.{Outside}
-use Rattle.pcm_base.specs.Recordings.{pieces_in}
-use Rattle.pcm_base.specs.Refusals.{◌otherwise◌, call_tests}
 use Rattle.pcm_base.specs.Run.{stop_test, refusal_of, followed}
-use Rattle.pcm_base.specs.State.{State, current}
-use Rattle.pcm_base.specs.Step.{after, with_piece}
-use Rattle.pcm_base.specs.Studio.{Studio}
+use Rattle.pcm_base.specs.{declared.sound.Cell.Cell, declared.command.Call.Call, Edits.as_cells, Form.IsCallInForm}
+use Rattle.pcm_base.specs.{History.recorded, Outside.Outside, Recordings.pieces_in, Refusals.◌otherwise◌}
+use Rattle.pcm_base.specs.{Refusals.call_tests, State.State, State.current, Step.after, Step.with_piece, Studio.Studio}
 use Rattle.model_laws.specs.Bounds.{AreCells, IsBoundedState, IsBoundedStudio}
-use Rattle.model_laws.proofs.EditLengths.{recorded_cells}
-use Rattle.model_laws.proofs.Histories.{recorded_points}
-use Rattle.model_laws.proofs.Lines.{line_bounded}
-use Rattle.model_laws.proofs.PassedTests.{piece_passed}
-use Rattle.model_laws.proofs.Projects.{edited_track}
 use Rattle.model_laws.proofs.States.{counted_here, current_project, pin_bounded, unpin_bounded}
-use Rattle.model_laws.proofs.OwnTests.{both_passed, has_room}
+use Rattle.model_laws.proofs.{EditLengths.recorded_cells, Histories.recorded_points, Lines.line_bounded}
+use Rattle.model_laws.proofs.{PassedTests.piece_passed, Projects.edited_track, OwnTests.both_passed, OwnTests.has_room}
+use Rattle.pcm_base.specs.declared.command.Call.TheVariants as call
 
 piece_bounded : (s : State) (track tag : ℕ) (samples : List ℤ) → IsBoundedState s →
     s.commit + pieces_in (length samples) ≤ 2 ^ 62 → tag ≤ s.commit →

@@ -1,17 +1,13 @@
 -- A piece makes the record of a project no shorter.
-use Rattle.std.proofs.Common.{◌≡◌, ◌==◌, ◌∙◌, refl, sym, ap, subst, ℕ, ℤ, ◌+◌, ◌-◌, ◌*◌, ◌≤◌, ◌<◌}
-use Rattle.std.proofs.Common.{Bool, true, false, List, [], ◌∷◌, ◌++◌, length, arith, add-mul, mul-le-mul_right, inl, inr}
-use Rattle.std.specs.Int.{div_ceil}
-use Rattle.std.specs.Prelude.{if◌then◌else◌}
-use Rattle.std.proofs.lemmas.Grind.{div_ceil_times}
-use Rattle.std.proofs.lemmas.Bool.{cases_lt}
-use Rattle.pcm_base.specs.declared.sound.Cell.{Cell}
-use Rattle.pcm_base.specs.declared.sound.Cell.TheVariants.{Gap, Sample}
-use Rattle.pcm_base.specs.Cells.{Project, edited_at, joined, trimmed, with_cells}
-use Rattle.pcm_base.specs.Edits.{as_cells}
-use Rattle.pcm_base.specs.Sizes.{clip_count, clip_starts, project_body_most, project_clips, project_samples, sample_count}
-use Rattle.pcm_base.specs.State.{State, current}
-use Rattle.pcm_base.specs.Step.{with_piece}
+use Rattle.std.proofs.Common.{◌≡◌, ◌==◌, ◌∙◌, refl, ap, ℕ, ℤ, ◌+◌, ◌-◌, ◌*◌, ◌≤◌, ◌<◌, Bool, true, false, List, [], ◌∷◌}
+use Rattle.std.proofs.Common.{◌++◌, arith, add-mul, mul-le-mul_right, inl, inr}
+use Rattle.std.proofs.{lemmas.Grind.div_ceil_times, lemmas.Bool.cases_lt}
+use Rattle.std.specs.{Int.div_ceil, Prelude.if◌then◌else◌}
+use Rattle.pcm_base.specs.Sizes.{clip_count, clip_starts, project_body_most, project_clips, project_samples}
+use Rattle.pcm_base.specs.Sizes.{sample_count}
+use Rattle.pcm_base.specs.{declared.sound.Cell.Cell, declared.sound.Cell.TheVariants.Gap}
+use Rattle.pcm_base.specs.{declared.sound.Cell.TheVariants.Sample, Cells.Project, Cells.edited_at, Cells.joined}
+use Rattle.pcm_base.specs.{Cells.trimmed, Cells.with_cells, Edits.as_cells, State.State, State.current, Step.with_piece}
 use Rattle.model_laws.proofs.Again.{recorded_current}
 
 -- ---- cells

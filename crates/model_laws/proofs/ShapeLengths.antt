@@ -1,18 +1,15 @@
 -- What the edits leave of a track's length, by the choices within a shape.
 use Rattle.std.proofs.Common.{◌≡◌, ℕ, ◌^◌, ◌≤◌, List, length}
-use Rattle.pcm_base.specs.declared.sound.Cell.{Cell}
-use Rattle.pcm_base.specs.declared.edits.RangeEdit.{RangeEdit}
-use Rattle.pcm_base.specs.declared.edits.RangeEdit.TheVariants as range
-use Rattle.pcm_base.specs.declared.edits.Removing.{Removing}
 use Rattle.pcm_base.specs.declared.edits.Removing.TheVariants.{Close, Leave}
-use Rattle.pcm_base.specs.declared.edits.Placing.{Placing}
 use Rattle.pcm_base.specs.declared.edits.Placing.TheVariants.{Insert, Cover}
 use Rattle.pcm_base.specs.Edits.{emptied, quieted, gained, placed, range_edited, removed, source_cells, source_count}
-use Rattle.pcm_base.specs.Refusals.{placed_length}
 use Rattle.pcm_base.specs.Shape.{Source, Given, Ramp}
+use Rattle.pcm_base.specs.{declared.sound.Cell.Cell, declared.edits.RangeEdit.RangeEdit}
+use Rattle.pcm_base.specs.{declared.edits.Removing.Removing, declared.edits.Placing.Placing, Refusals.placed_length}
 use Rattle.model_laws.specs.Bounds.{AreCells, IsShort}
 use Rattle.model_laws.proofs.EditLengths.{length-as_cells, length-ramp_of, inserted_cells, pasted_cells, deleted_cells}
 use Rattle.model_laws.proofs.EditLengths.{changed_cells, kept_cells}
+use Rattle.pcm_base.specs.declared.edits.RangeEdit.TheVariants as range
 
 pub length-source : (source : Source) → length (source_cells source) ≡ source_count source
 length-source (Given samples) = length-as_cells samples

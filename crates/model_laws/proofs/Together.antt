@@ -1,58 +1,41 @@
 -- Samples of a recording that come at once are their pieces, one after another.
 use Rattle.std.proofs.Common.{◌≡◌, ◌==◌, ◌∙◌, refl, sym, ap, subst, ℕ, ℤ, zero, suc, ◌+◌, ◌-◌, ◌*◌, ◌/◌, ◌^◌, ◌≤◌, ◌<◌}
 use Rattle.std.proofs.Common.{min, Bool, true, false, List, [], ◌∷◌, ◌++◌, length, take, drop, Option, None, arith}
-use Rattle.std.proofs.Common.{add-mul, append_assoc, inl, inr, length-append, mul-le-mul_left}
-use Rattle.std.specs.Prelude.{if◌then◌else◌, nat_lt}
-use Rattle.std.proofs.lemmas.Bool.{cases_lt, eqb-true, le-ltb, ltb-false}
+use Rattle.std.proofs.Common.{add-mul, append_assoc, length-append, mul-le-mul_left, All}
 use Rattle.std.proofs.lemmas.List.{append-nil, length-drop, length-take-le, map-append, take-append-drop, take_all}
-use Rattle.std.proofs.lemmas.Nat.{div-add-mod', div_below, mod_below}
-use Rattle.pcm_base.specs.declared.sound.Cell.{Cell}
-use Rattle.pcm_base.specs.declared.sound.Cell.TheVariants.{Sample}
-use Rattle.pcm_base.specs.declared.command.Call.{Call}
-use Rattle.pcm_base.specs.declared.command.Call.TheVariants.{Piece}
-use Rattle.pcm_base.specs.declared.refusal.Refusal.{Refusal}
-use Rattle.pcm_base.specs.declared.refusal.Refusal.TheVariants as refusal
-use Rattle.pcm_base.specs.declared.answer.Reply.{Reply}
-use Rattle.pcm_base.specs.declared.entry.SoundMove.{SoundMove}
+use Rattle.std.proofs.{lemmas.Bool.eqb-true, lemmas.Bool.le-ltb, lemmas.Bool.ltb-false, lemmas.Nat.div-add-mod'}
+use Rattle.std.proofs.{lemmas.Nat.div_below, lemmas.Nat.mod_below, lemmas.List.Elements.All-head}
+use Rattle.std.specs.Prelude.{if◌then◌else◌, nat_lt}
 use Rattle.pcm_base.specs.Cells.{Project, cells_at, cells_of_first, edited_at, tracks_from, trimmed}
 use Rattle.pcm_base.specs.Counters.{Needs, commits_of, counter_tests, generations_of, no_room, pins_of, places_of}
 use Rattle.pcm_base.specs.Counters.{layouts_of, record_bytes, record_test, tracks_of}
-use Rattle.pcm_base.specs.Edits.{as_cells}
-use Rattle.pcm_base.specs.History.{History, recorded}
-use Rattle.pcm_base.specs.declared.limits.TheConstants.{LONGEST_BODY}
-use Rattle.pcm_base.specs.Outside.{Outside}
-use Rattle.pcm_base.specs.Recordings.{parts_of, pieces_in}
 use Rattle.pcm_base.specs.Refusals.{◌otherwise◌, call_tests, is_empty, length_limit, no_track, refused_if}
 use Rattle.pcm_base.specs.Run.{CarriesOut, Run, answered, followed, outside, refusal_of, stop_test}
-use Rattle.pcm_base.specs.Sizes.{blocks_of_samples, project_body_most}
-use Rattle.pcm_base.specs.State.{State, current}
-use Rattle.pcm_base.specs.Step.{with_piece}
-use Rattle.pcm_base.specs.Studio.{Studio}
-use Rattle.model_laws.specs.Bounds.{IsBoundedState, IsTrack}
-use Rattle.model_laws.specs.Laws.{BatchesArePieces, pieces_done}
+use Rattle.pcm_base.specs.{declared.sound.Cell.Cell, declared.sound.Cell.TheVariants.Sample, declared.command.Call.Call}
+use Rattle.pcm_base.specs.{declared.command.Call.TheVariants.Piece, declared.refusal.Refusal.Refusal}
+use Rattle.pcm_base.specs.{declared.answer.Reply.Reply, declared.entry.SoundMove.SoundMove, Edits.as_cells}
+use Rattle.pcm_base.specs.{History.History, History.recorded, declared.limits.TheConstants.LONGEST_BODY}
+use Rattle.pcm_base.specs.{Outside.Outside, Recordings.parts_of, Recordings.pieces_in, Sizes.blocks_of_samples}
+use Rattle.pcm_base.specs.{Sizes.project_body_most, State.State, State.current, Step.with_piece, Studio.Studio}
+use Rattle.model_laws.specs.{Bounds.IsBoundedState, Bounds.IsTrack, Laws.BatchesArePieces, Laws.pieces_done}
 use Rattle.model_laws.proofs.Again.{cells_edited, edited_same, edited_twice, recorded_again, recorded_current}
 use Rattle.model_laws.proofs.Again.{recorded_depth, there_edited}
-use Rattle.model_laws.proofs.Calls.{HasRoom, room_passed}
-use Rattle.model_laws.proofs.EditLengths.{length-as_cells}
-use Rattle.model_laws.proofs.Growth.{piece_grows}
-use Rattle.model_laws.proofs.OwnTests.{both_passed, not_refused}
-use Rattle.model_laws.proofs.PassedTests.{piece_passed}
-use Rattle.model_laws.proofs.States.{current_project}
-use Rattle.model_laws.proofs.Tracks.{tracks_from_tracks}
 use Rattle.model_laws.proofs.Trimming.{length-trimmed, trimmed-sample, trimmed-trimmed}
-use Rattle.std.proofs.Common.{All}
-use Rattle.std.proofs.lemmas.List.Elements.{All-head}
+use Rattle.model_laws.proofs.{Calls.HasRoom, Calls.room_passed, EditLengths.length-as_cells, Growth.piece_grows}
+use Rattle.model_laws.proofs.{OwnTests.both_passed, OwnTests.not_refused, PassedTests.piece_passed}
+use Rattle.model_laws.proofs.{States.current_project, Tracks.tracks_from_tracks}
+use Rattle.pcm_base.specs.declared.refusal.Refusal.TheVariants as refusal
 
 -- ---- tests that let a call through
 
-both_pass : (a b : Option Refusal) → a ≡ None → b ≡ None → (a otherwise b) ≡ None
+pub both_pass : (a b : Option Refusal) → a ≡ None → b ≡ None → (a otherwise b) ≡ None
 both_pass a b first second = ap (λ (o : Option Refusal). o otherwise b) first ∙ second
 
-room_passes : (have need : ℕ) → have + need ≤ 2 ^ 62 → no_room have need ≡ None
+pub room_passes : (have need : ℕ) → have + need ≤ 2 ^ 62 → no_room have need ≡ None
 room_passes have need few =
     ap (λ (b : Bool). refused_if b (refusal.SpaceSpent have need)) (le-ltb (2 ^ 62) (have + need) few)
 
-limit_passes : (len : ℕ) → len ≤ 2 ^ 32 → length_limit (len ∷ []) ≡ None
+pub limit_passes : (len : ℕ) → len ≤ 2 ^ 32 → length_limit (len ∷ []) ≡ None
 limit_passes len few =
     ap (λ (b : Bool). (refused_if b (refusal.LengthLimit len)) otherwise None) (le-ltb (2 ^ 32) len few)
 

@@ -1,17 +1,10 @@
 -- What holds of each state that the model reaches.
 use Rattle.std.specs.Prelude.{◌≡◌, ℕ, ◌+◌, ◌≤◌, ℤ, List, [], ◌∷◌, Result, Ok, Err}
-use Rattle.pcm_base.specs.declared.command.Call.{Call}
-use Rattle.pcm_base.specs.declared.command.Call.TheVariants.{Piece}
-use Rattle.pcm_base.specs.declared.answer.Reply.{Reply}
-use Rattle.pcm_base.specs.declared.answer.Reply.TheVariants.{Done}
-use Rattle.pcm_base.specs.declared.refusal.Refusal.{Refusal}
-use Rattle.pcm_base.specs.declared.entry.SoundMove.{SoundMove}
-use Rattle.pcm_base.specs.declared.entry.Entry.{Entry}
-use Rattle.pcm_base.specs.Counters.{commits_of}
-use Rattle.pcm_base.specs.Form.{IsCallInForm}
-use Rattle.pcm_base.specs.Recordings.{pieces_of}
-use Rattle.pcm_base.specs.Run.{CarriesOut, Run, Step, result_of}
-use Rattle.pcm_base.specs.Studio.{Studio, fresh}
+use Rattle.pcm_base.specs.{declared.command.Call.Call, declared.command.Call.TheVariants.Piece}
+use Rattle.pcm_base.specs.{declared.answer.Reply.Reply, declared.answer.Reply.TheVariants.Done}
+use Rattle.pcm_base.specs.{declared.refusal.Refusal.Refusal, declared.entry.SoundMove.SoundMove}
+use Rattle.pcm_base.specs.{declared.entry.Entry.Entry, Counters.commits_of, Form.IsCallInForm, Recordings.pieces_of}
+use Rattle.pcm_base.specs.{Run.CarriesOut, Run.Run, Run.Step, Run.result_of, Studio.Studio, Studio.fresh}
 use Rattle.model_laws.specs.Bounds.{IsBlockSize, IsBoundedStudio, IsDepth}
 
 -- a new studio, its numbers in their bounds

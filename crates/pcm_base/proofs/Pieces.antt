@@ -4,11 +4,10 @@ use Rattle.std.proofs.Common.{refl, sym, ap, ap₂, ◌∙◌, pos, append_assoc
 use Rattle.std.proofs.lemmas.List.{take-append-le, drop-append-le, length-replicate, length-map, take-append-drop}
 use Rattle.std.proofs.lemmas.List.{drop-drop, drop-map, take-map, drop-replicate, take-replicate, drop_all, drop_more}
 use Rattle.std.proofs.Math.Seq.{drop-append-add}
-use Rattle.pcm_base.specs.declared.piece.Piece.{Piece}
 use Rattle.pcm_base.specs.declared.piece.Piece.TheVariants.{Old, Scaled, Zero, Given}
-use Rattle.pcm_base.specs.Arithmetic.{scaled, clamped}
 use Rattle.pcm_base.specs.Pieces.{Sources, stretch, piece_len, samples_of, total, all_samples, part_of, IsValid}
 use Rattle.pcm_base.specs.Pieces.{AllValid, Fits, AllFit}
+use Rattle.pcm_base.specs.{declared.piece.Piece.Piece, Arithmetic.scaled, Arithmetic.clamped}
 
 pub length-stretch : (f : ℕ → ℤ) (from n : ℕ) → length (stretch f from n) ≡ n
 length-stretch f from zero = refl

@@ -1,15 +1,12 @@
 -- Worked examples of the definitions, computed.
 use Rattle.std.proofs.Common.{◌≡◌, refl, ℕ, List, [], ◌∷◌, pos, negsuc, Bool, true, false, Some, None}
-use Rattle.pcm_base.specs.declared.sound.Cell.{Cell}
 use Rattle.pcm_base.specs.declared.sound.Cell.TheVariants.{Gap, Sample}
-use Rattle.pcm_base.specs.declared.sound.Side.{Side}
 use Rattle.pcm_base.specs.declared.sound.Side.TheVariants.{Both, Left, Right}
 use Rattle.pcm_base.specs.Arithmetic.{scaled, clamped, integer_root}
-use Rattle.pcm_base.specs.Cells.{Track}
 use Rattle.pcm_base.specs.Edits.{deleted, inserted, ramp_of, range_of, changed, gained, split_deleted, silenced}
 use Rattle.pcm_base.specs.Edits.{kept_only, pasted_over}
-use Rattle.pcm_base.specs.Mix.{mix_of}
 use Rattle.pcm_base.specs.Envelope.{columns_of, rms_of}
+use Rattle.pcm_base.specs.{declared.sound.Cell.Cell, declared.sound.Side.Side, Cells.Track, Mix.mix_of}
 
 abbrev five : List Cell
 five = Sample (pos 1) ∷ Sample (pos 2) ∷ Sample (pos 3) ∷ Sample (pos 4) ∷ Sample (pos 5) ∷ []

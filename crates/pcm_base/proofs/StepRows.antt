@@ -1,25 +1,18 @@
 -- Worked examples of the step, computed.
 use Rattle.std.proofs.Common.{◌≡◌, refl, ℕ, List, [], ◌∷◌, ◌++◌, pos, negsuc, true, false, Option, Some, None}
-use Rattle.pcm_base.specs.declared.sound.Cell.TheVariants.{Sample}
-use Rattle.pcm_base.specs.declared.sound.Side.TheVariants.{Both, Left}
-use Rattle.pcm_base.specs.declared.command.Command.{Command}
-use Rattle.pcm_base.specs.declared.command.Command.TheVariants as command
-use Rattle.pcm_base.specs.declared.command.Call.TheVariants as call
-use Rattle.pcm_base.specs.declared.answer.Reply.TheVariants as reply
-use Rattle.pcm_base.specs.declared.refusal.Refusal.{Refusal}
 use Rattle.pcm_base.specs.declared.refusal.Refusal.TheVariants.{NoTrack, BadRange, LengthLimit, NothingToUndo}
 use Rattle.pcm_base.specs.declared.refusal.Refusal.TheVariants.{NothingToRedo, SpaceSpent, NoFile, BadWav, RateDiffers}
 use Rattle.pcm_base.specs.declared.refusal.Refusal.TheVariants.{Stopped, NoPin}
-use Rattle.pcm_base.specs.declared.wav.WavFault.TheVariants.{Truncated, BadBits}
-use Rattle.pcm_base.specs.Cells.{cells_at}
-use Rattle.pcm_base.specs.Counters.{counter_tests}
-use Rattle.pcm_base.specs.Outside.{Outside}
-use Rattle.pcm_base.specs.Recordings.{pieces_in}
-use Rattle.pcm_base.specs.Refusals.{own_tests, call_tests}
-use Rattle.pcm_base.specs.Run.{packed, refusal_of}
-use Rattle.pcm_base.specs.State.{State, new_state, current}
-use Rattle.pcm_base.specs.Step.{after_line, after, MayReply}
-use Rattle.pcm_base.specs.Studio.{Studio, fresh}
+use Rattle.pcm_base.specs.{declared.sound.Cell.TheVariants.Sample, declared.sound.Side.TheVariants.Both}
+use Rattle.pcm_base.specs.{declared.sound.Side.TheVariants.Left, declared.command.Command.Command}
+use Rattle.pcm_base.specs.{declared.refusal.Refusal.Refusal, declared.wav.WavFault.TheVariants.Truncated}
+use Rattle.pcm_base.specs.{declared.wav.WavFault.TheVariants.BadBits, Cells.cells_at, Counters.counter_tests}
+use Rattle.pcm_base.specs.{Outside.Outside, Recordings.pieces_in, Refusals.own_tests, Refusals.call_tests, Run.packed}
+use Rattle.pcm_base.specs.{Run.refusal_of, State.State, State.new_state, State.current, Step.after_line, Step.after}
+use Rattle.pcm_base.specs.{Step.MayReply, Studio.Studio, Studio.fresh}
+use Rattle.pcm_base.specs.declared.command.Command.TheVariants as command
+use Rattle.pcm_base.specs.declared.command.Call.TheVariants as call
+use Rattle.pcm_base.specs.declared.answer.Reply.TheVariants as reply
 
 -- no sound is there
 abbrev nowhere : Outside

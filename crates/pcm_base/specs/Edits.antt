@@ -1,16 +1,14 @@
 -- The edits of one track, as functions on its cells. Each ends by dropping the gaps at the track's end.
 use Rattle.std.specs.Prelude.{ℕ, ◌+◌, ◌-◌, ℤ, pos, ◌+ℤ◌, ◌*ℤ◌, List, ◌++◌, length, take, drop, map, replicate}
-use Rattle.pcm_base.specs.declared.sound.Cell.{Cell}
 use Rattle.pcm_base.specs.declared.sound.Cell.TheVariants.{Gap, Sample}
-use Rattle.pcm_base.specs.declared.edits.RangeEdit.{RangeEdit}
-use Rattle.pcm_base.specs.declared.edits.RangeEdit.TheVariants as range
-use Rattle.pcm_base.specs.declared.edits.Removing.{Removing}
 use Rattle.pcm_base.specs.declared.edits.Removing.TheVariants.{Close, Leave}
-use Rattle.pcm_base.specs.declared.edits.Placing.{Placing}
 use Rattle.pcm_base.specs.declared.edits.Placing.TheVariants.{Insert, Cover}
 use Rattle.pcm_base.specs.Arithmetic.{scaled, clamped, counted_from}
 use Rattle.pcm_base.specs.Cells.{Track, trimmed, continued}
 use Rattle.pcm_base.specs.Shape.{Setting, Gain, Sides, Muted, Source, Given, Ramp}
+use Rattle.pcm_base.specs.{declared.sound.Cell.Cell, declared.edits.RangeEdit.RangeEdit}
+use Rattle.pcm_base.specs.{declared.edits.Removing.Removing, declared.edits.Placing.Placing}
+use Rattle.pcm_base.specs.declared.edits.RangeEdit.TheVariants as range
 
 abbrev pub as_cells : List ℤ → List Cell
 as_cells samples = map Sample samples

@@ -3,15 +3,14 @@
 use Rattle.std.specs.Prelude.{ℕ, ◌+◌, ◌^◌, ◌<◌, ◌≤◌, nat_le, ◌==◌, ◌&&◌, ◌||◌, not, Bool, false, IsTrue, List, [], ◌∷◌}
 use Rattle.std.specs.Prelude.{length, Option, Some, None}
 use Rattle.std.specs.List.{list_all}
-use Rattle.pcm_base.specs.declared.command.Command.{Command}
-use Rattle.pcm_base.specs.declared.command.Command.TheVariants as command
-use Rattle.pcm_base.specs.declared.command.Call.{Call}
-use Rattle.pcm_base.specs.declared.command.Call.TheVariants as call
 use Rattle.pcm_base.specs.declared.limits.TheConstants.{MAX_GAIN, MAX_LOADED, MAX_RAMP}
-use Rattle.pcm_base.specs.declared.chunk.TheConstants.{BATCH_SAMPLES}
 use Rattle.pcm_base.specs.Shape.{Shape, NewTrack, DropTrack, SetTrack, PutIn, EditRange, CutRun, CopyRun, PasteRun}
 use Rattle.pcm_base.specs.Shape.{MoveTo, Purge, PurgeTo, Look, Reclaim, Compact, Import, Export, Bounce, Source, Given}
 use Rattle.pcm_base.specs.Shape.{Ramp, View, Cells, Frames, Columns, Tracks, shape_of, gain_of_setting, gain_of_edit}
+use Rattle.pcm_base.specs.{declared.command.Command.Command, declared.command.Call.Call}
+use Rattle.pcm_base.specs.{declared.chunk.TheConstants.BATCH_SAMPLES}
+use Rattle.pcm_base.specs.declared.command.Command.TheVariants as command
+use Rattle.pcm_base.specs.declared.command.Call.TheVariants as call
 
 -- a track's id, a place or a count
 abbrev pub IsNumber : ℕ → Type 0

@@ -1,14 +1,12 @@
 -- The mix of a project, frame by frame.
 use Rattle.std.specs.Prelude.{ℕ, ℤ, ◌-◌, pos, ◌+ℤ◌, List, [], ◌∷◌, map, filter, min, not, Bool, true, false}
 use Rattle.std.specs.Prelude.{slice_index_or}
-use Rattle.pcm_base.specs.declared.sound.Cell.{Cell}
 use Rattle.pcm_base.specs.declared.sound.Cell.TheVariants.{Gap, Sample}
-use Rattle.pcm_base.specs.declared.sound.Side.{Side}
 use Rattle.pcm_base.specs.declared.sound.Side.TheVariants.{Both, Left, Right}
-use Rattle.pcm_base.specs.declared.sound.Frame.{Frame}
-use Rattle.pcm_base.specs.declared.lists.LoadedTrack.{LoadedTrack}
 use Rattle.pcm_base.specs.Arithmetic.{scaled, clamped, counted_from}
 use Rattle.pcm_base.specs.Cells.{Track, Project, longest}
+use Rattle.pcm_base.specs.{declared.sound.Cell.Cell, declared.sound.Side.Side, declared.sound.Frame.Frame}
+use Rattle.pcm_base.specs.{declared.lists.LoadedTrack.LoadedTrack}
 
 -- the tracks that are heard
 abbrev pub unmuted : Project → Project

@@ -1,9 +1,8 @@
 -- Pieces of sound, and the samples that they mean.
 use Rattle.std.specs.Prelude.{ℕ, zero, suc, ◌+◌, ◌-◌, ◌≤◌, ◌<◌, ℤ, pos, List, [], ◌∷◌, ◌++◌, map, replicate}
-use Rattle.pcm_base.specs.declared.block.BlockRef.{BlockRef}
-use Rattle.pcm_base.specs.declared.piece.Piece.{Piece}
 use Rattle.pcm_base.specs.declared.piece.Piece.TheVariants.{Old, Scaled, Zero, Given}
 use Rattle.pcm_base.specs.Arithmetic.{scaled, clamped}
+use Rattle.pcm_base.specs.{declared.block.BlockRef.BlockRef, declared.piece.Piece.Piece}
 
 -- where samples come from: those of each block by its id, and those that the command brings, each by its place;
 -- total functions, since a part's length is that of its places, whatever a block holds

@@ -1,21 +1,17 @@
 -- The step of a studio as a relation, and whole runs.
-use Rattle.std.specs.Prelude.{◌≡◌, ◌⊎◌, ℕ, ◌+◌, ◌-◌, ◌≤◌, IsTrue, List, [], ◌∷◌, take, Option, Some}
-use Rattle.std.specs.Prelude.{None, IsSome, Result, Ok, Err}
-use Rattle.pcm_base.specs.declared.command.Command.{Command}
-use Rattle.pcm_base.specs.declared.command.Command.TheVariants as command
-use Rattle.pcm_base.specs.declared.command.Call.{Call}
-use Rattle.pcm_base.specs.declared.command.Call.TheVariants as call
-use Rattle.pcm_base.specs.declared.refusal.Refusal.{Refusal}
-use Rattle.pcm_base.specs.declared.refusal.Refusal.TheVariants as refusal
-use Rattle.pcm_base.specs.declared.answer.Reply.{Reply}
-use Rattle.pcm_base.specs.declared.answer.Reply.TheVariants as reply
-use Rattle.pcm_base.specs.declared.entry.SoundMove.{SoundMove}
-use Rattle.pcm_base.specs.declared.entry.Entry.{Entry}
-use Rattle.pcm_base.specs.declared.limits.TheConstants.{COUNTER_LIMIT}
+use Rattle.std.specs.Prelude.{◌≡◌, ◌⊎◌, ℕ, ◌+◌, ◌-◌, ◌≤◌, IsTrue, List, [], ◌∷◌, take, Option, Some, None, IsSome}
+use Rattle.std.specs.Prelude.{Result, Ok, Err}
 use Rattle.pcm_base.specs.Causes.{Rose, Cause, Test, Damage, Disk, Vault, Memory, cause_of}
 use Rattle.pcm_base.specs.Counters.{MayDraw, Needs, counter_tests, record_test, record_bytes}
-use Rattle.pcm_base.specs.History.{History, purged}
 use Rattle.pcm_base.specs.Outside.{Outside, Sounds, SameElsewhere}
+use Rattle.pcm_base.specs.{declared.command.Command.Command, declared.command.Call.Call}
+use Rattle.pcm_base.specs.{declared.refusal.Refusal.Refusal, declared.answer.Reply.Reply}
+use Rattle.pcm_base.specs.{declared.entry.SoundMove.SoundMove, declared.entry.Entry.Entry}
+use Rattle.pcm_base.specs.{declared.limits.TheConstants.COUNTER_LIMIT, History.History, History.purged}
+use Rattle.pcm_base.specs.declared.command.Command.TheVariants as command
+use Rattle.pcm_base.specs.declared.command.Call.TheVariants as call
+use Rattle.pcm_base.specs.declared.refusal.Refusal.TheVariants as refusal
+use Rattle.pcm_base.specs.declared.answer.Reply.TheVariants as reply
 pub use Rattle.pcm_base.specs.Reach.{may_change_line, may_change, name_in_line, name_in}
 use Rattle.pcm_base.specs.Refusals.{◌otherwise◌, call_tests}
 use Rattle.pcm_base.specs.Shape.{Shape, NewTrack, DropTrack, SetTrack, PutIn, EditRange, CutRun, CopyRun, PasteRun}

@@ -1,15 +1,13 @@
 -- What lines have in common: each line has a shape. The tables of the model are over shapes, so that a new line of a shape
 -- that is here is a row of `shape_of` alone.
 use Rattle.std.specs.Prelude.{ℕ, ℤ, Bool, true, false, List, Option, Some, None}
-use Rattle.pcm_base.specs.declared.sound.Side.{Side}
-use Rattle.pcm_base.specs.declared.command.Command.{Command}
-use Rattle.pcm_base.specs.declared.command.Command.TheVariants as command
-use Rattle.pcm_base.specs.declared.edits.RangeEdit.{RangeEdit}
-use Rattle.pcm_base.specs.declared.edits.RangeEdit.TheVariants as range
-use Rattle.pcm_base.specs.declared.edits.Removing.{Removing}
 use Rattle.pcm_base.specs.declared.edits.Removing.TheVariants.{Close, Leave}
-use Rattle.pcm_base.specs.declared.edits.Placing.{Placing}
 use Rattle.pcm_base.specs.declared.edits.Placing.TheVariants.{Insert, Cover}
+use Rattle.pcm_base.specs.{declared.sound.Side.Side, declared.command.Command.Command}
+use Rattle.pcm_base.specs.{declared.edits.RangeEdit.RangeEdit, declared.edits.Removing.Removing}
+use Rattle.pcm_base.specs.{declared.edits.Placing.Placing}
+use Rattle.pcm_base.specs.declared.command.Command.TheVariants as command
+use Rattle.pcm_base.specs.declared.edits.RangeEdit.TheVariants as range
 
 -- what a track is set to: its gain, the sides on which it is heard, or whether it is muted
 pub data Setting : Type 0 where

@@ -1,30 +1,23 @@
 -- What a call that nothing refuses leaves, and what it answers.
-use Rattle.std.specs.Prelude.{◌≡◌, ℕ, ◌+◌, ◌-◌, ◌<◌, ◌≤◌, ◌==◌, if◌then◌else◌, ℤ, List, [], ◌∷◌, ◌++◌, length, map, take}
-use Rattle.std.specs.Prelude.{drop, replicate, false, Option, Some, None, Result, Ok, Err}
-use Rattle.pcm_base.specs.declared.sound.Cell.{Cell}
-use Rattle.pcm_base.specs.declared.sound.Side.TheVariants.{Both}
-use Rattle.pcm_base.specs.declared.sound.TrackLine.{TrackLine}
-use Rattle.pcm_base.specs.declared.command.Command.{Command}
-use Rattle.pcm_base.specs.declared.command.Call.{Call}
-use Rattle.pcm_base.specs.declared.command.Call.TheVariants as call
-use Rattle.pcm_base.specs.declared.answer.Reply.{Reply}
-use Rattle.pcm_base.specs.declared.answer.Reply.TheVariants as reply
-use Rattle.pcm_base.specs.declared.limits.TheConstants.{COUNTER_LIMIT, FIRST_RECORD, UNITY_GAIN}
-use Rattle.pcm_base.specs.declared.wav.WavFault.{WavFault}
+use Rattle.std.specs.Prelude.{◌≡◌, ℕ, ◌+◌, ◌-◌, ◌<◌, ◌≤◌, ◌==◌, if◌then◌else◌, ℤ, List, [], ◌∷◌, ◌++◌, length, map}
+use Rattle.std.specs.Prelude.{take, drop, replicate, false, Option, Some, None, Result, Ok, Err}
 use Rattle.pcm_base.specs.Cells.{Track, Project, trimmed, tracks_from, cells_at, run_edited, edited_at, dropped}
 use Rattle.pcm_base.specs.Cells.{changed_at}
 use Rattle.pcm_base.specs.Edits.{as_cells, part, range_of, inserted, range_edited, removed, placed, source_cells}
 use Rattle.pcm_base.specs.Edits.{with_setting}
 use Rattle.pcm_base.specs.History.{History, edited, recorded, at_cursor, purged}
-use Rattle.pcm_base.specs.Mix.{loaded_of, mix_of, mix_length}
-use Rattle.pcm_base.specs.Recordings.{pieces_in}
-use Rattle.pcm_base.specs.Wave.{Sound, wav_of, wav_text}
-use Rattle.pcm_base.specs.Outside.{Outside}
-use Rattle.pcm_base.specs.Envelope.{columns_of}
 use Rattle.pcm_base.specs.Shape.{Shape, NewTrack, DropTrack, SetTrack, PutIn, EditRange, CutRun, CopyRun, PasteRun}
 use Rattle.pcm_base.specs.Shape.{MoveTo, Purge, PurgeTo, Look, Reclaim, Compact, Import, Export, Bounce, Back, Forward}
 use Rattle.pcm_base.specs.Shape.{View, Cells, Frames, Columns, Tracks, shape_of, is_commit}
-use Rattle.pcm_base.specs.State.{State, current, clip_of}
+use Rattle.pcm_base.specs.{declared.sound.Cell.Cell, declared.sound.Side.TheVariants.Both}
+use Rattle.pcm_base.specs.{declared.sound.TrackLine.TrackLine, declared.command.Command.Command}
+use Rattle.pcm_base.specs.{declared.command.Call.Call, declared.answer.Reply.Reply}
+use Rattle.pcm_base.specs.{declared.limits.TheConstants.COUNTER_LIMIT, declared.limits.TheConstants.FIRST_RECORD}
+use Rattle.pcm_base.specs.{declared.limits.TheConstants.UNITY_GAIN, declared.wav.WavFault.WavFault, Mix.loaded_of}
+use Rattle.pcm_base.specs.{Mix.mix_of, Mix.mix_length, Recordings.pieces_in, Wave.Sound, Wave.wav_of, Wave.wav_text}
+use Rattle.pcm_base.specs.{Outside.Outside, Envelope.columns_of, State.State, State.current, State.clip_of}
+use Rattle.pcm_base.specs.declared.command.Call.TheVariants as call
+use Rattle.pcm_base.specs.declared.answer.Reply.TheVariants as reply
 
 -- a new track: unity gain, on both sides, not muted
 abbrev pub new_track : ℕ → List Cell → Track

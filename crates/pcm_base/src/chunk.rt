@@ -54,13 +54,6 @@ impl Chunk {
         }
     }
 
-    /// Which chunk of the recording it is, from 0.
-    pub fn number(&self) -> u32
-        ensures { result ≡ self.now.number }
-    {
-        self.number
-    }
-
     /// Whether it is the end mark.
     pub fn is_end(&self) -> bool
         ensures end { IsTrue result ↔ (length self.now.samples ≡ 0) }

@@ -1,11 +1,8 @@
 -- Lanes of 32 bits, cut into halves.
 use Rattle.std.proofs.Common.{◌≡◌, ◌^◌, ◌+◌, ◌*◌, ◌/◌, ◌%◌, ℕ, List, [], ◌∷◌, map, length, refl, sym, ap, ◌∙◌, subst}
 use Rattle.std.proofs.Common.{arith, bit_and}
-use Rattle.std.specs.Prelude.{replicate}
-use Rattle.std.proofs.lemmas.List.{length-map}
-use Rattle.std.specs.Simd.Lanes.{zip2, sum_l}
-use Rattle.std.proofs.lemmas.Simd.{zip2_splat}
-use Rattle.std.proofs.lemmas.Nat.{and_mask}
+use Rattle.std.proofs.{lemmas.List.length-map, lemmas.Simd.zip2_splat, lemmas.Nat.and_mask}
+use Rattle.std.specs.{Prelude.replicate, Simd.Lanes.zip2, Simd.Lanes.sum_l}
 use Rattle.peak_summary.specs.Lanes.{AreAtMost}
 
 abbrev low_half : ℕ → ℕ

@@ -1,14 +1,12 @@
 -- Sums that are kept in lanes.
 use Rattle.std.proofs.Common.{◌≡◌, ◌≤◌, ◌<◌, ◌^◌, ◌+◌, ◌*◌, ℕ, List, [], ◌∷◌, map, take, drop, length, refl, sym, ap}
 use Rattle.std.proofs.Common.{◌∙◌, arith, Fits}
-use Rattle.std.specs.Prelude.{ℤ, sum_by}
-use Rattle.std.specs.Int.{w32}
-use Rattle.std.specs.Simd.Lanes.{zip2, Each2, Steps, fold_l, sum_l}
 use Rattle.std.proofs.lemmas.Simd.{Each2-of, Each1-zip2, sum-zip2, fold-sum, sum_bound, sum_fits}
 use Rattle.std.proofs.lemmas.List.Sums.{sum_by-append, sum_by-cons, sum_by-take-le}
 use Rattle.std.proofs.Math.Seq.{take-add}
-use Rattle.peak_summary.specs.Peaks.{square, AreSamples}
-use Rattle.peak_summary.specs.Lanes.{AreAtMost, HasGrown}
+use Rattle.std.specs.Simd.Lanes.{zip2, Each2, Steps, fold_l, sum_l}
+use Rattle.std.specs.{Prelude.ℤ, Prelude.sum_by, Int.w32}
+use Rattle.peak_summary.specs.{Peaks.square, Peaks.AreSamples, Lanes.AreAtMost, Lanes.HasGrown}
 use Rattle.peak_summary.proofs.Joins.{squares_le}
 
 -- the sum of two vectors fits, lane by lane

@@ -2,18 +2,15 @@
 use Rattle.std.proofs.Common.{◌<◌, ◌^◌, length-append, ◌≡◌, ◌⊎◌, inl, inr, ⊎_elim, arith, ℕ, ◌≤◌, List, [], ◌∷◌, ◌++◌}
 use Rattle.std.proofs.Common.{length, sym, ap, ◌∙◌, subst, Some, None, Option}
 use Rattle.std.specs.Fn.{Mut, CalledAtMut}
-use denote.Ref.{MutBor}
-use Rattle.atomic_table.specs.Table.{Me, step}
-use mathlib.Core.Option.{none}
-use Rattle.atomic_table.specs.declared.shared.Seat.{Seat}
-use Rattle.pin_turn.specs.declared.view.Stage.TheVariants.{Resting, Holding}
-use Rattle.pin_turn.specs.declared.view.View.{View}
-use Rattle.pin_turn.specs.Views.{settled, hearing, joined}
+use Rattle.atomic_table.specs.{Table.Me, Table.step, declared.shared.Seat.Seat}
 use Rattle.pin_turn.specs.Rule.{Took, ByOthers, IsNewNumber, compared}
-use Rattle.pin_turn.specs.Calls.{FitsTurn, Begins}
+use Rattle.pin_turn.specs.Calls.{FitsTurn, Begins, TookTurn, addition, called_as, meaning}
 use Rattle.pin_turn.specs.Counts.{times, without, longer, shorter, of_shorter}
+use Rattle.pin_turn.specs.{declared.view.Stage.TheVariants.Resting, declared.view.Stage.TheVariants.Holding}
+use Rattle.pin_turn.specs.{declared.view.View.View, Views.settled, Views.hearing, Views.joined}
 use Rattle.pin_turn.proofs.Sums.{sorted_cases, whole_if_long, without_last, times_last}
-use Rattle.pin_turn.specs.Calls.{TookTurn, addition, called_as, meaning}
+use denote.Ref.{MutBor}
+use mathlib.Core.Option.{none}
 
 -- the value in the slot that was taken last
 abbrev held_or : {S : Type 0} → S → List (ℕ × S) → S

@@ -1,22 +1,17 @@
 -- At the end the value is at home, and stands for all that the first seat saw.
-use Rattle.std.proofs.Common.{◌≡◌, ◌≢◌, ℕ, zero, suc, ◌^◌, ◌<◌, ◌≤◌, true, List, []}
-use Rattle.std.proofs.Common.{length, sym, refl, ap, ◌∙◌, subst, arith, Option, Some}
+use Rattle.std.proofs.Common.{◌≡◌, ◌≢◌, ℕ, zero, suc, ◌^◌, ◌<◌, ◌≤◌, true, List, [], length, sym, refl, ap, ◌∙◌, subst}
+use Rattle.std.proofs.Common.{arith, Option, Some}
+use Rattle.atomic_table.specs.Table.{State, Final, Seen}
+use Rattle.pin_turn.specs.declared.view.Stage.TheVariants.{Gone, Resting, Splitting, Joining, Holding}
+use Rattle.pin_turn.specs.{declared.view.Stage.Stage, declared.view.View.View, Counts.times, Counts.once_below}
+use Rattle.pin_turn.specs.{Counts.total, Rule.mine_at, Rule.away_at, Rule.has_number, Rule.TurnRule}
+use Rattle.pin_turn.proofs.Sums.{total_at, total_some, Each_times, total_only}
+use Rattle.pin_turn.proofs.RuleSteps.{apart, has_one}
 use mathlib.Core.Logic.{dite}
 use mathlib.Core.Option.{some, some-injective}
 use mathlib.Core.Option as maybe
 use native.Mathlib.Decide.{ℕ_discrete}
 use lib.ListN.{get_elem?}
-use Rattle.atomic_table.specs.Table.{State, Me}
-use Rattle.atomic_table.specs.Table.{Final, Seen}
-use Rattle.pin_turn.specs.declared.view.Stage.{Stage}
-use Rattle.pin_turn.specs.declared.view.Stage.TheVariants.{Gone, Resting, Splitting, Joining, Holding}
-use Rattle.pin_turn.specs.declared.view.View.{View}
-use Rattle.pin_turn.specs.Counts.{times, once_below, total}
-use Rattle.pin_turn.specs.Rule.{mine_at, away_at, has_number, TurnRule}
-use Rattle.pin_turn.proofs.Sums.{total_at, total_some}
-use Rattle.pin_turn.proofs.Sums.{Each_times}
-use Rattle.pin_turn.proofs.Sums.{total_only}
-use Rattle.pin_turn.proofs.RuleSteps.{apart, has_one}
 
 module _ {T E : Type 0} (stands : T → T → List E → Type 0) (maker : E → ℕ) (start : T) where
   abbrev V : Type 0
@@ -24,12 +19,6 @@ module _ {T E : Type 0} (stands : T → T → List E → Type 0) (maker : E → 
 
   abbrev St : Type 0
   St = State (Option T) V
-
-  abbrev M : Type 0
-  M = Me (Option T) V
-
-  abbrev Homes : Type 0
-  Homes = List (maybe.Option (Option T))
 
   abbrev Rule : St → Type 0
   Rule = TurnRule stands maker start

@@ -1,26 +1,22 @@
 -- To take a seat in, and to compare what both have seen, keep the rule.
-use Rattle.std.proofs.Common.{◌≡◌, ℕ, ◌+◌, ◌<◌, ◌≤◌, ⊎_elim, List, []}
-use Rattle.std.proofs.Common.{◌∷◌, ◌++◌, length, set, sym, refl, ap, ◌∙◌, subst, arith, Option}
+use Rattle.std.proofs.Common.{◌≡◌, ℕ, ◌+◌, ◌<◌, ◌≤◌, ⊎_elim, List, [], ◌∷◌, ◌++◌, length, set, sym, refl, ap, ◌∙◌}
+use Rattle.std.proofs.Common.{subst, arith, Option}
+use Rattle.atomic_table.specs.Table.{State, Me, step, keeps, Allows, Joins}
+use Rattle.atomic_table.proofs.Lists.{set_else}
+use Rattle.pin_turn.specs.Counts.{times, without, longer, shorter, of_shorter}
+use Rattle.pin_turn.specs.Rule.{ByOthers, mine_at, away_at, has_number, Knows, TurnRule, compared}
+use Rattle.pin_turn.specs.{declared.view.Stage.TheVariants.Resting, declared.view.Stage.TheVariants.Joining}
+use Rattle.pin_turn.specs.{declared.view.View.View, Views.numbers, Views.numbers_at, Views.gone_view, Views.hearing}
+use Rattle.pin_turn.proofs.Sums.{total_set, Each-right, Each-left, Each-map, times-append, times_here, times-without}
+use Rattle.pin_turn.proofs.Sums.{Each-without, longer_cases, shorter_cases, shorter_begins, whole_if_long, long_enough}
+use Rattle.pin_turn.proofs.Sums.{Each-any, or_cases}
+use Rattle.pin_turn.proofs.RuleSteps.{at_here, held_set, knows_set, longest_set}
 use mathlib.Core.Logic.{dite}
 use mathlib.Core.Option.{none, some, some-injective}
 use mathlib.Core.Option as maybe
 use native.Mathlib.Decide.{ℕ_discrete}
 use lib.ListN.{get_elem?}
 use lib.Seq.{set-get_or}
-use Rattle.atomic_table.specs.Table.{State, Me, step, keeps, Allows}
-use Rattle.atomic_table.specs.Table.{Joins}
-use Rattle.atomic_table.proofs.Lists.{set_else}
-use Rattle.pin_turn.specs.declared.view.Stage.TheVariants.{Resting, Joining}
-use Rattle.pin_turn.specs.declared.view.View.{View}
-use Rattle.pin_turn.specs.Counts.{times, without, longer, shorter, of_shorter}
-use Rattle.pin_turn.specs.Views.{numbers, numbers_at, gone_view, hearing}
-use Rattle.pin_turn.specs.Rule.{ByOthers, mine_at, away_at, has_number, Knows, TurnRule}
-use Rattle.pin_turn.specs.Rule.{compared}
-use Rattle.pin_turn.proofs.Sums.{total_set, Each-right}
-use Rattle.pin_turn.proofs.Sums.{Each-left, Each-map, times-append, times_here}
-use Rattle.pin_turn.proofs.Sums.{times-without, Each-without, longer_cases, shorter_cases}
-use Rattle.pin_turn.proofs.Sums.{shorter_begins, whole_if_long, long_enough, Each-any, or_cases}
-use Rattle.pin_turn.proofs.RuleSteps.{at_here, held_set, knows_set, longest_set}
 
 module _ {T E : Type 0} (stands : T → T → List E → Type 0) (maker : E → ℕ) (start : T) where
   abbrev V : Type 0
@@ -31,9 +27,6 @@ module _ {T E : Type 0} (stands : T → T → List E → Type 0) (maker : E → 
 
   abbrev M : Type 0
   M = Me (Option T) V
-
-  abbrev Homes : Type 0
-  Homes = List (maybe.Option (Option T))
 
   abbrev Rule : St → Type 0
   Rule = TurnRule stands maker start

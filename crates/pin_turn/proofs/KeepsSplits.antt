@@ -1,22 +1,20 @@
 -- To draw a number and to split a seat off keep the rule.
-use Rattle.std.proofs.Common.{◌≡◌, ℕ, ◌+◌, ◌<◌, ⊎_elim, List, []}
-use Rattle.std.proofs.Common.{◌∷◌, ◌++◌, set, get_or, sym, refl, ap, subst, arith, Option, Some}
+use Rattle.std.proofs.Common.{◌≡◌, ℕ, ◌+◌, ◌<◌, ⊎_elim, List, [], ◌∷◌, ◌++◌, set, get_or, sym, refl, ap, subst, arith}
+use Rattle.std.proofs.Common.{Option, Some}
+use Rattle.atomic_table.specs.Table.{State, Me, step, keeps, Allows, Splits}
+use Rattle.atomic_table.proofs.Lists.{at_snoc, at_longer}
+use Rattle.pin_turn.specs.Views.{numbers, numbers_at, new_view, rested}
+use Rattle.pin_turn.specs.Rule.{ByOthers, mine_at, away_at, has_number, Knows, TurnRule, drew_number}
+use Rattle.pin_turn.specs.{declared.view.Stage.TheVariants.Resting, declared.view.Stage.TheVariants.Splitting}
+use Rattle.pin_turn.specs.{declared.view.View.View, Counts.Each, Counts.times}
+use Rattle.pin_turn.proofs.Sums.{total_set, total_snoc, Each-append, Each-right, Each-left, Each-map, times-append}
+use Rattle.pin_turn.proofs.Sums.{times_else, times_one}
+use Rattle.pin_turn.proofs.RuleSteps.{away_below, held_set, knows_set, longest_set, number_below}
 use mathlib.Core.Logic.{dite}
 use mathlib.Core.Option.{none}
 use mathlib.Core.Option as maybe
 use native.Mathlib.Decide.{ℕ_discrete}
 use lib.Seq.{set-get_or}
-use Rattle.atomic_table.specs.Table.{State, Me, step, keeps, Allows, Splits}
-use Rattle.atomic_table.proofs.Lists.{at_snoc, at_longer}
-use Rattle.pin_turn.specs.declared.view.Stage.TheVariants.{Resting, Splitting}
-use Rattle.pin_turn.specs.declared.view.View.{View}
-use Rattle.pin_turn.specs.Counts.{Each, times}
-use Rattle.pin_turn.specs.Views.{numbers, numbers_at, new_view, rested}
-use Rattle.pin_turn.specs.Rule.{ByOthers, mine_at, away_at, has_number, Knows, TurnRule}
-use Rattle.pin_turn.specs.Rule.{drew_number}
-use Rattle.pin_turn.proofs.Sums.{total_set, total_snoc, Each-append, Each-right}
-use Rattle.pin_turn.proofs.Sums.{Each-left, Each-map, times-append, times_else, times_one}
-use Rattle.pin_turn.proofs.RuleSteps.{away_below, held_set, knows_set, longest_set, number_below}
 
 module _ {T E : Type 0} (stands : T → T → List E → Type 0) (maker : E → ℕ) (start : T) where
   abbrev V : Type 0
@@ -27,9 +25,6 @@ module _ {T E : Type 0} (stands : T → T → List E → Type 0) (maker : E → 
 
   abbrev M : Type 0
   M = Me (Option T) V
-
-  abbrev Homes : Type 0
-  Homes = List (maybe.Option (Option T))
 
   abbrev Rule : St → Type 0
   Rule = TurnRule stands maker start

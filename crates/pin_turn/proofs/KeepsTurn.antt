@@ -1,24 +1,23 @@
 -- To begin, to look, to take the turn and to give it back keep the rule.
-use Rattle.std.proofs.Common.{◌≡◌, ◌≢◌, ℕ, zero, suc, ◌+◌, ◌*◌, ◌%◌, ◌^◌, ◌<◌, ◌≤◌, eqb, true, List, []}
-use Rattle.std.proofs.Common.{◌∷◌, ◌++◌, length, set, get_or, sym, refl, ap, ◌∙◌, subst, arith, Option, Some}
-use Rattle.std.proofs.Common.{length-set, length-append, eq-eqb, ne_eqb, append_assoc}
+use Rattle.std.proofs.Common.{◌≡◌, ◌≢◌, ℕ, zero, suc, ◌+◌, ◌*◌, ◌%◌, ◌^◌, ◌<◌, ◌≤◌, eqb, true, List, [], ◌∷◌, ◌++◌}
+use Rattle.std.proofs.Common.{length, set, get_or, sym, refl, ap, ◌∙◌, subst, arith, Option, Some, length-set}
+use Rattle.std.proofs.Common.{length-append, eq-eqb, ne_eqb, append_assoc}
 use Rattle.std.proofs.lemmas.List.{append-nil}
+use Rattle.atomic_table.specs.Table.{State, Me, step, keeps, takes, gives, stepped, Allows, opening}
+use Rattle.atomic_table.proofs.Lists.{set_here, set_else, set_again}
+use Rattle.pin_turn.specs.declared.view.Stage.TheVariants.{Gone, Resting, Holding}
+use Rattle.pin_turn.specs.Counts.{Each, times, once_below}
+use Rattle.pin_turn.specs.Views.{numbers, numbers_at, first_view}
+use Rattle.pin_turn.specs.Rule.{ByOthers, has_number, Knows, TurnRule, looked, took, gave}
+use Rattle.pin_turn.specs.{declared.view.Stage.Stage, declared.view.View.View}
+use Rattle.pin_turn.proofs.Sums.{total_at, Each-append, times-append, times_else, times_one, once_more}
+use Rattle.pin_turn.proofs.RuleSteps.{apart, at_here, has_one, knows_set, not_in, not_true, steps}
 use mathlib.Core.Logic.{dite}
 use mathlib.Core.Option.{none, some, some-injective, some-ne-none}
 use mathlib.Core.Option as maybe
 use native.Mathlib.Decide.{ℕ_discrete, dec_le}
 use lib.ListN.{get_elem?}
 use prog.Atomic.{either}
-use Rattle.atomic_table.specs.Table.{State, Me, step, keeps, takes, gives, stepped, Allows, opening}
-use Rattle.atomic_table.proofs.Lists.{set_here, set_else, set_again}
-use Rattle.pin_turn.specs.declared.view.Stage.{Stage}
-use Rattle.pin_turn.specs.declared.view.Stage.TheVariants.{Gone, Resting, Holding}
-use Rattle.pin_turn.specs.declared.view.View.{View}
-use Rattle.pin_turn.specs.Counts.{Each, times, once_below}
-use Rattle.pin_turn.specs.Views.{numbers, numbers_at, first_view}
-use Rattle.pin_turn.specs.Rule.{ByOthers, has_number, Knows, TurnRule, looked, took, gave}
-use Rattle.pin_turn.proofs.Sums.{total_at, Each-append, times-append, times_else, times_one, once_more}
-use Rattle.pin_turn.proofs.RuleSteps.{apart, at_here, has_one, knows_set, not_in, not_true, steps}
 
 module _ {T E : Type 0} (stands : T → T → List E → Type 0) (maker : E → ℕ) (start : T) where
   abbrev V : Type 0
@@ -29,9 +28,6 @@ module _ {T E : Type 0} (stands : T → T → List E → Type 0) (maker : E → 
 
   abbrev M : Type 0
   M = Me (Option T) V
-
-  abbrev Homes : Type 0
-  Homes = List (maybe.Option (Option T))
 
   abbrev Rule : St → Type 0
   Rule = TurnRule stands maker start

@@ -1,23 +1,19 @@
 -- A step that changes one view keeps the rule, where what it says of that view holds.
-use Rattle.std.proofs.Common.{false, ◌≡◌, ◌≢◌, ℕ, zero, suc, ◌+◌, ◌*◌, ◌^◌, ◌<◌, ◌≤◌, ⊎_elim, true, List, []}
-use Rattle.std.proofs.Common.{◌∷◌, length, set, get_or, sym, refl, ap, ◌∙◌, subst, arith, Option, Some}
-use Rattle.std.proofs.Common.{length-set, get_or-set_same}
+use Rattle.std.proofs.Common.{false, ◌≡◌, ◌≢◌, ℕ, zero, suc, ◌+◌, ◌*◌, ◌^◌, ◌<◌, ◌≤◌, ⊎_elim, true, List, [], ◌∷◌}
+use Rattle.std.proofs.Common.{length, set, get_or, sym, refl, ap, ◌∙◌, subst, arith, Option, Some, length-set}
+use Rattle.std.proofs.Common.{get_or-set_same}
+use Rattle.atomic_table.specs.Table.{State}
+use Rattle.atomic_table.proofs.Lists.{at_set, set_here, set_else}
+use Rattle.pin_turn.specs.declared.view.Stage.TheVariants.{Gone, Resting, Splitting, Joining, Holding}
+use Rattle.pin_turn.specs.Counts.{Each, times, once_below}
+use Rattle.pin_turn.specs.Rule.{mine_at, away_at, has_number, Knows, TurnRule}
+use Rattle.pin_turn.specs.{declared.view.Stage.Stage, declared.view.View.View, Views.numbers, Views.numbers_at}
+use Rattle.pin_turn.proofs.Sums.{total_set, total_at, total_two, times_here, times_else, Each_times, Each_of}
 use mathlib.Core.Logic.{dite}
 use mathlib.Core.Option.{none, some, some-injective, some-ne-none}
 use mathlib.Core.Option as maybe
 use native.Mathlib.Decide.{ℕ_discrete, dec_le}
 use lib.ListN.{get_elem?}
-use Rattle.atomic_table.specs.Table.{State, Me}
-use Rattle.atomic_table.proofs.Lists.{at_set, set_here, set_else}
-use Rattle.pin_turn.specs.declared.view.Stage.{Stage}
-use Rattle.pin_turn.specs.declared.view.Stage.TheVariants.{Gone, Resting, Splitting, Joining, Holding}
-use Rattle.pin_turn.specs.declared.view.View.{View}
-use Rattle.pin_turn.specs.Counts.{Each, times, once_below}
-use Rattle.pin_turn.specs.Views.{numbers, numbers_at}
-use Rattle.pin_turn.specs.Rule.{mine_at, away_at, has_number, Knows, TurnRule}
-use Rattle.pin_turn.proofs.Sums.{total_set, total_at, total_two}
-use Rattle.pin_turn.proofs.Sums.{times_here, times_else}
-use Rattle.pin_turn.proofs.Sums.{Each_times, Each_of}
 
 module _ {T E : Type 0} (stands : T → T → List E → Type 0) (maker : E → ℕ) (start : T) where
   abbrev V : Type 0
@@ -25,9 +21,6 @@ module _ {T E : Type 0} (stands : T → T → List E → Type 0) (maker : E → 
 
   abbrev St : Type 0
   St = State (Option T) V
-
-  abbrev M : Type 0
-  M = Me (Option T) V
 
   abbrev Homes : Type 0
   Homes = List (maybe.Option (Option T))

@@ -1,14 +1,13 @@
 -- Sums over the views, when one of them changes.
 use Rattle.std.proofs.Common.{Bool, true, false, ◌||◌, ◌≡◌, ◌≢◌, ℕ, zero, suc, ◌+◌, ◌<◌, ◌≤◌, ◌⊎◌, inl, inr, ⊎_elim}
-use Rattle.std.proofs.Common.{eqb, List, [], ◌∷◌, ◌++◌, length, set, sym, refl, ap, ◌∙◌, subst, arith, eq-eqb, ne_eqb}
+use Rattle.std.proofs.Common.{List, [], ◌∷◌, ◌++◌, length, set, sym, refl, ap, ◌∙◌, subst, arith, eq-eqb, ne_eqb}
 use Rattle.std.proofs.Common.{length-append}
-use Rattle.std.proofs.lemmas.Bool.Decides.{nat_tests}
-use Rattle.std.proofs.lemmas.List.{append-nil}
+use Rattle.std.proofs.{lemmas.Bool.Decides.nat_tests, lemmas.List.append-nil}
+use Rattle.pin_turn.specs.Counts.{Each, times, without, once_below, total, longer, shorter, of_shorter}
 use mathlib.Core.Logic.{dite}
 use mathlib.Core.Option.{some, some-injective, some-ne-none}
 use native.Mathlib.Decide.{dec_le, ℕ_discrete}
 use lib.ListN.{get_elem?}
-use Rattle.pin_turn.specs.Counts.{Each, times, without, once_below, total, longer, shorter, of_shorter}
 
 module _ {A : Type 0} (f : A → ℕ) where
   pub total_set : (xs : List A) (i : ℕ) (a b : A) → get_elem? xs i ≡ some a

@@ -1,11 +1,8 @@
 -- What the contracts of the public calls cite.
 use Rattle.std.specs.Prelude.{◌≡◌, ℕ, ◌<◌, ◌^◌, false, List, [], ◌∷◌, ◌++◌, length, Some}
 use Rattle.std.specs.Fn.{Mut, Takes, CalledAtMut}
+use Rattle.pin_turn.specs.{declared.turn.Turn.Turn, declared.view.Seat.Seat, declared.view.View.View, Rule.ByOthers}
 use denote.Ref.{MutBor}
-use Rattle.pin_turn.specs.declared.turn.Turn.{Turn}
-use Rattle.pin_turn.specs.declared.view.Seat.{Seat}
-use Rattle.pin_turn.specs.declared.view.View.{View}
-use Rattle.pin_turn.specs.Rule.{ByOthers}
 
 -- f may be called at a `&mut` to x
 abbrev pub TakesAtMut : {F A R : Type 0} → Mut F (MutBor A × Unit {0}) (R × (MutBor A × Unit {0})) → F → A → Type 0

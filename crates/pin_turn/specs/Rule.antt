@@ -1,13 +1,12 @@
 -- What holds between any two steps on the table of a turn, and what each kind of step tells its caller.
 use Rattle.std.specs.Prelude.{◌≡◌, ◌≢◌, ℕ, ◌+◌, ◌*◌, ◌^◌, ◌<◌, ◌≤◌, true, false, List, [], ◌∷◌, ◌++◌, length}
 use Rattle.std.specs.Prelude.{slice_index, Option, Some}
-use mathlib.Core.Option.{some, none}
-use lib.ListN.{get_elem?}
 use Rattle.atomic_table.specs.Table.{State, Me, Step}
 use Rattle.pin_turn.specs.declared.view.Stage.TheVariants.{Gone, Resting, Splitting, Joining, Holding}
-use Rattle.pin_turn.specs.declared.view.View.{View}
 use Rattle.pin_turn.specs.Counts.{Each, times, without, total, once_below}
-use Rattle.pin_turn.specs.Views.{numbers}
+use Rattle.pin_turn.specs.{declared.view.View.View, Views.numbers}
+use mathlib.Core.Option.{some, none}
+use lib.ListN.{get_elem?}
 
 -- none of these entries is by a seat of one of these numbers
 abbrev pub ByOthers : {E : Type 0} → (E → ℕ) → List ℕ → List E → Type 0

@@ -1,10 +1,9 @@
 -- What a seat knows, read and written.
 use Rattle.std.specs.Prelude.{ℕ, false, List, [], ◌∷◌, ◌++◌, ◌||◌, Option, Some, None}
 use Rattle.atomic_table.specs.declared.shared.Seat.{Seat}
-use Rattle.pin_turn.specs.declared.view.Stage.{Stage}
 use Rattle.pin_turn.specs.declared.view.Stage.TheVariants.{Gone, Resting, Splitting, Joining, Holding}
-use Rattle.pin_turn.specs.declared.view.View.{View}
 use Rattle.pin_turn.specs.Counts.{without, longer, shorter, of_shorter}
+use Rattle.pin_turn.specs.{declared.view.Stage.Stage, declared.view.View.View}
 
 module _ {E : Type 0} where
   -- the numbers that a seat of number n has, and may give to a new one

@@ -2,12 +2,10 @@
 use Rattle.std.specs.Prelude.{◌≡◌, ℕ, List, [], ◌∷◌, map, Bool, true, false}
 use Rattle.std.proofs.Common.{◌∙◌, sym}
 use Rattle.pcm_base.specs.declared.sound.Frame.{Frame}
-use Rattle.rtrb.specs.Ring as ring
-use Rattle.play_ring.specs.declared.ends.TheConstants.{RING_ITEMS}
-use Rattle.play_ring.specs.declared.ends.Item.{Item}
 use Rattle.play_ring.specs.declared.ends.Item.TheVariants.{Sound, End}
-use Rattle.play_ring.specs.declared.ends.PlayIn.{PlayIn}
-use Rattle.play_ring.specs.declared.ends.PlayOut.{PlayOut}
+use Rattle.play_ring.specs.{declared.ends.TheConstants.RING_ITEMS, declared.ends.Item.Item, declared.ends.PlayIn.PlayIn}
+use Rattle.play_ring.specs.{declared.ends.PlayOut.PlayOut}
+use Rattle.rtrb.specs.Ring as ring
 
 -- every item that was sent, the first first
 abbrev pub sent : PlayIn → List Item

@@ -1,7 +1,6 @@
 -- What was written and not synced since.
 use Rattle.std.specs.Prelude.{◌≢◌, ◌≤◌, ℕ, zero, suc, List, Option, IfSome, All}
-use Rattle.project_folder.specs.declared.span.Span.{Span}
-use Rattle.project_folder.specs.declared.open_files.Handle.{Handle}
+use Rattle.project_folder.specs.{declared.span.Span.Span, declared.open_files.Handle.Handle}
 
 -- the span has no byte
 abbrev pub IsEmpty : Span → Type 0

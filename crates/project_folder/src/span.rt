@@ -6,7 +6,7 @@ use crate::plain::read_full;
 use std::os::unix::fs::FileExt;
 
 /// How many bytes are read and written at once.
-const PIECE: usize = 4096;
+const BUFFER_LEN: usize = 4096;
 
 /// The bytes from one place to before another, and none where the first is not before the other.
 #[derive(Clone, Copy)]
@@ -43,10 +43,10 @@ impl Span {
 
     // Writes the bytes of the span again as the file reads there, as far as it can be read and written.
     pub(crate) fn write_again<F: FileExt>(self, file: &F) {
-        let mut buf = [0u8; PIECE];
+        let mut buf = [0u8; BUFFER_LEN];
         let mut at = self.from;
         while at < self.to {
-            let count = (self.to - at).min(PIECE as u64) as usize;
+            let count = (self.to - at).min(BUFFER_LEN as u64) as usize;
             if let Ok(read) = read_full(file, at, &mut buf[..count]) {
                 let _ = file.write_all_at(&buf[..read], at);
             }

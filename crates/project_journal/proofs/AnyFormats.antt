@@ -1,19 +1,15 @@
 -- A header of each version has a format that a header may have.
-use Rattle.std.proofs.Common.{◌≡◌, ◌⊎◌, ℕ, zero, suc, ◌-◌, ◌%◌, ◌^◌, ◌<◌, ◌≤◌, min, max, List, [], ◌∷◌, ◌++◌, None, eqb, refl, sym}
-use Rattle.std.proofs.Common.{arith, subst, inl, inr, ⊎_elim, Bool, true, false}
-use Rattle.std.specs.Prelude.{if◌then◌else◌, nat_lt}
+use Rattle.std.proofs.Common.{◌≡◌, ◌⊎◌, ℕ, zero, suc, ◌-◌, ◌%◌, ◌^◌, ◌<◌, ◌≤◌, min, max, List, [], ◌∷◌, ◌++◌, None, eqb}
+use Rattle.std.proofs.Common.{refl, sym, arith, subst, inl, inr, ⊎_elim, Bool, true, false}
 use Rattle.std.proofs.lemmas.Bool.{eqb-true}
-use Rattle.project_journal.specs.Fields.{field}
-use Rattle.disk_model.specs.Disk.{Files}
+use Rattle.std.specs.Prelude.{if◌then◌else◌, nat_lt}
 use Rattle.project_journal.specs.Header.{Form, IsForm, IsFormat, first_failed, number_tests, base_tests, base_tests_in}
 use Rattle.project_journal.specs.Header.{last_tests, the_zeros, base_fields, base_header_tests, depth_in}
-use Rattle.project_journal.specs.Header.{wide_header_tests}
-use Rattle.project_journal.specs.Header.{wide_tests}
-use Rattle.project_journal.specs.declared.base.Base.{Base}
-use Rattle.project_journal.specs.declared.fault.Damaged.{Damaged}
+use Rattle.project_journal.specs.Header.{wide_header_tests, wide_tests}
 use Rattle.project_journal.specs.Journal.{Log, HasLog, IsHeader}
-use Rattle.project_journal.proofs.Formats.{passed, is_size}
-use Rattle.project_journal.proofs.Seen.{both_pass}
+use Rattle.project_journal.specs.{Fields.field, declared.base.Base.Base, declared.fault.Damaged.Damaged}
+use Rattle.disk_model.specs.Disk.{Files}
+use Rattle.project_journal.proofs.{Formats.passed, Formats.is_size, Seen.both_pass}
 
 -- no version has more points than the last one
 depth_bounds : (version : ℕ) → (1 ≤ depth_in version) × (depth_in version ≤ 65536)
@@ -48,18 +44,18 @@ numbers_format version head e =
     }
 
 -- of each version
-pub numbers_sound : (form : Form) (head : List ℕ) → IsForm form → first_failed (form.tests head) ≡ None
+pub numbers_valid : (form : Form) (head : List ℕ) → IsForm form → first_failed (form.tests head) ≡ None
     → IsFormat (field 9 4 head) (field 13 4 head) (field 17 4 head)
-numbers_sound form head known sound = ⊎_elim
+numbers_valid form head known valid = ⊎_elim
     (λ one.
-    let is = subst (λ (f : Form). first_failed (f.tests head) ≡ None) one sound in
+    let is = subst (λ (f : Form). first_failed (f.tests head) ≡ None) one valid in
     numbers_format 1 head (both_pass (number_tests 1 head) (the_zeros head) is).0)
     (λ later. ⊎_elim
     (λ two.
-    let is = subst (λ (f : Form). first_failed (f.tests head) ≡ None) two sound in
+    let is = subst (λ (f : Form). first_failed (f.tests head) ≡ None) two valid in
     numbers_format 2 head (both_pass (number_tests 2 head) (base_tests head ++ last_tests head) is).0)
     (λ three.
-    let is = subst (λ (f : Form). first_failed (f.tests head) ≡ None) three sound in
+    let is = subst (λ (f : Form). first_failed (f.tests head) ≡ None) three valid in
     numbers_format 3 head (both_pass (number_tests 3 head) (base_tests head ++ wide_tests head) is).0)
     later)
     known
@@ -67,7 +63,7 @@ numbers_sound form head known sound = ⊎_elim
 pub header_format : (form : Form) (head : List ℕ) (log : Log) → IsForm form → IsHeader form head log
     → IsFormat log.rate log.block_size log.depth
 header_format form head log known is =
-    let format = numbers_sound form head known is.sound in
+    let format = numbers_valid form head known is.valid in
     record {
       rate_least = omega (arith, format.rate_least, is.rate);
       even = subst (λ (m : ℕ). m % 2 ≡ 0) is.block_size format.even;
@@ -123,11 +119,11 @@ zero_or_below zero k e = inl refl
 zero_or_below (suc n) k e = inr (omega (arith, e))
 
 -- each test finds what it wants
-abbrev Pass : List Damaged → Type 0
+abbrev pub Pass : List Damaged → Type 0
 Pass [] = Unit {0}
 Pass (test ∷ tests) = (test.want ≡ test.have) × Pass tests
 
-all_pass : (tests : List Damaged) → first_failed tests ≡ None → Pass tests
+pub all_pass : (tests : List Damaged) → first_failed tests ≡ None → Pass tests
 all_pass [] none = tt
 all_pass (test ∷ tests) none =
     let here = passed (eqb test.want test.have) (first_failed tests) test none in
@@ -142,18 +138,18 @@ base_counts head e =
     record { few = omega (arith, count); current = zero_or_below (field 53 4 head) (field 57 4 head) cursor }
 
 second_base : (head : List ℕ) → first_failed (base_header_tests head) ≡ None → first_failed (base_tests head) ≡ None
-second_base head sound =
+second_base head valid =
     (both_pass (base_tests head) (last_tests head)
-    (both_pass (number_tests 2 head) (base_tests head ++ last_tests head) sound).1).0
+    (both_pass (number_tests 2 head) (base_tests head ++ last_tests head) valid).1).0
 
 third_base : (head : List ℕ) → first_failed (wide_header_tests head) ≡ None → first_failed (base_tests head) ≡ None
-third_base head sound =
+third_base head valid =
     (both_pass (base_tests head) (wide_tests head)
-    (both_pass (number_tests 3 head) (base_tests head ++ wide_tests head) sound).1).0
+    (both_pass (number_tests 3 head) (base_tests head ++ wide_tests head) valid).1).0
 
-pub base_sound : (form : Form) (head : List ℕ) → IsForm form → first_failed (form.tests head) ≡ None
+pub base_valid : (form : Form) (head : List ℕ) → IsForm form → first_failed (form.tests head) ≡ None
     → HasBase (form.base_at head)
-base_sound form head known sound = ⊎_elim
+base_valid form head known valid = ⊎_elim
     (λ one. subst (λ (f : Form). HasBase (f.base_at head)) (sym one) (record {
       generation = omega arith;
       commit = omega arith;
@@ -164,25 +160,25 @@ base_sound form head known sound = ⊎_elim
     }))
     (λ later. ⊎_elim
     (λ two.
-    let is = subst (λ (f : Form). first_failed (f.tests head) ≡ None) two sound in
+    let is = subst (λ (f : Form). first_failed (f.tests head) ≡ None) two valid in
     subst (λ (f : Form). HasBase (f.base_at head)) (sym two) (base_bounds head (second_base head is)))
     (λ three.
-    let is = subst (λ (f : Form). first_failed (f.tests head) ≡ None) three sound in
+    let is = subst (λ (f : Form). first_failed (f.tests head) ≡ None) three valid in
     subst (λ (f : Form). HasBase (f.base_at head)) (sym three) (base_bounds head (third_base head is)))
     later)
     known
 
-pub counts_sound : (form : Form) (head : List ℕ) → IsForm form → first_failed (form.tests head) ≡ None
+pub counts_valid : (form : Form) (head : List ℕ) → IsForm form → first_failed (form.tests head) ≡ None
     → HasCounts (field 17 4 head) (form.base_at head)
-counts_sound form head known sound = ⊎_elim
+counts_valid form head known valid = ⊎_elim
     (λ one. subst (λ (f : Form). HasCounts (field 17 4 head) (f.base_at head)) (sym one)
     (record { few = omega arith; current = inl refl }))
     (λ later. ⊎_elim
     (λ two.
-    let is = subst (λ (f : Form). first_failed (f.tests head) ≡ None) two sound in
+    let is = subst (λ (f : Form). first_failed (f.tests head) ≡ None) two valid in
     subst (λ (f : Form). HasCounts (field 17 4 head) (f.base_at head)) (sym two) (base_counts head (second_base head is)))
     (λ three.
-    let is = subst (λ (f : Form). first_failed (f.tests head) ≡ None) three sound in
+    let is = subst (λ (f : Form). first_failed (f.tests head) ≡ None) three valid in
     subst (λ (f : Form). HasCounts (field 17 4 head) (f.base_at head)) (sym three)
     (base_counts head (third_base head is)))
     later)
@@ -191,4 +187,4 @@ counts_sound form head known sound = ⊎_elim
 pub any_base : (form : Form) (log : Log) (c : Files) → IsForm form → HasLog form log c → HasBase log.base
 any_base form log c known has =
     let is = has.spelled.header in
-    subst HasBase is.base (base_sound form has.spelled.head known is.sound)
+    subst HasBase is.base (base_valid form has.spelled.head known is.valid)

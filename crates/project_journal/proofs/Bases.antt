@@ -1,12 +1,11 @@
 -- What is said of the points of a header.
-use Rattle.std.proofs.Common.{◌≡◌, ℕ, List, [], ◌∷◌, ◌++◌, length, map, take, drop, refl, sym, ◌∙◌, ap}
-use Rattle.std.proofs.Common.{arith, append_assoc, length-append, length-drop, take-append-drop}
+use Rattle.std.proofs.Common.{◌≡◌, ℕ, List, [], ◌∷◌, ◌++◌, length, map, take, drop, refl, sym, ◌∙◌, ap, arith}
+use Rattle.std.proofs.Common.{append_assoc, length-append, length-drop, take-append-drop}
 use Rattle.std.proofs.lemmas.List.{take_at, drop_at, length-take-le}
 use Rattle.std.specs.List.{flat_map, AllByRecursion}
 use Rattle.byteorder.specs.Endian.{little_number}
-use Rattle.project_journal.specs.Header.{Form, IsForm, no_base, form_1}
-use Rattle.project_journal.specs.declared.base.Base.{Base}
 use Rattle.project_journal.specs.Journal.{Log, Row, row, bytes_in, IsRow, IsHeader, points_size, header_end}
+use Rattle.project_journal.specs.{Header.Form, Header.IsForm, Header.no_base, Header.form_1, declared.base.Base.Base}
 use Rattle.project_journal.proofs.Parses.{form_base}
 
 -- two cuts of one list at the same place
@@ -59,10 +58,10 @@ length-head form head log is = omega (
   ap points_size is.points,
 )
 
-record SameRows (xs ys : List Row) (x y : List ℕ) : Type 0 where
-  points : map bytes_in xs ≡ map bytes_in ys
-  bytes : flat_map row xs ≡ flat_map row ys
-  rest : x ≡ y
+pub record SameRows (xs ys : List Row) (x y : List ℕ) : Type 0 where
+  pub points : map bytes_in xs ≡ map bytes_in ys
+  pub bytes : flat_map row xs ≡ flat_map row ys
+  pub rest : x ≡ y
 
 -- this many rows, each after its length, stand at the front of some bytes in one way at most
 same_rows : (xs ys : List Row) (x y : List ℕ) → length xs ≡ length ys → AllByRecursion IsRow xs

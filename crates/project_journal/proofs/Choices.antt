@@ -1,23 +1,20 @@
 -- The choice of a file, by the front of each.
-use Rattle.std.proofs.Common.{◌≡◌, inl, inr, ℕ, zero, suc, ◌^◌, ◌<◌, ◌≤◌, min, Option, Some, None}
-use Rattle.std.proofs.Common.{Result, Ok, Err, List, [], ◌∷◌, ◌++◌, length, take, drop, refl, sym, ◌∙◌, ap, subst}
-use Rattle.std.proofs.Common.{arith, if◌then◌else◌, Bool, true, false}
-use Rattle.std.specs.Prelude.{◌==◌}
+use Rattle.std.proofs.Common.{◌≡◌, inl, inr, ℕ, zero, suc, ◌^◌, ◌≤◌, min, Option, Some, None, Result, Ok, Err, List, []}
+use Rattle.std.proofs.Common.{◌∷◌, ◌++◌, length, take, drop, refl, sym, ◌∙◌, ap, subst, arith, if◌then◌else◌, Bool}
+use Rattle.std.proofs.Common.{true, false}
 use Rattle.std.proofs.lemmas.Bool.{eq-eqb}
 use Rattle.std.proofs.lemmas.List.{get_or-take, length-take, take_at, take_min}
+use Rattle.std.specs.Prelude.{◌==◌}
 use Rattle.disk_model.specs.Disk.{Files, bytes_of}
-use Rattle.project_journal.specs.declared.fault.Damaged.{Damaged as Fault}
-use Rattle.project_journal.specs.declared.fault.JournalFault.{JournalFault}
 use Rattle.project_journal.specs.declared.fault.JournalFault.TheVariants.{Absent, Exists, Damaged, SpaceSpent}
 use Rattle.project_journal.specs.declared.fault.JournalFault.TheVariants.{DiskFault, NoMemory}
-use Rattle.project_journal.specs.declared.reader.Reader.{Reader}
-use Rattle.project_journal.specs.Choice.{FailsIn, IsOlder, IsPicked, choice_tests, generation_at}
-use Rattle.project_journal.specs.Choice.{newer_test, other_file}
-use Rattle.project_journal.specs.Fields.{field}
+use Rattle.project_journal.specs.Choice.{FailsIn, IsOlder, IsPicked, choice_tests, generation_at, newer_test}
+use Rattle.project_journal.specs.Choice.{other_file}
 use Rattle.project_journal.specs.Header.{IsProject, first_failed, form_of}
-use Rattle.project_journal.specs.Opening.{Chooses, ChoosesSome, Opens, OpensSome, StartsIn}
-use Rattle.project_journal.specs.Opening.{StartsSome, two_files}
-use Rattle.project_journal.proofs.Headers.{differ}
+use Rattle.project_journal.specs.Opening.{Chooses, ChoosesSome, Opens, OpensSome, StartsIn, StartsSome, two_files}
+use Rattle.project_journal.specs.{declared.fault.Damaged.Damaged as Fault, declared.fault.JournalFault.JournalFault}
+use Rattle.project_journal.specs.{declared.reader.Reader.Reader, Fields.field}
+use Rattle.pcm_base.proofs.ListFacts.{differ}
 use Rattle.project_journal.proofs.Parses.{field_take}
 
 -- what is read at the front of a file
@@ -58,7 +55,7 @@ AreFronts c d = (n : ℕ) → n ≤ 1 → bytes_of (c n) ≡ take 33 (bytes_of (
 
 older_front : (g : ℕ) (bytes : List ℕ) → IsOlder g (take 33 bytes) → IsOlder g bytes
 older_front g bytes is = record {
-  sound = ap first_failed (sym (choice_front bytes)) ∙ is.sound;
+  valid = ap first_failed (sym (choice_front bytes)) ∙ is.valid;
   lower = omega (arith, is.lower, generation_front bytes);
 }
 
@@ -71,8 +68,8 @@ picked_front file c d fronts is =
     record {
       few = is.few;
       project = project_front (bytes_of (d file)) (subst IsProject mine is.project);
-      sound = λ p. ap first_failed (sym (choice_front (bytes_of (d file))))
-          ∙ ap (λ (b : List ℕ). first_failed (choice_tests b)) (sym mine) ∙ is.sound (there p);
+      valid = λ p. ap first_failed (sym (choice_front (bytes_of (d file))))
+          ∙ ap (λ (b : List ℕ). first_failed (choice_tests b)) (sym mine) ∙ is.valid (there p);
       newest = λ p.
           older_front (generation_at (bytes_of (d file))) (bytes_of (d (other_file file)))
           (subst (λ (g : ℕ). IsOlder g (take 33 (bytes_of (d (other_file file)))))
@@ -125,37 +122,16 @@ two_few a b first second zero = first
 two_few a b first second (suc zero) = second
 two_few a b first second (suc (suc n)) = omega arith
 
--- the first of two projects, or the second
-pub picked_first : (a b : List ℕ) → IsProject a → (IsProject b → first_failed (choice_tests a) ≡ None)
-    → (IsProject b → first_failed (choice_tests b) ≡ None) → (IsProject b → generation_at b < generation_at a)
-    → IsPicked 0 (two_files a b)
-picked_first a b project first second lower = record {
-  few = omega arith;
-  project = project;
-  sound = first;
-  newest = λ p. record { sound = second p; lower = lower p };
-}
-
-pub picked_second : (a b : List ℕ) → IsProject b → (IsProject a → first_failed (choice_tests a) ≡ None)
-    → (IsProject a → first_failed (choice_tests b) ≡ None) → (IsProject a → generation_at a < generation_at b)
-    → IsPicked 1 (two_files a b)
-picked_second a b project first second lower = record {
-  few = omega arith;
-  project = project;
-  sound = second;
-  newest = λ p. record { sound = first p; lower = lower p };
-}
-
 -- a reader of the chosen file
 pub opens_from : (file : ℕ) (files : Files) (r : Result Reader JournalFault) → IsPicked file files
     → StartsIn file (bytes_of (files file)) r → Opens files r
 opens_from file files (Ok r) picked s = record {
   picked = subst (λ (n : ℕ). IsPicked n files) (sym s.same) picked;
   version = s.version ∙ ap (λ (n : ℕ). field 5 4 (bytes_of (files n))) (sym s.same);
-  sound = ap (λ (v : ℕ). first_failed ((form_of v r.window.file).tests (bytes_of (files r.window.file)))) (s.version
+  valid = ap (λ (v : ℕ). first_failed ((form_of v r.window.file).tests (bytes_of (files r.window.file)))) (s.version
       ∙ ap (λ (n : ℕ). field 5 4 (bytes_of (files n))) (sym s.same))
       ∙ ap (λ (n : ℕ). first_failed ((form_of (field 5 4 (bytes_of (files n))) n).tests (bytes_of (files n)))) s.same
-      ∙ s.sound;
+      ∙ s.valid;
 }
 opens_from file files (Err Absent) picked s = absurd (s picked.project)
 opens_from file files (Err (Damaged told at want have)) picked s = inr (record {
@@ -167,15 +143,6 @@ opens_from file files (Err DiskFault) picked s = tt
 opens_from file files (Err NoMemory) picked s = tt
 opens_from file files (Err Exists) picked s = s
 opens_from file files (Err (SpaceSpent have need)) picked s = s
-
--- and where no file is chosen
-pub opens_none : (files : Files) (e : JournalFault) → Chooses files (Err e) → Opens files (Err e)
-opens_none files (Damaged file at want have) is = inl is
-opens_none files DiskFault is = tt
-opens_none files Absent is = absurd is
-opens_none files Exists is = absurd is
-opens_none files NoMemory is = absurd is
-opens_none files (SpaceSpent have need) is = absurd is
 
 abbrev no_files : Files
 no_files = λ n. None
@@ -205,7 +172,7 @@ picked_alone file bytes few project =
     record {
       few = few;
       project = subst IsProject (sym (alone_here file bytes)) project;
-      sound = λ p. absurd (none p);
+      valid = λ p. absurd (none p);
       newest = λ p. absurd (none p);
     }
 

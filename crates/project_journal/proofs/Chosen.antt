@@ -1,17 +1,13 @@
 -- A disk has one journal at most, whichever file and version it is in.
-use Rattle.std.proofs.Common.{◌≡◌, ⊎_elim, ℕ, ◌<◌, ◌≤◌, List, ◌∷◌, ◌++◌, sym, ◌∙◌, ap, subst, arith}
-use Rattle.std.proofs.Common.{append_assoc}
+use Rattle.std.proofs.Common.{◌≡◌, ⊎_elim, ℕ, ◌<◌, ◌≤◌, List, ◌∷◌, ◌++◌, sym, ◌∙◌, ap, subst, arith, append_assoc}
 use Rattle.std.proofs.lemmas.Bool.{cases_eq}
 use Rattle.std.specs.List.{flat_map}
 use Rattle.disk_model.specs.Disk.{Files, bytes_of}
-use Rattle.project_journal.specs.Choice.{HasNoNewer, other_file, generation_at}
-use Rattle.project_journal.specs.Fields.{field}
 use Rattle.project_journal.specs.Header.{Form, IsForm, IsProject, form_of}
-use Rattle.project_journal.specs.Journal.{Log, entry, HasLog}
-use Rattle.project_journal.proofs.Kept.{is_project}
-use Rattle.project_journal.proofs.Once.{log_once}
-use Rattle.project_journal.proofs.Parses.{form_least}
+use Rattle.project_journal.specs.{Choice.HasNoNewer, Choice.other_file, Choice.generation_at, Fields.field, Journal.Log}
+use Rattle.project_journal.specs.{Journal.entry, Journal.HasLog}
 use Rattle.project_journal.proofs.Seen.{log_seen, form_by, least_head, field_front}
+use Rattle.project_journal.proofs.{Kept.is_project, Once.log_once, Parses.form_least}
 
 -- a disk that has a journal has a project in its file
 pub journal_project : (form : Form) (log : Log) (c : Files) → IsForm form → HasLog form log c

@@ -1,19 +1,15 @@
 -- Bytes that break off among the points of a header: they have no whole header, and they say one thing.
-use Rattle.std.proofs.Common.{◌≡◌, ℕ, ◌-◌, ◌<◌, List, [], ◌∷◌, ◌++◌, length, map, take, refl, sym, ◌∙◌, ap, arith}
-use Rattle.std.proofs.Common.{Some, append_assoc, take-append-drop}
-use Rattle.std.specs.List.{flat_map, AllByRecursion}
+use Rattle.std.proofs.Common.{◌≡◌, ℕ, ◌-◌, ◌<◌, List, [], ◌∷◌, ◌++◌, length, map, take, refl, sym, ◌∙◌, ap, arith, Some}
+use Rattle.std.proofs.Common.{append_assoc, take-append-drop}
 use Rattle.std.proofs.lemmas.List.{length-map, length-take-le}
+use Rattle.std.specs.List.{flat_map, AllByRecursion}
 use Rattle.byteorder.specs.Endian.{little_number}
-use Rattle.project_journal.specs.declared.base.Base.{Base}
-use Rattle.project_journal.specs.declared.fault.Damaged.{Damaged}
 use Rattle.project_journal.specs.declared.records.Next.TheVariants.{Whole, Early}
-use Rattle.project_journal.specs.Fields.{field}
 use Rattle.project_journal.specs.Header.{Form, IsForm}
-use Rattle.project_journal.specs.Journal.{Contents, Entry, IsCut, IsHeaded, IsHeader, IsRow, Log, Row, bytes_in, next_point}
-use Rattle.project_journal.specs.Journal.{row}
-use Rattle.project_journal.proofs.Bases.{front_same, rest_same}
-use Rattle.project_journal.proofs.Once.{next_whole}
-use Rattle.project_journal.proofs.Parses.{form_base}
+use Rattle.project_journal.specs.Journal.{Contents, Entry, IsCut, IsHeaded, IsHeader, IsRow, Log, Row, bytes_in}
+use Rattle.project_journal.specs.Journal.{next_point, row}
+use Rattle.project_journal.specs.{declared.base.Base.Base, declared.fault.Damaged.Damaged, Fields.field}
+use Rattle.project_journal.proofs.{Bases.front_same, Bases.rest_same, Bases.SameRows, Once.next_whole, Parses.form_base}
 
 -- after fewer rows stands one more
 record OneMore (x : List ℕ) : Type 0 where
@@ -70,12 +66,6 @@ never_cut form log j head rest bytes known is parts cut =
     (rest_same (take n h.front) (take n head) _ _ long whole) in
     let no : Early cut.fault ≡ Whole (length more.next.bytes) = sym cut.ends ∙ point_there j.end h.rest more in
     cc
-
--- rows after which no more stands are the same rows
-record SameRows (xs ys : List Row) (x y : List ℕ) : Type 0 where
-  points : map bytes_in xs ≡ map bytes_in ys
-  bytes : flat_map row xs ≡ flat_map row ys
-  rest : x ≡ y
 
 same_rows : (xs ys : List Row) (x y : List ℕ) → AllByRecursion IsRow xs → AllByRecursion IsRow ys → (OneMore x → ⊥)
     → (OneMore y → ⊥) → flat_map row xs ++ x ≡ flat_map row ys ++ y → SameRows xs ys x y

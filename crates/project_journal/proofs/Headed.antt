@@ -1,25 +1,19 @@
 -- Bytes that begin with the fields of a header and points: one point more, and all of them.
-use Rattle.std.proofs.Common.{◌≡◌, ℕ, zero, suc, ltb, ◌+◌, ◌-◌, ◌<◌, ◌≤◌, inl, inr, Some, List, [], ◌∷◌}
-use Rattle.std.proofs.Common.{◌++◌, length, map, take, drop, refl, sym, ◌∙◌, ap, subst, arith, ◌%◌, append_assoc, length-append}
+use Rattle.std.proofs.Common.{◌≡◌, ℕ, zero, suc, ltb, ◌+◌, ◌-◌, ◌<◌, ◌≤◌, inl, inr, Some, List, [], ◌∷◌, ◌++◌, length}
+use Rattle.std.proofs.Common.{map, take, drop, refl, sym, ◌∙◌, ap, subst, arith, ◌%◌, append_assoc, length-append}
 use Rattle.std.proofs.Common.{length-drop}
-use Rattle.std.specs.List.{flat_map, AllByRecursion}
 use Rattle.std.proofs.lemmas.List.{append-nil, map-append, get_or_append_left, length-map, drop-append-le}
+use Rattle.std.specs.List.{flat_map, AllByRecursion}
 use Rattle.byteorder.specs.Endian.{little_number}
-use Rattle.project_journal.specs.declared.fault.Damaged.{Damaged}
-use Rattle.project_journal.specs.declared.records.Next.{Next}
 use Rattle.project_journal.specs.declared.records.Next.TheVariants.{Whole, Shut, Early}
-use Rattle.project_journal.specs.Fields.{field}
 use Rattle.project_journal.specs.Header.{Form, IsForm, IsFormat, first_failed}
-use Rattle.project_journal.specs.declared.base.Base.{Base}
 use Rattle.project_journal.specs.Journal.{Contents, Row, row, bytes_in, IsRow, IsHeaded, IsCut, IsRead, body_at}
 use Rattle.project_journal.specs.Journal.{next_point, header_end, placed, points_size}
-use Rattle.project_journal.specs.Reader.{IsBegun}
-use Rattle.project_journal.proofs.AnyFormats.{HasBase, HasCounts, base_sound, counts_sound, numbers_sound}
-use Rattle.project_journal.proofs.Bases.{length-rows}
-use Rattle.project_journal.proofs.Begun.{continued}
+use Rattle.project_journal.specs.{declared.fault.Damaged.Damaged, declared.records.Next.Next, Fields.field}
+use Rattle.project_journal.specs.{declared.base.Base.Base, Reader.IsBegun}
+use Rattle.project_journal.proofs.AnyFormats.{HasBase, HasCounts, base_valid, counts_valid, numbers_valid}
 use Rattle.project_journal.proofs.Parses.{form_least, not_shut, tests_front, base_front}
-use Rattle.project_journal.proofs.Seen.{field_front}
-use Rattle.project_journal.proofs.Splits.{front_of}
+use Rattle.project_journal.proofs.{Bases.length-rows, Begun.continued, Seen.field_front, Splits.front_of}
 
 -- one point more
 unfoldable pub point_more_of : Contents → ℕ → List ℕ → Contents
@@ -60,7 +54,7 @@ headed_more form bytes j len known is next =
           ∙ ap (λ (b : List ℕ). j.points ++ b ∷ []) here.body;
       base = base_front form is.front (row r) known is.least ∙ is.base;
       gate = λ shut. is.gate (sym (get_or_append_left is.front (row r) 0 0 (omega (arith, least))) ∙ shut);
-      sound = ap first_failed (tests_front form is.front (row r) known is.least) ∙ is.sound;
+      valid = ap first_failed (tests_front form is.front (row r) known is.least) ∙ is.valid;
       rate = field_front 9 4 is.front (row r) (omega arith) least ∙ is.rate;
       block_size = field_front 13 4 is.front (row r) (omega arith) least ∙ is.block_size;
       depth = field_front 17 4 is.front (row r) (omega arith) least ∙ is.depth;
@@ -101,7 +95,7 @@ headed_begun form bytes j is all = record {
       count = sym (length-map is.rows bytes_in) ∙ ap length is.points ∙ all;
       base = is.base;
       gate = is.gate;
-      sound = is.sound;
+      valid = is.valid;
       rate = is.rate;
       block_size = is.block_size;
       depth = is.depth;
@@ -118,7 +112,7 @@ headed_begun form bytes j is all = record {
 pub headed_format : (form : Form) (bytes : List ℕ) (j : Contents) → IsForm form → IsHeaded form bytes j
     → IsFormat j.rate j.block_size j.depth
 headed_format form bytes j known is =
-    let format = numbers_sound form is.front known is.sound in
+    let format = numbers_valid form is.front known is.valid in
     record {
       rate_least = omega (arith, format.rate_least, is.rate);
       even = subst (λ (m : ℕ). m % 2 ≡ 0) is.block_size format.even;
@@ -129,13 +123,13 @@ headed_format form bytes j known is =
     }
 
 pub headed_base : (form : Form) (bytes : List ℕ) (j : Contents) → IsForm form → IsHeaded form bytes j → HasBase j.base
-headed_base form bytes j known is = subst HasBase is.base (base_sound form is.front known is.sound)
+headed_base form bytes j known is = subst HasBase is.base (base_valid form is.front known is.valid)
 
 pub headed_counts : (form : Form) (bytes : List ℕ) (j : Contents) → IsForm form → IsHeaded form bytes j
     → HasCounts j.depth j.base
 headed_counts form bytes j known is =
     subst (λ (d : ℕ). HasCounts d j.base) is.depth
-    (subst (HasCounts (field 17 4 is.front)) is.base (counts_sound form is.front known is.sound))
+    (subst (HasCounts (field 17 4 is.front)) is.base (counts_valid form is.front known is.valid))
 
 -- What bytes are that begin so, with the points that follow.
 pub record ReadOn (form : Form) (bytes : List ℕ) (j : Contents) : Type 0 where
@@ -179,7 +173,7 @@ cut_here form bytes j d is fewer ends = record {
     points = is.points;
     base = is.base;
     gate = is.gate;
-    sound = is.sound;
+    valid = is.valid;
     rate = is.rate;
     block_size = is.block_size;
     depth = is.depth;

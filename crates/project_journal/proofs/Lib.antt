@@ -15,7 +15,7 @@ pub mod AnyFormats
 mod Starts
 mod Made
 pub mod Parses
-mod Splits
+pub mod Splits
 mod RowParts
 mod Standing
 pub mod Begun
@@ -29,5 +29,5 @@ pub mod ReadOnce
 pub mod Readables
 pub mod Readings
 pub mod FirstReadings
-mod Headers
+pub mod Headers
 pub mod Bases

@@ -1,16 +1,12 @@
 -- The journal of a new project, as it is written.
 use Rattle.std.proofs.Common.{◌≡◌, ◌⊎◌, inl, inr, ℕ, ◌^◌, ◌<◌, List, [], ◌∷◌, ◌++◌, length, refl, ap, ◌∙◌, arith}
 use Rattle.std.proofs.Common.{length-append}
-use Rattle.disk_model.specs.Disk.{Files}
-use Rattle.disk_model.specs.declared.store.Store.{Ghosts}
+use Rattle.disk_model.specs.{Disk.Files, declared.store.Store.Ghosts}
 use Rattle.project_journal.specs.Gate.{IsShut, IsOpen, IsShutOrOpen, IsDurable, EachNow}
-use Rattle.project_journal.specs.Header.{IsFormat, form_3}
 use Rattle.project_journal.specs.Journal.{fresh, HasLog, IsAt}
-use Rattle.project_journal.specs.Packing.{header_row, IsText}
-use Rattle.project_journal.specs.Start.{NoProject}
-use Rattle.project_journal.proofs.Packed.{text_log, text_there}
-use Rattle.project_journal.proofs.Starts.{fresh_shut, none_shut}
-use Rattle.project_journal.proofs.Texts.{text_is}
+use Rattle.project_journal.specs.{Header.IsFormat, Header.form_3, Packing.header_row, Packing.IsText, Start.NoProject}
+use Rattle.project_journal.proofs.{Packed.text_log, Packed.text_there, Starts.fresh_shut, Starts.none_shut}
+use Rattle.project_journal.proofs.{Texts.text_is}
 
 module _ (rate block_size depth : ℕ) (row : List ℕ) (fits : IsFormat rate block_size depth) (below : rate < 2 ^ 32)
     (is : row ≡ header_row (fresh rate block_size depth) ++ 0 ∷ []) where

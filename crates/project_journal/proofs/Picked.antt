@@ -1,12 +1,13 @@
 -- One file is chosen at most, and where one is, no choice fails.
-use Rattle.std.proofs.Common.{◌≡◌, ◌⊎◌, inl, inr, ⊎_elim, ℕ, zero, suc, ◌<◌, ◌≤◌, Some, None, List, [], ◌∷◌, ◌++◌, refl, sym}
-use Rattle.std.proofs.Common.{◌∙◌, ap, subst, arith}
+use Rattle.std.proofs.Common.{◌≡◌, ◌⊎◌, inl, inr, ⊎_elim, ℕ, zero, suc, ◌<◌, ◌≤◌, Some, None, List, [], ◌∷◌, ◌++◌, refl}
+use Rattle.std.proofs.Common.{sym, ◌∙◌, ap, subst, arith}
 use Rattle.std.proofs.lemmas.Bool.{cases_eq, eq-eqb}
 use Rattle.disk_model.specs.Disk.{Files, bytes_of}
-use Rattle.project_journal.specs.declared.fault.Damaged.{Damaged}
-use Rattle.project_journal.specs.Choice.{FailsIn, HasChoiceFault, IsPicked, choice_tests, generation_at, newer_test, other_file}
-use Rattle.project_journal.specs.Header.{IsProject, first_failed}
-use Rattle.project_journal.proofs.Headers.{differ, none_first}
+use Rattle.project_journal.specs.Choice.{FailsIn, HasChoiceFault, IsPicked, choice_tests, generation_at, newer_test}
+use Rattle.project_journal.specs.Choice.{other_file}
+use Rattle.project_journal.specs.{declared.fault.Damaged.Damaged, Header.IsProject, Header.first_failed}
+use Rattle.project_journal.proofs.Headers.{none_first}
+use Rattle.pcm_base.proofs.ListFacts.{differ}
 
 pub zero_or_one : (n : ℕ) → n ≤ 1 → (n ≡ 0) ⊎ (n ≡ 1)
 zero_or_one zero few = inl refl
@@ -39,10 +40,10 @@ newer_passes first second not =
     ) refl
 
 -- both can be chosen, and one is older
-both_sound : (first second : List ℕ) (file : ℕ) (d : Damaged) → first_failed (choice_tests first) ≡ None
+both_valid : (first second : List ℕ) (file : ℕ) (d : Damaged) → first_failed (choice_tests first) ≡ None
     → first_failed (choice_tests second) ≡ None → (generation_at first ≡ generation_at second → ⊥)
     → FailsIn first second file d → ⊥
-both_sound first second file d one two not fails = ⊎_elim
+both_valid first second file d one two not fails = ⊎_elim
     (λ here. let no : None ≡ Some d = sym one ∙ here.1 in absurd cc)
     (λ there.
     let all : first_failed (choice_tests second ++ newer_test first second ∷ []) ≡ None =
@@ -61,11 +62,11 @@ no_choice_fault picked files file d is fault = ⊎_elim
     by_first : IsPicked 0 files → ⊥
     by_first p =
         let older = p.newest fault.second in
-        both_sound (bytes_of (files 0)) (bytes_of (files 1)) file d (p.sound fault.second) older.sound
+        both_valid (bytes_of (files 0)) (bytes_of (files 1)) file d (p.valid fault.second) older.valid
         (λ e. omega (arith, e, older.lower)) fault.fails
 
     by_second : IsPicked 1 files → ⊥
     by_second p =
         let older = p.newest fault.first in
-        both_sound (bytes_of (files 0)) (bytes_of (files 1)) file d older.sound (p.sound fault.first)
+        both_valid (bytes_of (files 0)) (bytes_of (files 1)) file d older.valid (p.valid fault.first)
         (λ e. omega (arith, e, older.lower)) fault.fails

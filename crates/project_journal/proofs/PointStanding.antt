@@ -1,11 +1,10 @@
 -- What stands at a place of the points, by the front of the bytes from there on.
 use Rattle.std.proofs.Common.{◌≡◌, ⊎_elim, ℕ, ◌+◌, ◌-◌, ◌≤◌, min, max, List, ◌∷◌, length, take, refl, sym, ◌∙◌, ap}
 use Rattle.std.proofs.Common.{arith, length-drop}
-use Rattle.project_journal.specs.declared.records.Next.{Next}
 use Rattle.project_journal.specs.declared.records.Next.TheVariants.{Whole, Shut, Early}
-use Rattle.project_journal.specs.declared.window.Window.{Window}
 use Rattle.project_journal.specs.Rests.{stands, point_stands}
 use Rattle.project_journal.specs.Windows.{IsHeldAt, PointStandsAt, PointLiesIn, HasRoomFor, row_from}
+use Rattle.project_journal.specs.{declared.records.Next.Next, declared.window.Window.Window}
 use Rattle.project_journal.proofs.Standing.{HasEnough, same_field, stands_is, stands_len}
 
 -- whatever stands after the row

@@ -1,20 +1,15 @@
 -- What the choice of a file sees of a journal.
 use Rattle.std.proofs.Common.{◌≡◌, ◌⊎◌, inl, inr, ⊎_elim, ℕ, ◌+◌, ◌^◌, ◌<◌, ◌≤◌, min, max, None, List, [], ◌∷◌, ◌++◌}
 use Rattle.std.proofs.Common.{length, eqb, refl, sym, ◌∙◌, ap, subst, arith, append_assoc}
-use Rattle.std.proofs.lemmas.Bool.{eq-eqb, eqb-true}
-use Rattle.std.proofs.lemmas.List.{take-append-le}
+use Rattle.std.proofs.{lemmas.Bool.eq-eqb, lemmas.Bool.eqb-true, lemmas.List.take-append-le}
 use Rattle.std.specs.List.{flat_map}
 use Rattle.disk_model.specs.Disk.{Files, bytes_of}
 use Rattle.project_journal.specs.Choice.{IsOlder, generation_at, choice_tests}
-use Rattle.project_journal.specs.Fields.{field}
-use Rattle.project_journal.specs.Gate.{IsShut}
 use Rattle.project_journal.specs.Header.{Form, IsForm, first_failed, form_1, form_2, form_3, form_of, number_tests}
-use Rattle.project_journal.specs.declared.base.Base.{Base}
 use Rattle.project_journal.specs.Header.{base_tests, base_tests_in, last_tests, the_zeros, wide_tests}
-use Rattle.project_journal.specs.declared.fault.Damaged.{Damaged}
 use Rattle.project_journal.specs.Journal.{Log, entry, IsHeader, IsLog}
-use Rattle.project_journal.proofs.Formats.{passed}
-use Rattle.project_journal.proofs.Parses.{field_take}
+use Rattle.project_journal.specs.{Fields.field, Gate.IsShut, declared.base.Base.Base, declared.fault.Damaged.Damaged}
+use Rattle.project_journal.proofs.{Formats.passed, Parses.field_take}
 
 -- a field of the first 32 bytes
 pub field_front : (at n : ℕ) (head rest : List ℕ) → at + n ≤ 32 → 32 ≤ length head
@@ -75,7 +70,7 @@ bound_passes bytes e =
 chosen_1 : (file : ℕ) (head : List ℕ) (log : Log) → IsHeader (form_1 file) head log
     → Chosen head log.base.generation
 chosen_1 file head log is =
-    let numbers = numbers_pass 1 head (both_pass (number_tests 1 head) (the_zeros head) is.sound).0 in
+    let numbers = numbers_pass 1 head (both_pass (number_tests 1 head) (the_zeros head) is.valid).0 in
     let none : 0 ≡ log.base.generation = ap (λ (b : Base). b.generation) is.base in
     record {
       magic = numbers.magic;
@@ -87,7 +82,7 @@ chosen_1 file head log is =
 chosen_2 : (file : ℕ) (head : List ℕ) (log : Log) → IsHeader (form_2 file) head log
     → Chosen head log.base.generation
 chosen_2 file head log is =
-    let parts = both_pass (number_tests 2 head) (base_tests head ++ last_tests head) is.sound in
+    let parts = both_pass (number_tests 2 head) (base_tests head ++ last_tests head) is.valid in
     let numbers = numbers_pass 2 head parts.0 in
     let bound = bound_passes head (both_pass (base_tests head) (last_tests head) parts.1).0 in
     let same : field 21 8 head ≡ log.base.generation = ap (λ (b : Base). b.generation) is.base in
@@ -101,7 +96,7 @@ chosen_2 file head log is =
 chosen_3 : (file : ℕ) (head : List ℕ) (log : Log) → IsHeader (form_3 file) head log
     → Chosen head log.base.generation
 chosen_3 file head log is =
-    let parts = both_pass (number_tests 3 head) (base_tests head ++ wide_tests head) is.sound in
+    let parts = both_pass (number_tests 3 head) (base_tests head ++ wide_tests head) is.valid in
     let numbers = numbers_pass 3 head parts.0 in
     let bound = bound_passes head (both_pass (base_tests head) (wide_tests head) parts.1).0 in
     let same : field 21 8 head ≡ log.base.generation = ap (λ (b : Base). b.generation) is.base in
@@ -127,17 +122,17 @@ pub form_by : (form : Form) (head : List ℕ) (log : Log) → IsForm form → Is
     → form_of (field 5 4 head) form.file ≡ form
 form_by form head log known is = ⊎_elim
     (λ one.
-    let sound = (subst (λ (f : Form). IsHeader f head log) one is).sound in
-    let numbers = numbers_pass 1 head (both_pass (number_tests 1 head) (the_zeros head) sound).0 in
+    let valid = (subst (λ (f : Form). IsHeader f head log) one is).valid in
+    let numbers = numbers_pass 1 head (both_pass (number_tests 1 head) (the_zeros head) valid).0 in
     ap (λ (v : ℕ). form_of v form.file) numbers.version_is ∙ sym one)
     (λ later. ⊎_elim
     (λ two.
-    let sound = (subst (λ (f : Form). IsHeader f head log) two is).sound in
-    let numbers = numbers_pass 2 head (both_pass (number_tests 2 head) (base_tests head ++ last_tests head) sound).0 in
+    let valid = (subst (λ (f : Form). IsHeader f head log) two is).valid in
+    let numbers = numbers_pass 2 head (both_pass (number_tests 2 head) (base_tests head ++ last_tests head) valid).0 in
     ap (λ (v : ℕ). form_of v form.file) numbers.version_is ∙ sym two)
     (λ three.
-    let sound = (subst (λ (f : Form). IsHeader f head log) three is).sound in
-    let numbers = numbers_pass 3 head (both_pass (number_tests 3 head) (base_tests head ++ wide_tests head) sound).0 in
+    let valid = (subst (λ (f : Form). IsHeader f head log) three is).valid in
+    let numbers = numbers_pass 3 head (both_pass (number_tests 3 head) (base_tests head ++ wide_tests head) valid).0 in
     ap (λ (v : ℕ). form_of v form.file) numbers.version_is ∙ sym three)
     later)
     known
@@ -198,6 +193,6 @@ pub log_older : (form : Form) (front : List ℕ) (log : Log) (file g : ℕ) (c :
 log_older form front log file g c known is shut later =
     let seen = log_seen form front log file c known is shut in
     record {
-      sound = choice_passes (bytes_of (c file)) log.base.generation seen;
+      valid = choice_passes (bytes_of (c file)) log.base.generation seen;
       lower = omega (arith, seen.is, later);
     }

@@ -1,18 +1,14 @@
 -- A header of version 3 as it is written.
 use Rattle.std.proofs.Common.{◌≡◌, ◌≢◌, ℕ, ◌+◌, ◌-◌, ◌^◌, ◌<◌, ◌≤◌, min, max, None, List, [], ◌∷◌, ◌++◌, length, map}
 use Rattle.std.proofs.Common.{replicate, refl, sym, ◌∙◌, ap, subst, arith}
-use Rattle.std.proofs.lemmas.Bool.{eq-eqb}
-use Rattle.std.proofs.lemmas.List.{append-nil, length-map}
-use Rattle.std.specs.List.{flat_map, AllByRecursion}
-use Rattle.byteorder.specs.Endian.{little_number, little_bytes}
-use Rattle.byteorder.specs.Numbers.{little_number-reads_back}
-use Rattle.std.specs.Prelude.{slice_index}
-use Rattle.project_journal.specs.Fields.{field}
+use Rattle.std.proofs.{lemmas.Bool.eq-eqb, lemmas.List.append-nil, lemmas.List.length-map}
+use Rattle.std.specs.{List.flat_map, List.AllByRecursion, Prelude.slice_index}
+use Rattle.byteorder.specs.{Endian.little_number, Endian.little_bytes, Numbers.little_number-reads_back}
 use Rattle.project_journal.specs.Header.{IsFormat, IsBase, first_failed, nearest_size, number_tests, base_tests_in}
-use Rattle.project_journal.specs.declared.base.Base.{Base}
 use Rattle.project_journal.specs.Header.{base_fields, form_3, wide_header_tests, wide_tests_in, zero_tests}
 use Rattle.project_journal.specs.Journal.{Log, Row, row, bytes_in, IsRow, IsHeader}
 use Rattle.project_journal.specs.Packing.{sized, header_row, IsText, AreShort}
+use Rattle.project_journal.specs.{Fields.field, declared.base.Base.Base}
 
 row_of : List ℕ → Row
 row_of point = record { size = little_bytes 4 (length point); bytes = point }
@@ -40,7 +36,7 @@ rows_points [] = refl
 rows_points (p ∷ ps) = ap (λ (l : List (List ℕ)). p ∷ l) (rows_points ps)
 
 -- no test fails where each field has its nearest value
-sound_base : (bytes : List ℕ) → field 1 4 bytes ≡ 827214401 → field 5 4 bytes ≡ 3
+valid_base : (bytes : List ℕ) → field 1 4 bytes ≡ 827214401 → field 5 4 bytes ≡ 3
     → max 1 (field 9 4 bytes) ≡ field 9 4 bytes → nearest_size (field 13 4 bytes) ≡ field 13 4 bytes
     → min 65536 (max 1 (field 17 4 bytes)) ≡ field 17 4 bytes → min (2 ^ 62) (field 21 8 bytes) ≡ field 21 8 bytes
     → min (2 ^ 62) (field 29 8 bytes) ≡ field 29 8 bytes
@@ -51,7 +47,7 @@ sound_base : (bytes : List ℕ) → field 1 4 bytes ≡ 827214401 → field 5 4 
     → 64 ≤ length bytes → slice_index bytes 61 ≡ 16 → first_failed (zero_tests 2 62 bytes) ≡ None
     → first_failed (wide_header_tests bytes) ≡ None
 unfolding number_tests base_tests_in wide_tests_in
-sound_base bytes magic version rate block_size depth generation commit block track count cursor long width zeros =
+valid_base bytes magic version rate block_size depth generation commit block track count cursor long width zeros =
     rw (
       eq-eqb 827214401 (field 1 4 bytes) (sym magic),
       eq-eqb 3 (field 5 4 bytes) (sym version),
@@ -141,12 +137,12 @@ module _ (log : Log) (gate : ℕ) (format : IsFormat log.rate log.block_size log
     cursor = cursor_is i;
   }
 
-  head_sound : first_failed (wide_header_tests head) ≡ None
-  head_sound =
+  head_valid : first_failed (wide_header_tests head) ≡ None
+  head_valid =
       let size : nearest_size log.block_size ≡ log.block_size =
       rw format.even (omega (arith, format.block_least, format.block_most)) in
       let depth : min 65536 (max 1 log.depth) ≡ log.depth = omega (arith, format.depth_least, format.depth_most) in
-      sound_base head refl refl (omega (arith, rate_is, format.rate_least))
+      valid_base head refl refl (omega (arith, rate_is, format.rate_least))
       (subst (λ (n : ℕ). nearest_size n ≡ n) (sym size_is) size)
       (subst (λ (n : ℕ). min 65536 (max 1 n) ≡ n) (sym depth_is) depth)
       (omega (arith, generation_is, is.generation)) (omega (arith, commit_is, is.commit))
@@ -165,7 +161,7 @@ module _ (log : Log) (gate : ℕ) (format : IsFormat log.rate log.block_size log
     count = length-map log.points row_of ∙ many;
     base = base_is;
     gate = not_shut;
-    sound = head_sound;
+    valid = head_valid;
     rate = rate_is;
     block_size = size_is;
     depth = depth_is;

@@ -1,23 +1,16 @@
 -- Records that are added together make the log with all their bodies more.
-use Rattle.std.proofs.Common.{◌≡◌, ◌≢◌, ℕ, ◌+◌, ◌≤◌, Some, List, [], ◌∷◌, ◌++◌, length, map, drop, refl, sym, ◌∙◌, ap, suc, ◌-◌, take}
-use Rattle.std.proofs.Common.{arith, inl, inr, append_assoc, length-append, subst}
+use Rattle.std.proofs.Common.{◌≡◌, ◌≢◌, ℕ, ◌+◌, ◌≤◌, Some, List, [], ◌∷◌, ◌++◌, length, map, drop, refl, sym, ◌∙◌, ap}
+use Rattle.std.proofs.Common.{suc, ◌-◌, take, arith, inl, inr, append_assoc, length-append, subst}
 use Rattle.std.proofs.lemmas.List.{append-nil, length-drop, take_all}
-use Rattle.std.specs.List.{flat_map, AllByRecursion}
+use Rattle.std.specs.{List.flat_map, List.AllByRecursion, Prelude.IsTrue}
 use Rattle.byteorder.specs.Endian.{little_bytes}
-use Rattle.std.specs.Prelude.{IsTrue}
 use Rattle.disk_model.specs.Disk.{Files, SameElsewhere}
-use Rattle.disk_model.specs.Frames.{Changed}
-use Rattle.disk_model.specs.MomentLaws.{upto_refl}
-use Rattle.disk_model.specs.Room.{Room}
-use Rattle.disk_model.specs.declared.store.Store.{Ghosts}
-use Rattle.project_journal.specs.Choice.{IsNewest}
+use Rattle.disk_model.specs.{Frames.Changed, MomentLaws.upto_refl, Room.Room, declared.store.Store.Ghosts}
 use Rattle.project_journal.specs.Gate.{IsShut, IsOpen, HasGate, IsShutOrOpen, IsDurable, EachNow, EachSince}
-use Rattle.project_journal.specs.Header.{Form}
-use Rattle.project_journal.specs.Journal.{AreWaiting, Entry, HasOneOf, IsAt, IsEntry, IsLog, IsShort, Log, body_of, entry}
-use Rattle.project_journal.specs.Journal.{entry_of, opened, rows_length, with_bodies, with_body}
-use Rattle.project_journal.proofs.Adds.{newest_since}
-use Rattle.project_journal.proofs.Kept.{newest_elsewhere}
-use Rattle.project_journal.proofs.Logs.{is_entry, longer, regrouped}
+use Rattle.project_journal.specs.Journal.{AreWaiting, Entry, HasOneOf, IsAt, IsEntry, IsLog, IsShort, Log, body_of}
+use Rattle.project_journal.specs.Journal.{entry, entry_of, opened, rows_length, with_bodies, with_body}
+use Rattle.project_journal.specs.{Choice.IsNewest, Header.Form}
+use Rattle.project_journal.proofs.{Adds.newest_since, Kept.newest_elsewhere, Logs.is_entry, Logs.longer, Logs.regrouped}
 
 -- one more of those that wait
 pub opened_more : (bodies : List (List ℕ)) (body : List ℕ)

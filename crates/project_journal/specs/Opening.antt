@@ -2,16 +2,12 @@
 use Rattle.std.specs.Prelude.{◌≡◌, ◌⊎◌, ℕ, zero, suc, ◌≤◌, None, Some, List, length, Option, Result, Ok, Err}
 use Rattle.pcm_base.specs.declared.limits.TheConstants.{COUNTER_LIMIT}
 use Rattle.disk_model.specs.Disk.{Files, bytes_of}
-use Rattle.project_journal.specs.declared.fault.Damaged.{Damaged as Fault}
-use Rattle.project_journal.specs.declared.fault.JournalFault.{JournalFault}
 use Rattle.project_journal.specs.declared.fault.JournalFault.TheVariants.{Absent, Exists, Damaged, SpaceSpent}
 use Rattle.project_journal.specs.declared.fault.JournalFault.TheVariants.{DiskFault, NoMemory}
-use Rattle.project_journal.specs.declared.reader.Reader.{Reader}
 use Rattle.project_journal.specs.Choice.{FailsIn, HasChoiceFault, IsPicked}
-use Rattle.project_journal.specs.Fields.{field}
 use Rattle.project_journal.specs.Header.{IsProject, form_of, first_failed}
-use Rattle.project_journal.specs.Reader.{reader_form}
-use Rattle.project_journal.specs.Start.{NoProject}
+use Rattle.project_journal.specs.{declared.fault.Damaged.Damaged as Fault, declared.fault.JournalFault.JournalFault}
+use Rattle.project_journal.specs.{declared.reader.Reader.Reader, Fields.field, Reader.reader_form, Start.NoProject}
 
 -- a choice between the files, of which neither may hold a project
 abbrev pub Chooses : Files → Result (Option ℕ) JournalFault → Type 0
@@ -33,7 +29,7 @@ pub record IsStarted (file : ℕ) (bytes : List ℕ) (r : Reader) : Type 0 where
   pub project : IsProject bytes
   pub same : r.window.file ≡ file
   pub version : r.version ≡ field 5 4 bytes
-  pub sound : first_failed ((form_of (field 5 4 bytes) file).tests bytes) ≡ None
+  pub valid : first_failed ((form_of (field 5 4 bytes) file).tests bytes) ≡ None
 
 pub record FailsToStart (file : ℕ) (bytes : List ℕ) (told : ℕ) (fault : Fault) : Type 0 where
   pub project : IsProject bytes
@@ -72,7 +68,7 @@ ChoosesNewer first second (Err _) = ⊥
 pub record IsOpened (files : Files) (r : Reader) : Type 0 where
   pub picked : IsPicked r.window.file files
   pub version : r.version ≡ field 5 4 (bytes_of (files r.window.file))
-  pub sound : first_failed ((reader_form r).tests (bytes_of (files r.window.file))) ≡ None
+  pub valid : first_failed ((reader_form r).tests (bytes_of (files r.window.file))) ≡ None
 
 -- the first fault of the header that is chosen
 pub record HasHeaderFault (files : Files) (file : ℕ) (fault : Fault) : Type 0 where

@@ -2,12 +2,9 @@
 use Rattle.std.specs.Prelude.{◌≡◌, ◌≢◌, ◌⊎◌, ◌↔◌, ℕ, ◌+◌, ◌^◌, ◌<◌, Bool, IsTrue, IsSome, List, [], ◌∷◌, ◌++◌, length}
 use Rattle.std.specs.List.{flat_map}
 use Rattle.byteorder.specs.Endian.{little_bytes}
-use Rattle.disk_model.specs.Disk.{Files}
-use Rattle.disk_model.specs.Room.{Room}
-use Rattle.disk_model.specs.declared.store.Store.{Ghosts}
-use Rattle.project_journal.specs.Choice.{other_file}
-use Rattle.project_journal.specs.Header.{Form, IsForm, form_3, base_row}
-use Rattle.project_journal.specs.Journal.{Log, HasLog, IsAt, IsHeader}
+use Rattle.disk_model.specs.{Disk.Files, Room.Room, declared.store.Store.Ghosts}
+use Rattle.project_journal.specs.{Choice.other_file, Header.Form, Header.IsForm, Header.form_3, Header.base_row}
+use Rattle.project_journal.specs.{Journal.Log, Journal.HasLog, Journal.IsAt, Journal.IsHeader}
 
 -- a point after its length
 abbrev pub sized : List ℕ → List ℕ

@@ -1,13 +1,9 @@
 -- What tracks of blocks mean, and which blocks they name.
-use Rattle.std.specs.Prelude.{List, map}
-use Rattle.std.specs.List.{flat_map}
-use Rattle.pcm_base.specs.declared.block.BlockRef.{BlockRef}
-use Rattle.pcm_base.specs.Pieces.{Sources}
-use Rattle.pcm_base.specs.Cells.{Project}
-use Rattle.pcm_base.specs.Cells as cells
-use Rattle.pcm_base.specs.History.{History}
+use Rattle.std.specs.{Prelude.List, Prelude.map, List.flat_map}
+use Rattle.pcm_base.specs.{declared.block.BlockRef.BlockRef, Pieces.Sources, Cells.Project, History.History}
 use Rattle.clip_track.specs.Clips.{layout_blocks, layout_cells}
 use Rattle.project_state.specs.declared.track.Track.{Track}
+use Rattle.pcm_base.specs.Cells as cells
 
 -- what tracks of blocks mean
 abbrev pub meant_track : Sources → Track → cells.Track

@@ -2,8 +2,7 @@
 use Rattle.std.specs.Prelude.{◌≡◌, ◌⊎◌, ◌<◌, ◌==◌, ◌&&◌, nat_lt, Bool, List, [], ◌∷◌, map, Option, Some, None}
 use Rattle.std.specs.List.{AllByRecursion}
 use Rattle.pcm_base.specs.History.{History}
-use Rattle.project_state.specs.declared.track.Track.{Track}
-use Rattle.project_state.specs.Tracks.{track_of}
+use Rattle.project_state.specs.{declared.track.Track.Track, Tracks.track_of}
 
 -- a track whose layout has no number
 abbrev pub unnumbered : Track → Track

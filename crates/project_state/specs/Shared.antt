@@ -1,8 +1,5 @@
 -- Tracks behind counts of owners.
-use Rattle.std.specs.Prelude.{List, map}
-use Rattle.std.specs.Arc.{arc_value}
-use Rattle.std.specs.declared.alloc.Global.{Global}
-use Rattle.std.specs.declared.sync.Arc.{Arc}
+use Rattle.std.specs.{Prelude.List, Prelude.map, Arc.arc_value, declared.alloc.Global.Global, declared.sync.Arc.Arc}
 use Rattle.project_state.specs.declared.track.Track.{Track}
 
 -- the tracks that are owned

@@ -1,21 +1,15 @@
 -- How many points go.
 use Rattle.std.proofs.Common.{◌≡◌, ◌⊎◌, ⊎_elim, inl, inr, refl, sym, ap, ◌∙◌, subst, ℕ, zero, suc, ◌+◌, ◌-◌, ◌≤◌, ◌<◌}
-use Rattle.std.proofs.Common.{min}
-use Rattle.std.proofs.Common.{true, false, List, [], ◌∷◌, ◌++◌, take, drop, slice_get, Some}
-use Rattle.std.proofs.Common.{arith, flat_map}
-use Rattle.std.proofs.lemmas.List.{drop-drop}
-use Rattle.std.proofs.lemmas.Grind.{flat_map-append}
-use Rattle.pcm_base.specs.declared.block.BlockRef.{BlockRef}
-use Rattle.pcm_base.specs.History.{History, points_of}
+use Rattle.std.proofs.Common.{min, true, false, List, [], ◌∷◌, ◌++◌, take, drop, slice_get, Some, arith, flat_map}
+use Rattle.std.proofs.{lemmas.List.drop-drop, lemmas.Grind.flat_map-append}
+use Rattle.pcm_base.specs.{declared.block.BlockRef.BlockRef, History.History, History.points_of}
 use Rattle.clip_track.specs.Clips.{layout_blocks}
 use Rattle.project_state.specs.declared.track.Track.{Track}
 use Rattle.project_state.proofs.Points.{drop_some}
 use Rattle.layout_uses.specs.Layouts.{AreNumbered, history_tracks, points_tracks, track_blocks}
-use Rattle.layout_uses.proofs.Histories.{points_split}
-use Rattle.layout_uses.proofs.Moves.{numbered_back}
-use Rattle.purge_size.specs.declared.fitting.Fitting.{Fitting}
-use Rattle.purge_size.specs.Fits.{AreSmall, HasTracks, TakesTracks}
-use Rattle.purge_size.specs.Sizes.{IsPurgeTo, size_without, sizes}
+use Rattle.layout_uses.proofs.{Histories.points_split, Moves.numbered_back}
+use Rattle.purge_size.specs.{declared.fitting.Fitting.Fitting, Fits.AreSmall, Fits.HasTracks, Fits.TakesTracks}
+use Rattle.purge_size.specs.{Sizes.IsPurgeTo, Sizes.size_without, Sizes.sizes}
 use Rattle.purge_size.proofs.Taking.{small_here, tracks_behind}
 
 -- fewer points have no more bytes
@@ -40,14 +34,6 @@ module _ (h : History (List Track)) where
   pub size_at : (f : Fitting) (i most : ℕ) → HasTracks (points_tracks (drop i ps)) f → f.most ≡ most
       → size_without h i ≤ most
   size_at f i most has is = omega (arith, has.blocks.size, is)
-
-  pub purge_all : (f : Fitting) (most : ℕ) → HasTracks (points_tracks (drop 0 ps)) f → f.most ≡ most
-      → IsPurgeTo h most 0
-  purge_all f most has is = record {
-    within = omega arith;
-    fits = inl (size_at f 0 most has is);
-    least = λ k lt. absurd (omega (arith, lt));
-  }
 
   module _ (numbered : AreNumbered (history_tracks h)) (j : ℕ) (p : List Track) (here : slice_get ps j ≡ Some p) where
     from_point : points_tracks (drop j ps) ≡ p ++ points_tracks (drop (j + 1) ps)

@@ -1,28 +1,17 @@
 -- Blocks and tracks that are taken one after another.
 use Rattle.std.proofs.Common.{◌≡◌, refl, sym, ap, ◌∙◌, subst, ℕ, ◌+◌, ◌≤◌, ◌<◌, Bool, true, false, List, [], ◌∷◌, ◌++◌}
-use Rattle.std.proofs.Common.{take, drop, append_assoc, take-append-drop, slice_get, Some, arith, flat_map}
+use Rattle.std.proofs.Common.{take, drop, append_assoc, take-append-drop, slice_get, Some, arith, flat_map, eqb, not}
+use Rattle.std.proofs.Common.{if◌then◌else◌}
 use Rattle.std.proofs.lemmas.Grind.{flat_map-append}
 use Rattle.pcm_base.specs.declared.block.BlockRef.{BlockRef}
-use Rattle.clip_track.specs.declared.clips.Clip.{Clip}
 use Rattle.clip_track.specs.Clips.{layout_blocks}
 use Rattle.project_state.specs.declared.track.Track.{Track}
 use Rattle.project_state.proofs.Points.{drop_some}
 use Rattle.layout_uses.specs.Layouts.{AreNumbered, has_number, track_blocks}
 use Rattle.layout_uses.proofs.Moves.{numbered_back}
-use Rattle.purge_size.specs.declared.fitting.Fitting.{Fitting}
 use Rattle.purge_size.specs.Fits.{AreSmall, HasBlocks, HasTracks, Takes, TakesTracks}
-use Rattle.purge_size.specs.Sizes.{sizes}
-use Rattle.std.proofs.Common.{eqb, not, if◌then◌else◌}
-use Rattle.purge_size.specs.Numbers.{has}
+use Rattle.purge_size.specs.{declared.fitting.Fitting.Fitting, Sizes.sizes, Numbers.has}
 use Rattle.purge_size.proofs.Sizes.{again_there, ids_there, sizes_behind, sizes_there}
-
-pub took_none : (a : Fitting) → Takes true [] a a
-took_none a = record {
-  taken = λ others was is. was;
-  over = λ others was is. absurd cc;
-  most = refl;
-  numbers = refl;
-}
 
 pub took_more : (fits : Bool) (xs ys : List BlockRef) (a b c : Fitting) → Takes true xs a b → Takes fits ys b c
     → Takes fits (ys ++ xs) a c
@@ -69,9 +58,6 @@ module _ {X : Type 0} (f : X → List BlockRef) (xs : List X) (i : ℕ) (x : X) 
       small_back (y ∷ ys) zs small = small_back ys zs small.1
 
   module _ (a b c : Fitting) (was : Takes true behind a b) where
-    pub took_here : Takes true (f x) b c → Takes true (flat_map f (drop i xs)) a c
-    took_here one = subst (λ z. Takes true z a c) (sym from_here) (took_more true behind (f x) a b c was one)
-
     pub took_no_more : Takes false (f x) b c → Takes false (flat_map f xs) a c
     took_no_more one = subst (λ z. Takes false z a c) (sym all_from)
         (took_not (flat_map f (take i xs)) (f x ++ behind) a c (took_more false behind (f x) a b c was one))
@@ -84,23 +70,7 @@ pub same_tracks : (fits is : Bool) (ts : List Track) (a b : Fitting) → fits �
     → TakesTracks is ts a b
 same_tracks fits is ts a b e takes = subst (λ (z : Bool). TakesTracks z ts a b) e takes
 
--- blocks themselves, and the clips of a layout
-pub single : (bs : List BlockRef) → flat_map (λ (b : BlockRef). b ∷ []) bs ≡ bs
-single [] = refl
-single (b ∷ bs) = ap (λ (z : List BlockRef). b ∷ z) (single bs)
-
-pub layout_flat : (cs : List Clip) → layout_blocks cs ≡ flat_map (λ (c : Clip). c.blocks) cs
-layout_flat [] = refl
-layout_flat (c ∷ cs) = ap (λ (z : List BlockRef). c.blocks ++ z) (layout_flat cs)
-
 -- ---- tracks
-
-pub tracks_none : (a : Fitting) → TakesTracks true [] a a
-tracks_none a = record {
-  taken = λ others numbered was is. was;
-  over = λ others numbered was is. absurd cc;
-  most = refl;
-}
 
 pub tracks_more : (fits : Bool) (xs ys : List Track) (a b c : Fitting) → TakesTracks true xs a b
     → TakesTracks fits ys b c → TakesTracks fits (ys ++ xs) a c
@@ -182,27 +152,6 @@ module _ (t : Track) (a c : Fitting) (there : (n : ℕ) → has c.numbers n ≡
         };
     over = λ others numbered was is. absurd cc;
     most = most;
-  }
-
-module _ (t : Track) (a b c : Fitting) (there : (n : ℕ) → has b.numbers n ≡
-    (if eqb t.number n then true else has a.numbers n))
-    (ids : b.ids ≡ a.ids) (most : b.most ≡ a.most) (left : b.left ≡ a.left) where
-  noted : (others : List Track) → HasTracks others a → HasBlocks (track_blocks others) b
-  noted others was = record {
-    ids = λ id. ap (λ s. has s id) ids ∙ was.blocks.ids id;
-    size = omega (arith, was.blocks.size, left, most);
-  }
-
-  pub track_first : (fits : Bool) → Takes fits (layout_blocks t.layout) b c → TakesTracks fits (t ∷ []) a c
-  track_first fits takes = record {
-    taken = λ others numbered was is. record {
-      blocks = takes.taken (track_blocks others) (noted others was) is;
-      numbers = λ n. ap (λ s. has s n) takes.numbers ∙ there n
-          ∙ ap (λ (s : Bool). if eqb t.number n then true else s) (was.numbers n);
-    };
-    over = λ others numbered was is.
-        omega (arith, takes.over (track_blocks others) (noted others was) is, most);
-    most = takes.most ∙ most;
   }
 
 pub not_false : (b : Bool) → not b ≡ false → b ≡ true

@@ -4,9 +4,7 @@ use Rattle.std.specs.List.{AllByRecursion}
 use Rattle.pcm_base.specs.declared.block.BlockRef.{BlockRef}
 use Rattle.project_state.specs.declared.track.Track.{Track}
 use Rattle.layout_uses.specs.Layouts.{AreNumbered, has_number, track_blocks}
-use Rattle.purge_size.specs.declared.fitting.Fitting.{Fitting}
-use Rattle.purge_size.specs.Numbers.{has}
-use Rattle.purge_size.specs.Sizes.{has_id, sizes}
+use Rattle.purge_size.specs.{declared.fitting.Fitting.Fitting, Numbers.has, Sizes.has_id, Sizes.sizes}
 
 -- the files of these blocks can be measured
 abbrev pub AreSmall : List BlockRef → Type 0

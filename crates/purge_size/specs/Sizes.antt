@@ -1,7 +1,6 @@
 -- How many bytes the files of blocks have, and how many points a purge drops for that.
 use Rattle.std.specs.Prelude.{◌≡◌, ◌⊎◌, ℕ, ◌+◌, ◌≤◌, ◌<◌, ◌==◌, Bool, true, false, if◌then◌else◌, List, [], ◌∷◌, drop}
-use Rattle.pcm_base.specs.declared.block.BlockRef.{BlockRef}
-use Rattle.pcm_base.specs.History.{History, points_of}
+use Rattle.pcm_base.specs.{declared.block.BlockRef.BlockRef, History.History, History.points_of}
 use Rattle.sample_block.specs.Spelling.{size_of}
 use Rattle.project_state.specs.declared.track.Track.{Track}
 use Rattle.layout_uses.specs.Layouts.{points_tracks, track_blocks}

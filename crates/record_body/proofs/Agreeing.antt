@@ -2,14 +2,10 @@
 use Rattle.std.proofs.Common.{◌≡◌, ℕ, zero, suc, ◌==◌, nat_lt, true, List, [], ◌∷◌, slice_get, Some, subst}
 use Rattle.std.proofs.lemmas.Bool.{eqb-true, ltb-true}
 use Rattle.clip_track.specs.declared.clips.Clip.{Clip}
-use Rattle.record_body.specs.declared.body.Body.{Body}
 use Rattle.record_body.specs.declared.body.Body.TheVariants.{Edit, Undo, Redo, Purge}
-use Rattle.project_state.specs.declared.track.Track.{Track}
-use Rattle.record_body.specs.Batches.{with_point}
-use Rattle.record_body.specs.Changes.{same_clips}
+use Rattle.record_body.specs.{declared.body.Body.Body, Batches.with_point, Changes.same_clips, Numbers.BodyAgrees}
 use Rattle.project_state.specs.Numbers.{AgreeById, AgreesIfAny, NumbersAgree, are_numbered_alike}
-use Rattle.record_body.specs.Numbers.{BodyAgrees}
-use Rattle.project_state.specs.Tracks.{track_of}
+use Rattle.project_state.specs.{declared.track.Track.Track, Tracks.track_of}
 use Rattle.record_body.proofs.ChangeLaws.{both, clips_refl}
 
 -- layouts of one number are the same clip by clip, so the numbers alone lead to the same choice

@@ -3,35 +3,30 @@ use Rattle.std.proofs.Common.{◌≡◌, refl, sym, ap, subst, ◌∙◌, ℕ, z
 use Rattle.std.proofs.Common.{length, drop, arith}
 use Rattle.pcm_base.specs.History.{History, recorded}
 use Rattle.model_laws.proofs.Again.{recorded_again, recorded_depth, recorded_last}
-use Rattle.record_body.specs.declared.body.Body.{Body}
-use Rattle.record_body.specs.declared.body.Body.TheVariants.{Edit}
+use Rattle.record_body.specs.{declared.body.Body.Body, declared.body.Body.TheVariants.Edit, Batches.after_bodies}
+use Rattle.record_body.specs.{Batches.bodies_in, Changes.spelling_in, Saved.IsNextIn, Saved.Saved, Saved.LeadIn}
+use Rattle.record_body.specs.{Saved.MayFollow, Saved.after_body, Saved.before_of, Saved.current_tracks}
+use Rattle.record_body.specs.{Saved.first_tracks, Laws.BatchesLead, Laws.HasShortEnds, Valid.IsValidBody}
 use Rattle.project_state.specs.declared.track.Track.{Track}
-use Rattle.record_body.specs.Batches.{after_bodies, bodies_in}
-use Rattle.record_body.specs.Changes.{spelling_in}
-use Rattle.record_body.specs.Kept.{IsNextIn, Kept, LeadIn, MayFollow, after_body, before_of, current_tracks}
-use Rattle.record_body.specs.Kept.{first_tracks}
-use Rattle.record_body.specs.Laws.{BatchesLead, HasShortEnds}
-use Rattle.record_body.specs.Sound.{IsSound}
-use Rattle.record_body.proofs.DeltaBack.{delta_read_back}
-use Rattle.record_body.proofs.ToldBack.{are_short}
+use Rattle.record_body.proofs.{DeltaBack.delta_read_back, DiffBack.are_short}
 
--- a sound body, as a journal of this version has it, may come next
-pub next_in : (version m : ℕ) (k : Kept) (body : Body) → 1 ≤ version → version ≤ 3 → 4 ≤ m → m < 2 ^ 32
-    → k.commit < 2 ^ 62 → HasShortEnds (current_tracks k.history) → IsSound m (before_of k) body
+-- a valid body, as a journal of this version has it, may come next
+pub next_in : (version m : ℕ) (k : Saved) (body : Body) → 1 ≤ version → version ≤ 3 → 4 ≤ m → m < 2 ^ 32
+    → k.commit < 2 ^ 62 → HasShortEnds (current_tracks k.history) → IsValidBody m (before_of k) body
     → MayFollow k.history body
     → IsNextIn version m k (spelling_in version (current_tracks k.history) body) body
-next_in zero m k body least most large small room short sound follows = absurd (omega (arith, least))
-next_in (suc zero) m k body least most large small room short sound follows =
-    record { spelled = refl; sound = sound; follows = follows }
-next_in (suc (suc zero)) m k body least most large small room short sound follows =
+next_in zero m k body least most large small room short valid follows = absurd (omega (arith, least))
+next_in (suc zero) m k body least most large small room short valid follows =
+    record { spelled = refl; valid = valid; follows = follows }
+next_in (suc (suc zero)) m k body least most large small room short valid follows =
     let current = current_tracks k.history in
-    let back = delta_read_back m (before_of k) current body large small room (are_short current short) sound in
-    record { tests = back.tests; says = back.says; sound = sound; follows = follows }
-next_in (suc (suc (suc zero))) m k body least most large small room short sound follows =
+    let back = delta_read_back m (before_of k) current body large small room (are_short current short) valid in
+    record { tests = back.tests; says = back.says; valid = valid; follows = follows }
+next_in (suc (suc (suc zero))) m k body least most large small room short valid follows =
     let current = current_tracks k.history in
-    let back = delta_read_back m (before_of k) current body large small room (are_short current short) sound in
-    record { tests = back.tests; says = back.says; sound = sound; follows = follows }
-next_in (suc (suc (suc (suc n)))) m k body least most large small room short sound follows =
+    let back = delta_read_back m (before_of k) current body large small room (are_short current short) valid in
+    record { tests = back.tests; says = back.says; valid = valid; follows = follows }
+next_in (suc (suc (suc (suc n)))) m k body least most large small room short valid follows =
     absurd (omega (arith, most))
 
 last_tracks : (front : List (List Track × ℕ)) (x : List Track × ℕ)
@@ -53,15 +48,15 @@ module _ (version m tag next_block next_track : ℕ) (current point : List Track
   abbrev last : Body
   last = Edit tag next_block next_track point
 
-  next_by : (k : Kept) (body : Body) → current_tracks k.history ≡ current → k.commit < 2 ^ 62
-      → IsSound m (before_of k) body → MayFollow k.history body → IsNextIn version m k (spelling_in version current body) body
-  next_by k body is room sound follows =
+  next_by : (k : Saved) (body : Body) → current_tracks k.history ≡ current → k.commit < 2 ^ 62
+      → IsValidBody m (before_of k) body → MayFollow k.history body → IsNextIn version m k (spelling_in version current body) body
+  next_by k body is room valid follows =
       subst (λ (ts : List Track). IsNextIn version m k (spelling_in version ts body) body) is
-      (next_in version m k body least most large small room (subst HasShortEnds (sym is) short) sound follows)
+      (next_in version m k body least most large small room (subst HasShortEnds (sym is) short) valid follows)
 
-  -- what is sound stays so after one of these records
-  later : (k : Kept) (ts : List Track) → IsSound m (before_of k) (Edit tag next_block next_track ts)
-      → IsSound m (before_of (after_body k still)) (Edit tag next_block next_track ts)
+  -- what is valid stays so after one of these records
+  later : (k : Saved) (ts : List Track) → IsValidBody m (before_of k) (Edit tag next_block next_track ts)
+      → IsValidBody m (before_of (after_body k still)) (Edit tag next_block next_track ts)
   later k ts is = record {
     tag_number = is.tag_number;
     tag_given = omega (arith, is.tag_given);
@@ -73,12 +68,12 @@ module _ (version m tag next_block next_track : ℕ) (current point : List Track
     track_later = omega arith;
     few = is.few;
     rising = is.rising;
-    sound = is.sound;
+    valid = is.valid;
     unnumbered = is.unnumbered;
   }
 
-  pub leads : (more : ℕ) (k : Kept) → current_tracks k.history ≡ current → 1 ≤ k.history.depth
-      → k.commit + more < 2 ^ 62 → IsSound m (before_of k) still → IsSound m (before_of k) last
+  pub leads : (more : ℕ) (k : Saved) → current_tracks k.history ≡ current → 1 ≤ k.history.depth
+      → k.commit + more < 2 ^ 62 → IsValidBody m (before_of k) still → IsValidBody m (before_of k) last
       → LeadIn version m k (bodies_in version current more last) (after_bodies k more last)
   leads zero k is some room one end = (last, next_by k last is (omega (arith, room)) end tt, refl)
   leads (suc more) k is some room one end =

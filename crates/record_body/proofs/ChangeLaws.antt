@@ -1,19 +1,17 @@
 -- What the writer's choice says.
-use Rattle.std.proofs.Common.{◌≡◌, ℕ, zero, suc, ◌-◌, ◌<◌, ◌≤◌, ◌==◌, ◌&&◌, nat_lt, Bool, true, false, inl, inr, List, []}
-use Rattle.std.proofs.Common.{◌∷◌, ◌++◌, length, take, drop, Option, Some, None, refl, sym, ◌∙◌, ap, ap₂, arith}
+use Rattle.std.proofs.Common.{◌≡◌, ℕ, zero, suc, ◌-◌, ◌<◌, ◌≤◌, ◌==◌, ◌&&◌, nat_lt, Bool, true, false, inl, inr, List}
+use Rattle.std.proofs.Common.{[], ◌∷◌, ◌++◌, length, take, drop, Option, Some, None, refl, sym, ◌∙◌, ap, ap₂, arith}
 use Rattle.std.proofs.Common.{take-append-drop}
 use Rattle.std.proofs.lemmas.Bool.{cases_Bool, eqb-true, eq-eqb, ltb-true}
-use Rattle.pcm_base.specs.declared.block.BlockRef.{BlockRef}
-use Rattle.pcm_base.specs.declared.sound.Side.{Side}
-use Rattle.pcm_base.specs.declared.sound.Side.TheVariants as side
+use Rattle.pcm_base.specs.{declared.block.BlockRef.BlockRef, declared.sound.Side.Side}
 use Rattle.clip_track.specs.declared.clips.Clip.{Clip}
-use Rattle.project_state.specs.declared.track.Track.{Track}
-use Rattle.project_state.specs.Numbers.{unnumbered}
+use Rattle.project_state.specs.{declared.track.Track.Track, Numbers.unnumbered}
 use Rattle.record_body.specs.Spelling.{side_byte, mute_byte}
 use Rattle.record_body.specs.Changes.{Same, is_block, common, same_blocks, same_clip, same_clips, front_clips}
 use Rattle.record_body.specs.Changes.{last_blocks, last_start, same_but_last, same_settings, change_of, with_last}
 use Rattle.record_body.specs.Changes.{tailed, changed}
 use Rattle.record_body.proofs.Commons.{common_least}
+use Rattle.pcm_base.specs.declared.sound.Side.TheVariants as side
 
 -- ---- tests that hold
 
@@ -69,14 +67,9 @@ clips_same (x ∷ xs) (y ∷ ys) e =
 
 side_same : (a b : Side) → side_byte a ≡ side_byte b → a ≡ b
 side_same side.Both side.Both e = refl
-side_same side.Both side.Left e = absurd (omega (arith, e))
-side_same side.Both side.Right e = absurd (omega (arith, e))
-side_same side.Left side.Both e = absurd (omega (arith, e))
 side_same side.Left side.Left e = refl
-side_same side.Left side.Right e = absurd (omega (arith, e))
-side_same side.Right side.Both e = absurd (omega (arith, e))
-side_same side.Right side.Left e = absurd (omega (arith, e))
 side_same side.Right side.Right e = refl
+side_same _ _ e = absurd (omega (arith, e))
 
 mute_same : (a b : Bool) → mute_byte a ≡ mute_byte b → a ≡ b
 mute_same true true e = refl
@@ -138,8 +131,7 @@ last_alike xs ys e =
     let bs = last_blocks ys in
     split_last xs bs (ltb-true 0 (length xs) one.first)
     ∙ ap₂ (λ (l : List Clip) (start : ℕ). l ++ clip_of start bs ∷ [])
-    (clips_same (front_clips xs) (front_clips ys) three.second)
-    (eqb-true (last_start xs) (last_start ys) three.first)
+    (clips_same (front_clips xs) (front_clips ys) three.second) (eqb-true (last_start xs) (last_start ys) three.first)
     ∙ sym (split_last ys bs (ltb-true 0 (length ys) two.first)) ∙ own_last ys
 
 -- what is common, and what comes after it

@@ -1,33 +1,31 @@
 -- Each way to tell a track passes its tests and is read back.
-use Rattle.std.proofs.Common.{◌≡◌, ℕ, ◌+◌, ◌-◌, ◌≤◌, ◌<◌, ◌==◌, ◌&&◌, Bool, true, false, List, []}
-use Rattle.std.proofs.Common.{◌∷◌, ◌++◌, length, drop, Option, Some, None, nat_lt, refl, sym, ap, ap₂, subst, ◌∙◌}
-use Rattle.std.proofs.Common.{arith, slice_index, if◌then◌else◌}
+use Rattle.std.proofs.Common.{◌≡◌, ℕ, ◌+◌, ◌-◌, ◌≤◌, ◌<◌, ◌==◌, ◌&&◌, Bool, true, false, List, [], ◌∷◌, ◌++◌, length}
+use Rattle.std.proofs.Common.{drop, Option, Some, None, nat_lt, refl, sym, ap, ap₂, subst, ◌∙◌, arith, slice_index}
+use Rattle.std.proofs.Common.{if◌then◌else◌}
 use Rattle.std.proofs.lemmas.Bool.{eqb-true}
 use Rattle.std.specs.List.{flat_map}
 use Rattle.byteorder.specs.Endian.{little_bytes}
-use Rattle.pcm_base.specs.Blocks.{blocks_len}
-use Rattle.pcm_base.specs.declared.block.BlockRef.{BlockRef}
+use Rattle.pcm_base.specs.{Blocks.blocks_len, declared.block.BlockRef.BlockRef}
 use Rattle.project_journal.specs.Fields.{field}
 use Rattle.record_body.specs.declared.limits.Limits.{Limits}
-use Rattle.project_state.specs.declared.track.Track.{Track}
 use Rattle.record_body.specs.Changes.{Change, Same, Whole, Tail, change_bytes, heard_bytes, last_blocks, last_start}
-use Rattle.record_body.specs.ChangePlaces.{mark_at, gone_at, fresh_at, whole_at, change_at, told_size}
+use Rattle.record_body.specs.ChangePlaces.{mark_at, gone_at, fresh_at, whole_at, change_at, diff_size}
 use Rattle.record_body.specs.ChangeTests.{mark_want, mark_tests, how_tests, whole_tests, is_lone, kept_blocks}
 use Rattle.record_body.specs.ChangeTests.{tail_head_tests, marked_tests, change_tests}
 use Rattle.record_body.specs.FirstFault.{place, blocks_tests, clips_tests}
 use Rattle.record_body.specs.Places.{blocks_at, side_of, clip_count, clips_at, clips_size}
 use Rattle.record_body.specs.Spelling.{block_bytes, clip_bytes, side_byte, mute_byte}
+use Rattle.project_state.specs.declared.track.Track.{Track}
 use Rattle.record_body.proofs.ClipsBack.{AreNarrow, has_blocks, blocks_pass, has_clips, clips_pass}
 use Rattle.record_body.proofs.FieldsBack.{NoneFails, both_pass, passes, byte_there, least_passes, most_passes, no_test}
 use Rattle.record_body.proofs.FieldsBack.{number_there, past}
-use Rattle.record_body.proofs.Parts.{length_blocks}
 use Rattle.record_body.proofs.TracksBack.{IsGoodTrack, side_back, side_most, mute_back, mute_most}
-use Rattle.record_body.proofs.GoodTails.{IsGoodTail}
+use Rattle.record_body.proofs.{Parts.length_blocks, GoodTails.IsGoodTail}
 
 -- a change that passes its tests
 pub record IsBack (l : Limits) (old : Option Track) (c : Change) (at : ℕ) (bytes rest : List ℕ) : Type 0 where
   pub change : change_at at bytes ≡ c
-  pub size : told_size at bytes ≡ 8 + length (change_bytes c)
+  pub size : diff_size at bytes ≡ 8 + length (change_bytes c)
   pub tests : NoneFails (change_tests l old at bytes)
 
 marks_pass : (at want mark : ℕ) → mark ≤ 2 → want ≡ mark → NoneFails (mark_tests at want mark)

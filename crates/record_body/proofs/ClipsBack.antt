@@ -1,25 +1,21 @@
 -- Blocks and clips that meet their bounds pass their tests and are read back.
-use Rattle.std.proofs.Common.{◌≡◌, ℕ, ◌+◌, ◌^◌, ◌≤◌, ◌<◌, Bool, List, [], ◌∷◌, ◌++◌, length}
-use Rattle.std.proofs.Common.{drop, nat_lt, refl, sym, ap, ap₂, subst, ◌∙◌}
-use Rattle.std.proofs.Common.{arith, append_assoc, length-append}
+use Rattle.std.proofs.Common.{◌≡◌, ℕ, ◌+◌, ◌^◌, ◌≤◌, ◌<◌, Bool, List, [], ◌∷◌, ◌++◌, length, drop, nat_lt, refl, sym}
+use Rattle.std.proofs.Common.{ap, ap₂, subst, ◌∙◌, arith, append_assoc, length-append}
 use Rattle.std.specs.List.{flat_map}
 use Rattle.byteorder.specs.Endian.{little_bytes}
-use Rattle.pcm_base.specs.declared.block.BlockRef.{BlockRef}
-use Rattle.pcm_base.specs.Blocks.{blocks_len}
-use Rattle.clip_track.specs.declared.clips.Clip.{Clip}
-use Rattle.clip_track.specs.Clips.{clip_end}
+use Rattle.pcm_base.specs.{declared.block.BlockRef.BlockRef, Blocks.blocks_len}
+use Rattle.clip_track.specs.{declared.clips.Clip.Clip, Clips.clip_end}
 use Rattle.project_journal.specs.Fields.{field}
 use Rattle.record_body.proofs.Parts.{length_clip}
-use Rattle.record_body.specs.declared.limits.Limits.{Limits}
+use Rattle.record_body.proofs.FieldsBack.{NoneFails, both_pass, least_passes, most_passes, no_test, number_there, past}
 use Rattle.record_body.specs.Places.{blocks_at, lens_at, block_count, clip_at, clip_end_at, clip_size, clips_at}
 use Rattle.record_body.specs.Places.{clips_size}
-use Rattle.record_body.specs.Spelling.{block_bytes, clip_bytes}
 use Rattle.record_body.specs.FirstFault.{least_len, block_tests, blocks_tests, clip_head_tests, clip_tests, clips_tests}
-use Rattle.record_body.proofs.FieldsBack.{NoneFails, both_pass, least_passes, most_passes, no_test, number_there, past}
+use Rattle.record_body.specs.{declared.limits.Limits.Limits, Spelling.block_bytes, Spelling.clip_bytes}
 
 -- a block that meets its bounds, after this many cells
 pub record IsGoodBlock (l : Limits) (several : Bool) (before : ℕ) (b : BlockRef) : Type 0 where
-  pub sound : 16 ≤ b.id
+  pub valid : 16 ≤ b.id
   pub given : b.id < l.next_block
   pub short : before + b.len ≤ 2 ^ 32
   pub some : 1 ≤ b.len
@@ -48,7 +44,7 @@ has_block b at bytes rest i n e =
 block_passes : (l : Limits) (several : Bool) (before : ℕ) (b : BlockRef) (at : ℕ) (bytes rest : List ℕ)
     → IsGoodBlock l several before b → HasBlock b at bytes rest → NoneFails (block_tests l several before at bytes)
 block_passes l several before b at bytes rest good has =
-    least_passes _ _ _ _ _ has.id good.sound
+    least_passes _ _ _ _ _ has.id good.valid
     (most_passes _ _ _ _ _ has.id (omega (arith, good.given))
     (most_passes _ _ _ _ _ has.len (omega (arith, good.short))
     (least_passes _ _ _ _ _ has.len good.some

@@ -1,20 +1,10 @@
 -- What two lists of blocks, or of clips, have in common.
-use Rattle.std.proofs.Common.{◌≡◌, ℕ, suc, ◌+◌, ◌-◌, ◌<◌, ◌≤◌, get_or, min, Bool, true, false, inl, inr, ◌⊎◌, List, [], ◌∷◌, length, drop}
-use Rattle.std.proofs.Common.{refl, sym, ◌∙◌, ap, ap₂, arith, ◌&&◌}
-use Rattle.std.proofs.lemmas.Bool.{cases_Bool, cases_lt}
-use Rattle.std.proofs.lemmas.List.{drop_all}
+use Rattle.std.proofs.Common.{◌≡◌, ℕ, suc, ◌-◌, ◌<◌, ◌≤◌, get_or, min, Bool, true, false, inl, inr, ◌⊎◌, List, [], ◌∷◌}
+use Rattle.std.proofs.Common.{length, drop, refl, sym, ◌∙◌, ap, arith, ◌&&◌}
+use Rattle.std.proofs.{lemmas.Bool.cases_Bool, lemmas.Bool.cases_lt, lemmas.List.drop_all}
 use Rattle.pcm_base.specs.declared.block.BlockRef.{BlockRef}
 use Rattle.clip_track.specs.declared.clips.Clip.{Clip}
 use Rattle.record_body.specs.Changes.{is_block, common, same_clip, same_clips, last_blocks, last_start}
-
-pub common_more : (xs ys : List BlockRef) (i : ℕ) (a b : BlockRef) → drop i xs ≡ a ∷ drop (i + 1) xs
-    → drop i ys ≡ b ∷ drop (i + 1) ys → is_block a b ≡ true
-    → common (drop i xs) (drop i ys) ≡ suc (common (drop (i + 1) xs) (drop (i + 1) ys))
-common_more xs ys i a b x y same = ap₂ common x y ∙ rw same refl
-
-pub common_stops : (xs ys : List BlockRef) (i : ℕ) (a b : BlockRef) → drop i xs ≡ a ∷ drop (i + 1) xs
-    → drop i ys ≡ b ∷ drop (i + 1) ys → is_block a b ≡ false → common (drop i xs) (drop i ys) ≡ 0
-common_stops xs ys i a b x y differ = ap₂ common x y ∙ rw differ refl
 
 common_nil : (xs : List BlockRef) → common xs [] ≡ 0
 common_nil [] = refl
@@ -42,19 +32,6 @@ common_least (x ∷ xs) (y ∷ ys) = elim (cases_Bool (is_block x y)) [
   | inl same ↦ rw same (omega (arith, common_least xs ys))
   | inr differ ↦ rw differ (omega arith)
 ]
-
-pub clips_more : (xs ys : List Clip) (i : ℕ) (a b : Clip) → drop i xs ≡ a ∷ drop (i + 1) xs
-    → drop i ys ≡ b ∷ drop (i + 1) ys → same_clip a b ≡ true
-    → same_clips (drop i xs) (drop i ys) ≡ same_clips (drop (i + 1) xs) (drop (i + 1) ys)
-clips_more xs ys i a b x y same = ap₂ same_clips x y ∙ rw same refl
-
-pub clips_differ : (xs ys : List Clip) (i : ℕ) (a b : Clip) → drop i xs ≡ a ∷ drop (i + 1) xs
-    → drop i ys ≡ b ∷ drop (i + 1) ys → same_clip a b ≡ false → same_clips (drop i xs) (drop i ys) ≡ false
-clips_differ xs ys i a b x y differ = ap₂ same_clips x y ∙ rw differ refl
-
-pub clips_end : (xs ys : List Clip) (i : ℕ) → length xs ≤ i → length ys ≤ i
-    → same_clips (drop i xs) (drop i ys) ≡ true
-clips_end xs ys i p q = ap₂ same_clips (drop_all i xs p) (drop_all i ys q)
 
 pub clips_unlike : (xs ys : List Clip) → (length xs ≡ length ys → ⊥) → same_clips xs ys ≡ false
 clips_unlike [] [] differ = absurd (differ refl)

@@ -2,19 +2,15 @@
 use Rattle.std.proofs.Common.{◌≡◌, ℕ, Bool, None, List, [], ◌∷◌, Result, Ok, Err, sym, subst, if◌then◌else◌}
 use Rattle.std.proofs.lemmas.Bool.{eq-eqb}
 use Rattle.std.specs.Prelude.{slice_index}
-use Rattle.project_journal.specs.Header.{first_failed}
-use Rattle.project_journal.specs.declared.fault.Damaged.{Damaged}
-use Rattle.record_body.specs.declared.body.Body.{Body}
+use Rattle.project_journal.specs.{Header.first_failed, declared.fault.Damaged.Damaged}
 use Rattle.record_body.specs.declared.body.Body.TheVariants.{Edit, Undo, Redo, Purge}
-use Rattle.record_body.specs.declared.limits.BadBody.{BadBody}
-use Rattle.record_body.specs.declared.limits.BadBody.TheVariants as bad
-use Rattle.record_body.specs.declared.limits.Before.{Before}
-use Rattle.project_state.specs.declared.track.Track.{Track}
 use Rattle.record_body.specs.ChangeTests.{commit_test, delta_edit_tests, delta_length_test, delta_kind_test}
 use Rattle.record_body.specs.ChangeTests.{delta_tests}
-use Rattle.record_body.specs.FirstFault.{Finds}
-use Rattle.record_body.specs.Told.{ReadsBody, ReadsEdit}
-use Rattle.record_body.proofs.ToldTracks.{finds_on}
+use Rattle.record_body.specs.{declared.body.Body.Body, declared.limits.BadBody.BadBody, declared.limits.Before.Before}
+use Rattle.record_body.specs.{FirstFault.Finds, Told.ReadsBody, Told.ReadsEdit}
+use Rattle.project_state.specs.declared.track.Track.{Track}
+use Rattle.record_body.proofs.DiffTracks.{finds_on}
+use Rattle.record_body.specs.declared.limits.BadBody.TheVariants as bad
 
 reads : (current : List Track) (bytes : List ℕ) (b : Body) → slice_index bytes 0 ≡ 5 → ReadsEdit current bytes b
     → ReadsBody current bytes b

@@ -1,23 +1,15 @@
 -- A body that is written by the current point is hardly longer than one that is written out: by a byte a track.
-use Rattle.std.proofs.Common.{◌≡◌, ℕ, ◌+◌, ◌*◌, ◌≤◌, ◌<◌, ◌&&◌, inl, inr, List, [], ◌∷◌, length, drop, Option}
-use Rattle.std.proofs.Common.{Some, None, arith, length-append, length-drop}
+use Rattle.std.proofs.Common.{◌≡◌, ℕ, ◌+◌, ◌*◌, ◌≤◌, ◌<◌, ◌&&◌, inl, inr, List, [], ◌∷◌, length, drop, Option, Some}
+use Rattle.std.proofs.Common.{None, arith, length-append, length-drop}
 use Rattle.std.proofs.lemmas.Bool.{cases_Bool}
 use Rattle.std.specs.List.{flat_map}
-use Rattle.pcm_base.specs.Sizes.{project_body_most}
-use Rattle.pcm_base.specs.Pieces.{Sources}
-use Rattle.clip_track.specs.declared.clips.Clip.{Clip}
-use Rattle.clip_track.specs.Clips.{layout_blocks}
-use Rattle.record_body.specs.declared.body.Body.{Body}
-use Rattle.record_body.specs.declared.body.Body.TheVariants.{Edit, Undo, Redo, Purge}
-use Rattle.project_state.specs.declared.track.Track.{Track}
-use Rattle.record_body.specs.Changes.{change_of, change_bytes, heard_bytes, told_bytes, delta_spelling, last_blocks}
-use Rattle.record_body.specs.Changes.{same_settings, same_clips, same_but_last, common}
-use Rattle.project_state.specs.Meaning.{meant}
-use Rattle.record_body.specs.Lengths.{AreLayouts, AreHalfFull, told_tracks}
-use Rattle.record_body.specs.Spelling.{track_bytes, spelling}
-use Rattle.project_state.specs.Tracks.{track_of}
-use Rattle.record_body.proofs.Lengths.{clips_bytes, tracks_short_more}
-use Rattle.record_body.proofs.Parts.{length_blocks}
+use Rattle.pcm_base.specs.{Sizes.project_body_most, Pieces.Sources}
+use Rattle.clip_track.specs.{declared.clips.Clip.Clip, Clips.layout_blocks}
+use Rattle.project_state.specs.{declared.track.Track.Track, Meaning.meant, Tracks.track_of}
+use Rattle.record_body.specs.Changes.{change_of, change_bytes, heard_bytes, diff_bytes, last_blocks, same_settings}
+use Rattle.record_body.specs.Changes.{same_clips, same_but_last, common}
+use Rattle.record_body.specs.{Lengths.AreLayouts, Lengths.AreHalfFull, Spelling.track_bytes}
+use Rattle.record_body.proofs.{Lengths.clips_bytes, Lengths.tracks_short_more, Parts.length_blocks}
 
 last_few : (cs : List Clip) → length (last_blocks cs) ≤ length (layout_blocks cs)
 last_few [] = omega arith
@@ -45,28 +37,21 @@ change_most (Some o) t = elim (cases_Bool (same_settings o t && same_clips o.lay
   ]
 ]
 
-told_most : (current : List Track) (t : Track) → length (told_bytes current t) ≤ length (track_bytes t) + 1
-told_most current t = omega (arith, change_most (track_of t.id current) t)
+diff_most : (current : List Track) (t : Track) → length (diff_bytes current t) ≤ length (track_bytes t) + 1
+diff_most current t = omega (arith, change_most (track_of t.id current) t)
 
-pub all_told_most : (current ts : List Track)
-    → length (flat_map (told_bytes current) ts) ≤ length (flat_map track_bytes ts) + length ts
-all_told_most current [] = omega arith
-all_told_most current (t ∷ ts) = omega (
+pub all_diff_most : (current ts : List Track)
+    → length (flat_map (diff_bytes current) ts) ≤ length (flat_map track_bytes ts) + length ts
+all_diff_most current [] = omega arith
+all_diff_most current (t ∷ ts) = omega (
   arith,
-  length-append (told_bytes current t) (flat_map (told_bytes current) ts),
+  length-append (diff_bytes current t) (flat_map (diff_bytes current) ts),
   length-append (track_bytes t) (flat_map track_bytes ts),
-  told_most current t,
-  all_told_most current ts,
+  diff_most current t,
+  all_diff_most current ts,
 )
 
-pub delta_most : (current : List Track) (body : Body)
-    → length (delta_spelling current body) ≤ length (spelling body) + length (told_tracks body)
-delta_most current (Edit tag next_block next_track ts) = omega (arith, all_told_most current ts)
-delta_most current Undo = omega arith
-delta_most current Redo = omega arith
-delta_most current (Purge n) = omega arith
-
-pub told_short : (src : Sources) (m : ℕ) (current ts : List Track) → 0 < m → length ts ≤ 64 → AreLayouts ts
-    → AreHalfFull m ts → 29 + length (flat_map (told_bytes current) ts) ≤ project_body_most m (meant src ts)
-told_short src m current ts some few all half =
-    omega (arith, all_told_most current ts, tracks_short_more src m ts some few all half)
+pub diff_short : (src : Sources) (m : ℕ) (current ts : List Track) → 0 < m → length ts ≤ 64 → AreLayouts ts
+    → AreHalfFull m ts → 29 + length (flat_map (diff_bytes current) ts) ≤ project_body_most m (meant src ts)
+diff_short src m current ts some few all half =
+    omega (arith, all_diff_most current ts, tracks_short_more src m ts some few all half)

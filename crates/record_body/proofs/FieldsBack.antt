@@ -1,14 +1,10 @@
 -- Numbers and bytes where they stand pass their tests.
-use Rattle.std.proofs.Common.{◌≡◌, ℕ, ◌+◌, ◌^◌, ◌≤◌, ◌<◌, eqb, List, [], ◌∷◌, ◌++◌, length}
-use Rattle.std.proofs.Common.{drop, slice_index, if◌then◌else◌, None, Some, refl, sym, ap, ◌∙◌}
-use Rattle.std.proofs.Common.{arith, drop-drop, get_or-drop, eq-eqb, inl, inr}
-use Rattle.std.proofs.Math.Seq.{drop-append_seam}
-use Rattle.std.proofs.lemmas.Bool.{cases_Bool}
-use Rattle.byteorder.specs.Endian.{little_number, little_bytes}
-use Rattle.byteorder.specs.Numbers.{little_number-reads_back}
-use Rattle.project_journal.specs.Fields.{field}
-use Rattle.project_journal.specs.Header.{first_failed}
-use Rattle.project_journal.specs.declared.fault.Damaged.{Damaged}
+use Rattle.std.proofs.Common.{◌≡◌, ℕ, ◌+◌, ◌^◌, ◌≤◌, ◌<◌, eqb, List, [], ◌∷◌, ◌++◌, length, drop, slice_index}
+use Rattle.std.proofs.Common.{if◌then◌else◌, None, Some, refl, sym, ap, ◌∙◌, arith, drop-drop, get_or-drop, eq-eqb, inl}
+use Rattle.std.proofs.Common.{inr}
+use Rattle.std.proofs.{Math.Seq.drop-append_seam, lemmas.Bool.cases_Bool}
+use Rattle.byteorder.specs.{Endian.little_number, Endian.little_bytes, Numbers.little_number-reads_back}
+use Rattle.project_journal.specs.{Fields.field, Header.first_failed, declared.fault.Damaged.Damaged}
 use Rattle.record_body.specs.FirstFault.{least, most}
 
 -- a number where its bytes stand

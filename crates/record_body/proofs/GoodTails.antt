@@ -1,21 +1,17 @@
 -- The end of a last clip, as the writer tells it, meets the bounds of a reader.
-use Rattle.std.proofs.Common.{◌≡◌, ℕ, zero, suc, ◌+◌, ◌-◌, ◌^◌, ◌≤◌, ◌<◌, ◌==◌, ◌&&◌, Bool, true, false, inl, inr, List, []}
-use Rattle.std.proofs.Common.{◌∷◌, length, take, drop, nat_lt, sym, ap, ap₂, subst, ◌∙◌}
-use Rattle.std.proofs.Common.{arith, length-drop, if◌then◌else◌}
+use Rattle.std.proofs.Common.{◌≡◌, ℕ, zero, suc, ◌+◌, ◌-◌, ◌^◌, ◌≤◌, ◌<◌, ◌==◌, ◌&&◌, Bool, true, false, inl, inr, List}
+use Rattle.std.proofs.Common.{[], ◌∷◌, length, take, drop, nat_lt, sym, ap, ap₂, subst, ◌∙◌, arith, length-drop}
+use Rattle.std.proofs.Common.{if◌then◌else◌}
 use Rattle.std.proofs.lemmas.Bool.{cases_Bool, eqb-true, lt-ltb, le-ltb}
-use Rattle.pcm_base.specs.Blocks.{blocks_len}
-use Rattle.pcm_base.specs.declared.block.BlockRef.{BlockRef}
-use Rattle.clip_track.specs.declared.clips.Clip.{Clip}
-use Rattle.clip_track.specs.Clips.{clip_end}
-use Rattle.record_body.specs.declared.limits.Limits.{Limits}
-use Rattle.project_state.specs.declared.track.Track.{Track}
+use Rattle.pcm_base.specs.{Blocks.blocks_len, declared.block.BlockRef.BlockRef}
+use Rattle.clip_track.specs.{declared.clips.Clip.Clip, Clips.clip_end}
 use Rattle.record_body.specs.Changes.{is_block, common, last_blocks, last_start, same_but_last}
 use Rattle.record_body.specs.ChangeTests.{is_lone, kept_blocks}
-use Rattle.record_body.specs.FirstFault.{least_len}
-use Rattle.record_body.proofs.ClipsBack.{AreGoodBlocks, AreGoodClips}
-use Rattle.record_body.proofs.TracksBack.{IsGoodTrack}
+use Rattle.record_body.specs.{declared.limits.Limits.Limits, FirstFault.least_len}
+use Rattle.project_state.specs.declared.track.Track.{Track}
 use Rattle.record_body.proofs.ChangeLaws.{last_starts, common_take, block_same}
-use Rattle.record_body.proofs.Commons.{common_least, common_most}
+use Rattle.record_body.proofs.{ClipsBack.AreGoodBlocks, ClipsBack.AreGoodClips, TracksBack.IsGoodTrack}
+use Rattle.record_body.proofs.{Commons.common_least, Commons.common_most}
 
 -- blocks that go from the end of the last clip, and that come
 pub record IsGoodTail (l : Limits) (o : Track) (gone : ℕ) (bs : List BlockRef) : Type 0 where

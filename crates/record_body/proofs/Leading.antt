@@ -1,29 +1,27 @@
 -- Records lead to one project at most.
 use Rattle.std.proofs.Common.{◌≡◌, ℕ, zero, suc, ◌≤◌, ◌<◌, ◌^◌, List, [], ◌∷◌, sym, ap, subst, ◌∙◌}
-use Rattle.record_body.specs.declared.body.Body.{Body}
-use Rattle.record_body.specs.Places.{body_at}
-use Rattle.record_body.proofs.ReadBack.{read_back}
-use Rattle.record_body.proofs.SaysOnce.{says_once}
-use Rattle.record_body.specs.Kept.{Kept, before_of, after_body, current_tracks, IsNext, IsNextIn, LeadIn, LeadTo}
+use Rattle.record_body.specs.Saved.{Saved, before_of, after_body, current_tracks, IsNext, IsNextIn, LeadIn}
+use Rattle.record_body.specs.{declared.body.Body.Body, Places.body_at}
+use Rattle.record_body.proofs.{ReadBack.read_back, SaysOnce.says_once}
 
 -- what its bytes say
-pub body_is : (m : ℕ) (k : Kept) (bytes : List ℕ) (body : Body) → 4 ≤ m → m < 2 ^ 32 → IsNext m k bytes body
+pub body_is : (m : ℕ) (k : Saved) (bytes : List ℕ) (body : Body) → 4 ≤ m → m < 2 ^ 32 → IsNext m k bytes body
     → body ≡ body_at bytes
 body_is m k bytes body least most next =
-    sym (read_back m (before_of k) body least most next.sound).1 ∙ ap body_at (sym next.spelled)
+    sym (read_back m (before_of k) body least most next.valid).1 ∙ ap body_at (sym next.spelled)
 
-pub body_once : (m : ℕ) (k : Kept) (bytes : List ℕ) (a b : Body) → 4 ≤ m → m < 2 ^ 32 → IsNext m k bytes a
+pub body_once : (m : ℕ) (k : Saved) (bytes : List ℕ) (a b : Body) → 4 ≤ m → m < 2 ^ 32 → IsNext m k bytes a
     → IsNext m k bytes b → a ≡ b
 body_once m k bytes a b least most p q = body_is m k bytes a least most p ∙ sym (body_is m k bytes b least most q)
 
-pub body_once_in : (version m : ℕ) (k : Kept) (bytes : List ℕ) (a b : Body) → 4 ≤ m → m < 2 ^ 32
+pub body_once_in : (version m : ℕ) (k : Saved) (bytes : List ℕ) (a b : Body) → 4 ≤ m → m < 2 ^ 32
     → IsNextIn version m k bytes a → IsNextIn version m k bytes b → a ≡ b
 body_once_in zero m k bytes a b least most p q = body_once m k bytes a b least most p q
 body_once_in (suc zero) m k bytes a b least most p q = body_once m k bytes a b least most p q
 body_once_in (suc (suc version)) m k bytes a b least most p q =
     says_once (current_tracks k.history) bytes a b p.says q.says
 
-pub lead_once_in : (version m : ℕ) (bodies : List (List ℕ)) (k a b : Kept) → 4 ≤ m → m < 2 ^ 32
+pub lead_once_in : (version m : ℕ) (bodies : List (List ℕ)) (k a b : Saved) → 4 ≤ m → m < 2 ^ 32
     → LeadIn version m k bodies a → LeadIn version m k bodies b → a ≡ b
 lead_once_in version m [] k a b least most p q = p ∙ sym q
 lead_once_in version m (bytes ∷ bodies) k a b least most p q =
@@ -31,7 +29,3 @@ lead_once_in version m (bytes ∷ bodies) k a b least most p q =
     let p2 : LeadIn version m (after_body k q.0) bodies a =
     subst (λ (x : Body). LeadIn version m (after_body k x) bodies a) same p.2 in
     lead_once_in version m bodies (after_body k q.0) a b least most p2 q.2
-
-pub lead_once : (m : ℕ) (bodies : List (List ℕ)) (k a b : Kept) → 4 ≤ m → m < 2 ^ 32 → LeadTo m k bodies a
-    → LeadTo m k bodies b → a ≡ b
-lead_once m bodies k a b least most p q = lead_once_in 1 m bodies k a b least most p q

@@ -1,22 +1,15 @@
 -- The body of an edit is as short as the cells of its project let it be.
 use Rattle.std.proofs.Common.{◌≡◌, ℕ, ◌+◌, ◌*◌, ◌≤◌, ◌<◌, List, [], ◌∷◌, ◌++◌, length, refl, arith, length-append}
-use Rattle.std.specs.List.{flat_map}
-use Rattle.std.specs.Int.{div_ceil}
-use Rattle.std.proofs.lemmas.Grind.{div_ceil_times}
-use Rattle.std.proofs.Math.Nat.{le_of_mul-le-mul_left}
-use Rattle.pcm_base.specs.declared.block.BlockRef.{BlockRef}
-use Rattle.pcm_base.specs.Pieces.{Sources}
+use Rattle.std.proofs.{lemmas.Grind.div_ceil_times, Math.Nat.le_of_mul-le-mul_left}
+use Rattle.std.specs.{List.flat_map, Int.div_ceil}
 use Rattle.pcm_base.specs.Blocks.{IsHalfFull, AllFull, block_lens, blocks_len}
-use Rattle.clip_track.specs.declared.clips.Clip.{Clip}
+use Rattle.pcm_base.specs.Sizes.{clip_count, sample_count, project_clips, project_samples, body_most}
+use Rattle.pcm_base.specs.{declared.block.BlockRef.BlockRef, Pieces.Sources}
 use Rattle.clip_track.specs.Clips.{AllHalfFull, IsLayout, layout_blocks, layout_cells}
-use Rattle.pcm_base.specs.Sizes.{clip_count, sample_count}
-use Rattle.clip_track.specs.Counts.{clips_len}
+use Rattle.clip_track.specs.{declared.clips.Clip.Clip, Counts.clips_len}
 use Rattle.clip_track.proofs.CellCounts.{clip_count-layout, sample_count-layout}
-use Rattle.project_state.specs.declared.track.Track.{Track}
-use Rattle.record_body.specs.Spelling.{clip_bytes, track_bytes}
-use Rattle.pcm_base.specs.Sizes.{project_clips, project_samples, body_most}
-use Rattle.project_state.specs.Meaning.{meant}
-use Rattle.record_body.specs.Lengths.{AreLayouts, AreHalfFull}
+use Rattle.project_state.specs.{declared.track.Track.Track, Meaning.meant}
+use Rattle.record_body.specs.{Spelling.clip_bytes, Spelling.track_bytes, Lengths.AreLayouts, Lengths.AreHalfFull}
 use Rattle.record_body.proofs.Parts.{length_clip}
 
 pub AreLayouts-push : (ts : List Track) (t : Track) → AreLayouts ts → IsLayout t.layout → AreLayouts (ts ++ t ∷ [])
@@ -81,8 +74,7 @@ module _ (src : Sources) where
   tracks_most : (m : ℕ) (ts : List Track) → AreLayouts ts → AreHalfFull m ts
       → m * tracks_blocks ts ≤ m * project_clips (meant src ts) + 2 * project_samples (meant src ts)
   tracks_most m [] all h = omega arith
-  tracks_most m (t ∷ ts) all h = sums
-      m (length (layout_blocks t.layout)) (clip_count (layout_cells src t.layout))
+  tracks_most m (t ∷ ts) all h = sums m (length (layout_blocks t.layout)) (clip_count (layout_cells src t.layout))
       (sample_count (layout_cells src t.layout))
       (tracks_blocks ts) (project_clips (meant src ts)) (project_samples (meant src ts)) (track_most m t all.0 h.0)
       (tracks_most m ts all.1 h.1)

@@ -4,34 +4,33 @@ pub mod Numbers
 pub mod Passing
 pub mod Sizes
 pub mod Steps
-pub mod SoundBodies
+pub mod ValidBodies
 pub mod Spelled
 pub mod FieldsBack
 pub mod ClipsBack
 pub mod TracksBack
-pub mod SoundBounds
+pub mod ValidBounds
 pub mod ReadBack
 pub mod HeaderPoints
 pub mod Lengths
-pub mod KeptBounds
-pub mod KeptOnce
-pub mod Unpacked
+pub mod SavedBounds
+pub mod SavedOnce
 pub mod NewProjects
 pub mod Leading
 pub mod Batched
 pub mod Commons
 pub mod Tails
-pub mod ToldTracks
+pub mod DiffTracks
 pub mod ChangeLaws
 pub mod Agreeing
 pub mod Measured
 pub mod DeltaBodies
 mod GoodTails
 mod ChangesBack
-pub mod ToldBack
+pub mod DiffBack
 pub mod DeltaBack
 pub mod ShortEnds
-pub mod ToldSound
+pub mod DiffValid
 mod ToldAdds
 pub mod ToldAlike
 pub mod NineBytes

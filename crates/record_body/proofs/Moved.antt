@@ -2,24 +2,20 @@
 use Rattle.std.proofs.Common.{◌≡◌, ℕ, zero, suc, ◌+◌, ◌-◌, ◌==◌, nat_lt, Bool, inl, inr, List, [], ◌∷◌, ◌++◌, length}
 use Rattle.std.proofs.Common.{Option, Some, None, refl, slice_index, if◌then◌else◌}
 use Rattle.std.proofs.lemmas.Bool.{cases_Bool, eq-eqb}
-use Rattle.pcm_base.specs.Blocks.{blocks_len}
-use Rattle.pcm_base.specs.declared.block.BlockRef.{BlockRef}
-use Rattle.project_journal.specs.Fields.{field}
-use Rattle.project_journal.specs.Header.{first_failed}
-use Rattle.project_journal.specs.declared.fault.Damaged.{Damaged}
-use Rattle.record_body.specs.declared.limits.Before.{Before}
-use Rattle.record_body.specs.declared.limits.Limits.{Limits}
-use Rattle.project_state.specs.declared.track.Track.{Track}
+use Rattle.pcm_base.specs.{Blocks.blocks_len, declared.block.BlockRef.BlockRef}
+use Rattle.project_journal.specs.{Fields.field, Header.first_failed, declared.fault.Damaged.Damaged}
 use Rattle.record_body.specs.Changes.{last_blocks, last_start}
-use Rattle.record_body.specs.ChangePlaces.{mark_at, gone_at, fresh_at, told_size}
+use Rattle.record_body.specs.ChangePlaces.{mark_at, gone_at, fresh_at, diff_size}
 use Rattle.record_body.specs.ChangeTests.{mark_want, mark_tests, how_tests, whole_tests, kept_blocks, tail_head_tests}
-use Rattle.record_body.specs.ChangeTests.{tail_tests, id_tests, marked_tests, change_tests, told_tests, all_told_tests}
+use Rattle.record_body.specs.ChangeTests.{tail_tests, id_tests, marked_tests, change_tests, diff_tests, all_diff_tests}
 use Rattle.record_body.specs.ChangeTests.{delta_edit_tests, delta_tests}
 use Rattle.record_body.specs.FirstFault.{place, block_tests, blocks_tests, clip_head_tests, clip_tests, clips_tests}
 use Rattle.record_body.specs.FirstFault.{head_tests, limits_at}
 use Rattle.record_body.specs.Places.{block_count, clip_size, clip_count, clip_end_at, track_count}
-use Rattle.project_state.specs.Tracks.{track_of}
-use Rattle.record_body.proofs.Passing.{Pass, all_pass, pass_parts}
+use Rattle.record_body.specs.{declared.limits.Before.Before, declared.limits.Limits.Limits}
+use Rattle.project_state.specs.{declared.track.Track.Track, Tracks.track_of}
+use Rattle.record_body.proofs.Passing.{pass_parts}
+use Rattle.project_journal.proofs.AnyFormats.{all_pass, Pass}
 
 pub pass_none : (tests : List Damaged) → Pass tests → first_failed tests ≡ None
 pass_none [] pass = refl
@@ -76,8 +72,7 @@ module _ (base : ℕ) (l : Limits) (bytes : List ℕ) where
     | inr some ↦ elim (cases_Bool (mark_at at bytes == 1)) [
       | inl one ↦ rw (some, one) (whole_moved (at + 1) (rw (some, one) at pass))
       | inr more ↦
-          rw (some, more)
-          (tail_moved (last_start old.layout) (last_blocks old.layout) at (rw (some, more) at pass))
+          rw (some, more) (tail_moved (last_start old.layout) (last_blocks old.layout) at (rw (some, more) at pass))
     ]
   ]
 
@@ -89,25 +84,25 @@ module _ (base : ℕ) (l : Limits) (bytes : List ℕ) where
       pass_both (mark_tests (place base (at + 8)) (mark_want old (mark_at at bytes)) (mark_at at bytes)) _ p.0
       (marked_moved old at p.1)
 
-  told_moved : (current : List Track) (count from at : ℕ) → Pass (all_told_tests l current count from at bytes)
-      → Pass (all_told_tests (moved base l) current count from at bytes)
-  told_moved current zero from at pass = tt
-  told_moved current (suc count) from at pass =
+  diff_moved : (current : List Track) (count from at : ℕ) → Pass (all_diff_tests l current count from at bytes)
+      → Pass (all_diff_tests (moved base l) current count from at bytes)
+  diff_moved current zero from at pass = tt
+  diff_moved current (suc count) from at pass =
       let old = track_of (field at 8 bytes) current in
-      let p = pass_parts (told_tests l current from at bytes) _ pass in
+      let p = pass_parts (diff_tests l current from at bytes) _ pass in
       let one = pass_parts (id_tests l from at bytes) (change_tests l old at bytes) p.0 in
-      pass_both (told_tests (moved base l) current from at bytes) _
+      pass_both (diff_tests (moved base l) current from at bytes) _
       (pass_both (id_tests (moved base l) from at bytes) (change_tests (moved base l) old at bytes) one.0
       (change_moved old at one.1))
-      (told_moved current count (field at 8 bytes + 1) (at + told_size at bytes) p.1)
+      (diff_moved current count (field at 8 bytes + 1) (at + diff_size at bytes) p.1)
 
 edit_moved : (m at : ℕ) (b : Before) (current : List Track) (bytes : List ℕ)
     → Pass (delta_edit_tests m b current bytes) → Pass (delta_edit_tests m (record b { at = at }) current bytes)
 edit_moved m at b current bytes pass =
     let p = pass_parts (head_tests b bytes)
-    (all_told_tests (limits_at m b bytes) current (track_count bytes) 0 29 bytes) pass in
+    (all_diff_tests (limits_at m b bytes) current (track_count bytes) 0 29 bytes) pass in
     pass_both (head_tests (record b { at = at }) bytes) _ p.0
-    (told_moved at (limits_at m b bytes) bytes current (track_count bytes) 0 29 p.1)
+    (diff_moved at (limits_at m b bytes) bytes current (track_count bytes) 0 29 p.1)
 
 by_kind : (m at : ℕ) (b : Before) (current : List Track) (bytes : List ℕ)
     → Pass (if slice_index bytes 0 == 5 then delta_edit_tests m b current bytes else [])

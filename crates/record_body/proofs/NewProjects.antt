@@ -1,7 +1,7 @@
 -- The journal of a new project begins with the project without commits.
 use Rattle.std.proofs.Common.{ℕ, refl, arith}
 use Rattle.project_journal.specs.Journal.{fresh}
-use Rattle.record_body.specs.Kept.{Begins, new_project}
+use Rattle.record_body.specs.Saved.{Begins, new_project}
 
 pub fresh_begins : (rate m depth : ℕ) → Begins (fresh rate m depth) (new_project depth)
 fresh_begins rate m depth = record {
@@ -11,6 +11,6 @@ fresh_begins rate m depth = record {
   next_block = refl;
   next_track = refl;
   commit = refl;
-  sound = ((record { few = omega arith; rising = tt; sound = tt }, omega arith), tt);
+  valid = ((record { few = omega arith; rising = tt; valid = tt }, omega arith), tt);
   unnumbered = (tt, tt);
 }

@@ -1,14 +1,11 @@
 -- Parts that are written one after another.
-use Rattle.std.proofs.Common.{◌≡◌, ℕ, ◌+◌, ◌*◌, ◌≤◌, ◌<◌, List, [], ◌∷◌, ◌++◌, length, take, drop}
-use Rattle.std.proofs.Common.{get_or, refl, sym, ap, ◌∙◌, arith, length-append}
-use Rattle.std.specs.List.{flat_map}
-use Rattle.std.proofs.lemmas.Grind.{flat_map-append}
+use Rattle.std.proofs.Common.{◌≡◌, ℕ, ◌+◌, ◌*◌, ◌≤◌, ◌<◌, List, [], ◌∷◌, ◌++◌, length, take, drop, get_or, refl, sym}
+use Rattle.std.proofs.Common.{ap, ◌∙◌, arith, length-append}
 use Rattle.std.proofs.lemmas.List.{append-nil, take_more, drop_more}
-use Rattle.std.proofs.lemmas.Slice.{take-put_mid}
-use Rattle.pcm_base.specs.declared.block.BlockRef.{BlockRef}
-use Rattle.pcm_base.specs.Blocks.{NoneEmpty, blocks_len}
-use Rattle.clip_track.specs.declared.clips.Clip.{Clip}
-use Rattle.clip_track.specs.Clips.{AreClips, clip_end, end_of}
+use Rattle.std.proofs.{lemmas.Grind.flat_map-append, lemmas.Slice.take-put_mid}
+use Rattle.std.specs.List.{flat_map}
+use Rattle.pcm_base.specs.{declared.block.BlockRef.BlockRef, Blocks.NoneEmpty, Blocks.blocks_len}
+use Rattle.clip_track.specs.{declared.clips.Clip.Clip, Clips.AreClips, Clips.clip_end, Clips.end_of}
 use Rattle.record_body.specs.Spelling.{block_bytes, clip_bytes}
 use borrow.Rule.Slice.PartMut.{put_mid}
 

@@ -1,30 +1,22 @@
--- The bytes of a sound body pass their tests, and say that body.
-use Rattle.std.proofs.Common.{◌≡◌, ℕ, ◌+◌, ◌^◌, ◌≤◌, ◌<◌, List, [], ◌++◌, length}
-use Rattle.std.proofs.Common.{drop, None, refl, sym, ap, ap₂, subst, ◌∙◌}
-use Rattle.std.proofs.Common.{arith}
+-- The bytes of a valid body pass their tests, and say that body.
+use Rattle.std.proofs.Common.{◌≡◌, ℕ, ◌+◌, ◌^◌, ◌≤◌, ◌<◌, List, [], ◌++◌, length, drop, None, refl, sym, ap, ap₂, subst}
+use Rattle.std.proofs.Common.{◌∙◌, arith}
 use Rattle.std.proofs.lemmas.List.{append-nil}
 use Rattle.std.specs.List.{flat_map}
-use Rattle.byteorder.specs.Endian.{little_bytes}
-use Rattle.byteorder.specs.Numbers.{little_number-reads_back}
-use Rattle.project_journal.specs.Fields.{field}
-use Rattle.project_journal.specs.Header.{first_failed}
+use Rattle.byteorder.specs.{Endian.little_bytes, Numbers.little_number-reads_back}
+use Rattle.project_journal.specs.{Fields.field, Header.first_failed}
 use Rattle.project_state.specs.declared.track.Track.{Track}
-use Rattle.record_body.specs.declared.body.Body.{Body}
 use Rattle.record_body.specs.declared.body.Body.TheVariants.{Edit, Undo, Redo, Purge}
-use Rattle.record_body.specs.declared.limits.Limits.{Limits}
-use Rattle.record_body.specs.declared.limits.Before.{Before}
 use Rattle.record_body.specs.Places.{tracks_at, tracks_size, track_count, edit_at, body_at}
-use Rattle.record_body.specs.Spelling.{track_bytes, spelling}
-use Rattle.record_body.specs.Widths.{edit_widths, total_width, reach}
-use Rattle.record_body.proofs.Reaching.{reach_whole, sum_edit}
 use Rattle.record_body.specs.FirstFault.{tracks_tests, head_tests, limits_at, edit_tests, length_test, kind_test}
 use Rattle.record_body.specs.FirstFault.{body_tests}
-use Rattle.record_body.specs.Sound.{EditBody, IsSoundEdit, IsSound}
+use Rattle.record_body.specs.{declared.body.Body.Body, declared.limits.Limits.Limits, declared.limits.Before.Before}
+use Rattle.record_body.specs.{Spelling.track_bytes, Spelling.spelling, Widths.edit_widths, Widths.total_width}
+use Rattle.record_body.specs.{Widths.reach, Valid.EditBody, Valid.IsValidEdit, Valid.IsValidBody}
 use Rattle.record_body.proofs.FieldsBack.{NoneFails, both_pass, least_passes, most_passes, no_test, number_there}
 use Rattle.record_body.proofs.FieldsBack.{passes, past}
-use Rattle.record_body.proofs.ClipsBack.{AreNarrow}
-use Rattle.record_body.proofs.TracksBack.{has_tracks, tracks_pass}
-use Rattle.record_body.proofs.SoundBounds.{tracks_good}
+use Rattle.record_body.proofs.{Reaching.reach_whole, Reaching.sum_edit, ClipsBack.AreNarrow, TracksBack.has_tracks}
+use Rattle.record_body.proofs.{TracksBack.tracks_pass, ValidBounds.tracks_good}
 
 -- the body that says it
 abbrev body_of : EditBody → Body
@@ -38,9 +30,9 @@ record HasEdit (edit : EditBody) (bytes : List ℕ) : Type 0 where
   count : track_count bytes ≡ length edit.tracks
   tracks : drop 29 bytes ≡ flat_map track_bytes edit.tracks ++ []
 
-has_edit : (m : ℕ) (b : Before) (edit : EditBody) (bytes : List ℕ) → IsSoundEdit m b edit
+has_edit : (m : ℕ) (b : Before) (edit : EditBody) (bytes : List ℕ) → IsValidEdit m b edit
     → bytes ≡ spelling (body_of edit) → HasEdit edit bytes
-has_edit m b edit bytes sound e =
+has_edit m b edit bytes valid e =
     let ts = edit.tracks in
     let all = flat_map track_bytes ts in
     let counted = little_bytes 4 (length ts) ++ all in
@@ -52,24 +44,24 @@ has_edit m b edit bytes sound e =
     let at_count = past 17 25 bytes (little_bytes 8 edit.next_track) counted at_track (omega arith) in
     let at_all = past 25 29 bytes (little_bytes 4 (length ts)) all at_count (omega arith) in
     record {
-      tagged = number_there 8 edit.tag 1 bytes of_block at_tag (omega (arith, sound.tag_number));
-      block = number_there 8 edit.next_block 9 bytes of_track at_block (omega (arith, sound.block_most));
-      track = number_there 8 edit.next_track 17 bytes counted at_track (omega (arith, sound.track_most));
-      count = number_there 4 (length ts) 25 bytes all at_count (omega (arith, sound.few));
+      tagged = number_there 8 edit.tag 1 bytes of_block at_tag (omega (arith, valid.tag_number));
+      block = number_there 8 edit.next_block 9 bytes of_track at_block (omega (arith, valid.block_most));
+      track = number_there 8 edit.next_track 17 bytes counted at_track (omega (arith, valid.track_most));
+      count = number_there 4 (length ts) 25 bytes all at_count (omega (arith, valid.few));
       tracks = at_all ∙ sym (append-nil all);
     }
 
-head_passes : (m : ℕ) (b : Before) (edit : EditBody) (bytes : List ℕ) → IsSoundEdit m b edit → HasEdit edit bytes
+head_passes : (m : ℕ) (b : Before) (edit : EditBody) (bytes : List ℕ) → IsValidEdit m b edit → HasEdit edit bytes
     → NoneFails (head_tests b bytes)
-head_passes m b edit bytes sound has =
-    most_passes _ _ _ _ _ has.tagged sound.tag_given
-    (least_passes _ _ _ _ _ has.block sound.block_least
-    (most_passes _ _ _ _ _ has.block sound.block_most
-    (least_passes _ _ _ _ _ has.block sound.block_later
-    (least_passes _ _ _ _ _ has.track sound.track_least
-    (most_passes _ _ _ _ _ has.track sound.track_most
-    (least_passes _ _ _ _ _ has.track sound.track_later
-    (most_passes _ _ _ _ _ has.count sound.few no_test)))))))
+head_passes m b edit bytes valid has =
+    most_passes _ _ _ _ _ has.tagged valid.tag_given
+    (least_passes _ _ _ _ _ has.block valid.block_least
+    (most_passes _ _ _ _ _ has.block valid.block_most
+    (least_passes _ _ _ _ _ has.block valid.block_later
+    (least_passes _ _ _ _ _ has.track valid.track_least
+    (most_passes _ _ _ _ _ has.track valid.track_most
+    (least_passes _ _ _ _ _ has.track valid.track_later
+    (most_passes _ _ _ _ _ has.count valid.few no_test)))))))
 
 abbrev pub limits_of : ℕ → Before → ℕ → ℕ → Limits
 limits_of m b next_block next_track =
@@ -80,14 +72,14 @@ record ReadsBack (m : ℕ) (b : Before) (body : Body) (bytes : List ℕ) : Type 
   says : edit_at bytes ≡ body
   long : reach (length bytes) 0 (edit_widths bytes) ≡ length bytes
 
-edit_back : (m : ℕ) (b : Before) (edit : EditBody) (bytes : List ℕ) → 4 ≤ m → m < 2 ^ 32 → IsSoundEdit m b edit
+edit_back : (m : ℕ) (b : Before) (edit : EditBody) (bytes : List ℕ) → 4 ≤ m → m < 2 ^ 32 → IsValidEdit m b edit
     → bytes ≡ spelling (body_of edit) → ReadsBack m b (body_of edit) bytes
-edit_back m b edit bytes large small sound e =
+edit_back m b edit bytes large small valid e =
     let ts = edit.tracks in
     let l = limits_of m b edit.next_block edit.next_track in
-    let narrow : AreNarrow l = record { ids = sound.block_most; tracks = sound.track_most; lens = small } in
-    let good = tracks_good l 0 1 ts large (omega arith) (omega arith) sound.rising sound.sound sound.unnumbered in
-    let has = has_edit m b edit bytes sound e in
+    let narrow : AreNarrow l = record { ids = valid.block_most; tracks = valid.track_most; lens = small } in
+    let good = tracks_good l 0 1 ts large (omega arith) (omega arith) valid.rising valid.valid valid.unnumbered in
+    let has = has_edit m b edit bytes valid e in
     let tracks = has_tracks l 0 ts 29 bytes [] narrow good has.tracks in
     let all_pass = tracks_pass l 0 ts 29 bytes [] narrow good has.tracks in
     let counted = subst (λ (n : ℕ). NoneFails (tracks_tests l n 0 29 bytes)) (sym has.count) all_pass in
@@ -96,7 +88,7 @@ edit_back m b edit bytes large small sound e =
     let long : length bytes ≡ 29 + length (flat_map track_bytes ts) = ap length e ∙ omega arith in
     let ends : 0 + total_width (edit_widths bytes) ≡ length bytes = omega (arith, sum_edit bytes, size, long) in
     record {
-      tests = both_pass (head_tests b bytes) _ (head_passes m b edit bytes sound has)
+      tests = both_pass (head_tests b bytes) _ (head_passes m b edit bytes valid has)
           (subst (λ (k : Limits). NoneFails (tracks_tests k (track_count bytes) 0 29 bytes)) (sym same) counted);
       says = same_edit has.tagged has.block has.track (ap (λ (n : ℕ). tracks_at n 29 bytes) has.count ∙ tracks.tracks);
       long = reach_whole (length bytes) 0 (edit_widths bytes) (omega (arith, ends)) ∙ ends;
@@ -106,14 +98,14 @@ edit_back m b edit bytes large small sound e =
         → us ≡ edit.tracks → Edit t i k us ≡ body_of edit
     same_edit p q r u = cc
 
--- The tests of a sound body's bytes all pass, and its bytes say that body.
-pub read_back : (m : ℕ) (b : Before) (body : Body) → 4 ≤ m → m < 2 ^ 32 → IsSound m b body
+-- The tests of a valid body's bytes all pass, and its bytes say that body.
+pub read_back : (m : ℕ) (b : Before) (body : Body) → 4 ≤ m → m < 2 ^ 32 → IsValidBody m b body
     → (first_failed (body_tests m b (spelling body)) ≡ None) × (body_at (spelling body) ≡ body)
-read_back m b (Edit tag next_block next_track ts) large small sound =
+read_back m b (Edit tag next_block next_track ts) large small valid =
     let edit : EditBody = record { tag = tag; next_block = next_block; next_track = next_track; tracks = ts } in
     let bytes = spelling (body_of edit) in
-    let back = edit_back m b edit bytes large small sound refl in
+    let back = edit_back m b edit bytes large small valid refl in
     ((passes (length_test b bytes) _ back.long (passes (kind_test b bytes) _ refl back.tests)).none, back.says)
-read_back m b Undo large small sound = (refl, refl)
-read_back m b Redo large small sound = (refl, refl)
-read_back m b (Purge n) large small sound = (refl, ap Purge (little_number-reads_back 8 n [] sound))
+read_back m b Undo large small valid = (refl, refl)
+read_back m b Redo large small valid = (refl, refl)
+read_back m b (Purge n) large small valid = (refl, ap Purge (little_number-reads_back 8 n [] valid))

@@ -2,16 +2,11 @@
 use Rattle.std.proofs.Common.{ℕ, ◌+◌, ◌^◌, ◌≤◌, ◌<◌, ◌==◌, inl, inr, List, [], ◌∷◌, length, arith}
 use Rattle.std.proofs.lemmas.Bool.{cases_Bool}
 use Rattle.pcm_base.specs.Blocks.{blocks_len}
-use Rattle.clip_track.specs.declared.clips.Clip.{Clip}
-use Rattle.clip_track.specs.Clips.{IsLayout, AllHalfFull}
-use Rattle.project_state.specs.declared.track.Track.{Track}
-use Rattle.record_body.specs.Changes.{last_blocks, last_start}
-use Rattle.record_body.specs.Laws.{EndsShort, HasShortEnds}
-use Rattle.record_body.specs.Lengths.{AreHalfFull}
-use Rattle.record_body.specs.Sound.{AllSoundTracks, IsSoundPoint}
-use Rattle.project_state.specs.Tracks.{track_of}
-use Rattle.record_body.proofs.SoundBounds.{half_full_few}
-use Rattle.record_body.proofs.Tails.{end_last, last_end}
+use Rattle.clip_track.specs.{declared.clips.Clip.Clip, Clips.IsLayout, Clips.AllHalfFull}
+use Rattle.project_state.specs.{declared.track.Track.Track, Tracks.track_of}
+use Rattle.record_body.specs.{Changes.last_blocks, Changes.last_start, Laws.EndsShort, Laws.HasShortEnds}
+use Rattle.record_body.specs.{Lengths.AreHalfFull, Valid.AllValidTracks, Valid.IsValidPoint}
+use Rattle.record_body.proofs.{ValidBounds.half_full_few, Tails.end_last, Tails.last_end}
 
 short_last : (m : ℕ) (cs : List Clip) → 4 ≤ m → IsLayout cs → AllHalfFull m cs → length (last_blocks cs) < 2 ^ 32
 short_last m [] large is half = omega arith
@@ -20,21 +15,21 @@ short_last m (c ∷ cs) large is half =
     omega (arith, end_last 0 (c ∷ cs) (omega arith), is.few) in
     half_full_few m (last_blocks (c ∷ cs)) large (last_end m 0 (c ∷ cs) is.apart half).half_full (omega (arith, near))
 
-tracks_short_ends : (m block track id : ℕ) (ts : List Track) → 4 ≤ m → AllSoundTracks m block track ts
+tracks_short_ends : (m block track id : ℕ) (ts : List Track) → 4 ≤ m → AllValidTracks m block track ts
     → EndsShort (track_of id ts)
-tracks_short_ends m block track id [] large sound = tt
-tracks_short_ends m block track id (t ∷ ts) large sound = elim (cases_Bool (id == t.id)) [
-  | inl same ↦ rw same (short_last m t.layout large sound.0.layout sound.0.half_full)
-  | inr differ ↦ rw differ (tracks_short_ends m block track id ts large sound.1)
+tracks_short_ends m block track id [] large valid = tt
+tracks_short_ends m block track id (t ∷ ts) large valid = elim (cases_Bool (id == t.id)) [
+  | inl same ↦ rw same (short_last m t.layout large valid.0.layout valid.0.half_full)
+  | inr differ ↦ rw differ (tracks_short_ends m block track id ts large valid.1)
 ]
 
-pub sound_ends : (m block track : ℕ) (ts : List Track) → 4 ≤ m → IsSoundPoint m block track ts → HasShortEnds ts
-sound_ends m block track ts large is = λ id. tracks_short_ends m block track id ts large is.sound
+pub valid_ends : (m block track : ℕ) (ts : List Track) → 4 ≤ m → IsValidPoint m block track ts → HasShortEnds ts
+valid_ends m block track ts large is = λ id. tracks_short_ends m block track id ts large is.valid
 
-tracks_half : (m block track : ℕ) (ts : List Track) → AllSoundTracks m block track ts → AreHalfFull m ts
-tracks_half m block track [] sound = tt
-tracks_half m block track (t ∷ ts) sound = (sound.0.half_full, tracks_half m block track ts sound.1)
+tracks_half : (m block track : ℕ) (ts : List Track) → AllValidTracks m block track ts → AreHalfFull m ts
+tracks_half m block track [] valid = tt
+tracks_half m block track (t ∷ ts) valid = (valid.0.half_full, tracks_half m block track ts valid.1)
 
 -- and is half full
-pub sound_half : (m block track : ℕ) (ts : List Track) → IsSoundPoint m block track ts → AreHalfFull m ts
-sound_half m block track ts is = tracks_half m block track ts is.sound
+pub valid_half : (m block track : ℕ) (ts : List Track) → IsValidPoint m block track ts → AreHalfFull m ts
+valid_half m block track ts is = tracks_half m block track ts is.valid

@@ -6,23 +6,20 @@ use Rattle.std.proofs.lemmas.Bool.{cases_lt, cond-true, eq-eqb}
 use Rattle.std.proofs.lemmas.List.{drop-drop, drop_more, drop_all, length-drop}
 use Rattle.std.specs.List.{flat_map}
 use Rattle.byteorder.specs.Endian.{little_bytes}
-use Rattle.project_journal.specs.Fields.{field}
-use Rattle.project_journal.specs.Header.{first_failed}
-use Rattle.record_body.specs.declared.limits.Limits.{Limits}
-use Rattle.record_body.specs.declared.limits.Before.{Before}
-use Rattle.record_body.specs.declared.body.Body.{Body}
+use Rattle.project_journal.specs.{Fields.field, Header.first_failed}
 use Rattle.record_body.specs.declared.body.Body.TheVariants.{Undo, Redo, Purge}
 use Rattle.record_body.specs.Spelling.{block_bytes, clip_bytes, side_byte, mute_byte, track_bytes, spelling}
 use Rattle.record_body.specs.Places.{block_at, blocks_at, block_count, clip_at, clip_size, clips_at, clips_size}
 use Rattle.record_body.specs.Places.{side_of, clip_count, track_at, track_size, tracks_at, tracks_size, track_count}
 use Rattle.record_body.specs.Places.{edit_at, body_at}
-use Rattle.record_body.specs.Widths.{asked_length}
-use Rattle.record_body.proofs.Numbers.{AreBytes, AreBytes-drop, number_back}
-use Rattle.record_body.proofs.Passing.{Pass, all_pass, pass_parts}
-use Rattle.record_body.proofs.Reaching.{edit_size}
-use Rattle.record_body.proofs.Sizes.{length-blocks_at, length-clips_at, length-tracks_at}
 use Rattle.record_body.specs.FirstFault.{track_tests, tracks_tests, settings_tests, clips_tests, head_tests, edit_tests}
 use Rattle.record_body.specs.FirstFault.{limits_at, body_tests}
+use Rattle.record_body.specs.{declared.limits.Limits.Limits, declared.limits.Before.Before, declared.body.Body.Body}
+use Rattle.record_body.specs.{Widths.asked_length}
+use Rattle.record_body.proofs.Sizes.{length-blocks_at, length-clips_at, length-tracks_at}
+use Rattle.record_body.proofs.{Numbers.number_back, Passing.pass_parts, Reaching.edit_size}
+use Rattle.sample_block.proofs.Numerals.{IsBytes-drop, IsBytes}
+use Rattle.project_journal.proofs.AnyFormats.{all_pass, Pass}
 
 -- These bytes stand from one place up to another.
 pub record Stands (part : List ℕ) (at end : ℕ) (bytes : List ℕ) : Type 0 where
@@ -55,18 +52,18 @@ module _ (bytes : List ℕ) where
     same = ap (λ (b : ℕ). b ∷ drop (at + 1) bytes) is ∙ sym (drop_more bytes at 0 (omega arith));
   }
 
-  pub field_stands : AreBytes bytes → (at n value : ℕ) → at + n ≤ length bytes → value ≡ field at n bytes
+  pub field_stands : IsBytes bytes → (at n value : ℕ) → at + n ≤ length bytes → value ≡ field at n bytes
       → Stands (little_bytes n value) at (at + n) bytes
   field_stands fit at n value le is = record {
     same =
         ap (λ (v : ℕ). little_bytes n v ++ drop (at + n) bytes) is
         ∙ ap (λ (l : List ℕ). little_bytes n (field at n bytes) ++ l) (sym (drop-drop n at bytes))
-        ∙ number_back n (drop at bytes) (AreBytes-drop at bytes fit) (omega (arith, length-drop at bytes));
+        ∙ number_back n (drop at bytes) (IsBytes-drop at bytes fit) (omega (arith, length-drop at bytes));
   }
 
 -- ---- clips
 
-module _ (bytes : List ℕ) (fit : AreBytes bytes) where
+module _ (bytes : List ℕ) (fit : IsBytes bytes) where
   block_stands : (at : ℕ) → at + 12 ≤ length bytes → Stands (block_bytes (block_at at bytes)) at (at + 12) bytes
   block_stands at le =
       ends bytes (at + 12) (omega arith)
@@ -113,7 +110,7 @@ mute_back (suc (suc byte)) e = absurd (omega arith)
 
 -- ---- tracks
 
-module _ (bytes : List ℕ) (fit : AreBytes bytes) where
+module _ (bytes : List ℕ) (fit : IsBytes bytes) where
   settings_pass : (l : Limits) (from at : ℕ) → Pass (settings_tests l from at bytes)
       → (side_byte (side_of (slice_index bytes (at + 12))) ≡ slice_index bytes (at + 12))
       × (mute_byte (nat_lt 0 (slice_index bytes (at + 13))) ≡ slice_index bytes (at + 13))
@@ -171,10 +168,7 @@ asked_other (first ∷ rest) (suc (suc (suc (suc (suc kind))))) e least most = a
 -- what the bytes say, by their first
 said_by : ℕ → List ℕ → Body
 said_by kind bytes =
-    if kind == 1 then edit_at bytes
-    else if kind == 2 then Undo
-    else if kind == 3 then Redo
-    else Purge (field 1 8 bytes)
+    if kind == 1 then edit_at bytes else if kind == 2 then Undo else if kind == 3 then Redo else Purge (field 1 8 bytes)
 
 body_is : (bytes : List ℕ) (kind : ℕ) → slice_index bytes 0 ≡ kind → body_at bytes ≡ said_by kind bytes
 unfolding said_by
@@ -190,7 +184,7 @@ kinds kind e = elim (cases_lt 1 kind) [
   | inr le ↦ inl (omega arith)
 ]
 
-edit_spelled : (m : ℕ) (b : Before) (bytes : List ℕ) → AreBytes bytes → slice_index bytes 0 ≡ 1
+edit_spelled : (m : ℕ) (b : Before) (bytes : List ℕ) → IsBytes bytes → slice_index bytes 0 ≡ 1
     → asked_length bytes ≡ length bytes → Pass (edit_tests m b bytes)
     → spelling (edit_at bytes) ≡ bytes
 edit_spelled m b bytes fit e asked pass =
@@ -209,7 +203,7 @@ edit_spelled m b bytes fit e asked pass =
     (joined bytes kind
     (joined bytes tag (joined bytes next_block (joined bytes next_track (joined bytes count tracks))))))
 
-other_spelled : (bytes : List ℕ) (kind : ℕ) → AreBytes bytes → slice_index bytes 0 ≡ kind → 2 ≤ kind → kind ≤ 4
+other_spelled : (bytes : List ℕ) (kind : ℕ) → IsBytes bytes → slice_index bytes 0 ≡ kind → 2 ≤ kind → kind ≤ 4
     → asked_length bytes ≡ length bytes
     → spelling (body_at bytes) ≡ bytes
 unfolding said_by
@@ -235,7 +229,7 @@ other_spelled bytes (suc (suc (suc (suc (suc kind))))) fit e least most asked = 
 pub spelled : (m : ℕ) (b : Before) (bytes : List ℕ) → ((i : ℕ) → slice_index bytes i < 256)
     → first_failed (body_tests m b bytes) ≡ None → spelling (body_at bytes) ≡ bytes
 spelled m b bytes below none =
-    let fit : AreBytes bytes = record { below = below } in
+    let fit : IsBytes bytes = record { below = below } in
     let pass = all_pass (body_tests m b bytes) none in
     elim (kinds (slice_index bytes 0) pass.1.0) [
       | inl one ↦

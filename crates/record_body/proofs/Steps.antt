@@ -1,12 +1,10 @@
 -- One part more of those that stand one after another.
 use Rattle.std.proofs.Common.{◌≡◌, ℕ, zero, suc, ◌-◌, ◌<◌, List, [], ◌∷◌, ◌++◌, None, Some, Err, sym, ap, ◌∙◌, arith}
 use Rattle.std.proofs.Common.{append_assoc}
-use Rattle.project_journal.specs.Header.{first_failed}
-use Rattle.project_journal.specs.declared.fault.Damaged.{Damaged}
-use Rattle.record_body.specs.declared.limits.BadBody.{BadBody}
+use Rattle.project_journal.specs.{Header.first_failed, declared.fault.Damaged.Damaged}
+use Rattle.record_body.specs.{declared.limits.BadBody.BadBody, FirstFault.Finds}
+use Rattle.project_journal.proofs.Headers.{some_first, none_first}
 use Rattle.record_body.specs.declared.limits.BadBody.TheVariants as bad
-use Rattle.record_body.specs.FirstFault.{Finds}
-use Rattle.record_body.proofs.Passing.{passed, failed}
 
 -- the tests of n parts are those of one, and of those after it
 module _ (all rest : ℕ → List Damaged) (one : List Damaged) (law : (j : ℕ) → all (suc j) ≡ one ++ rest j) where
@@ -15,11 +13,11 @@ module _ (all rest : ℕ → List Damaged) (one : List Damaged) (law : (j : ℕ)
   step_passes zero k some e none = absurd (omega (arith, some))
   step_passes (suc n) k some e none =
       let here : k ≡ n = omega (arith, e) in
-      ap (λ j. first_failed (rest j)) here ∙ sym (passed one (rest n) none) ∙ ap first_failed (sym (law n))
+      ap (λ j. first_failed (rest j)) here ∙ sym (none_first one (rest n) none) ∙ ap first_failed (sym (law n))
 
   pub step_fails : (n : ℕ) (d : Damaged) → 0 < n → first_failed one ≡ Some d → first_failed (all n) ≡ Some d
   step_fails zero d some e = absurd (omega (arith, some))
-  step_fails (suc n) d some e = ap first_failed (law n) ∙ failed one (rest n) d e
+  step_fails (suc n) d some e = ap first_failed (law n) ∙ some_first one (rest n) d e
 
   -- a reading of the first that has no value
   pub step_finds : {T U : Type 0} (P : T → Type 0) (Q : U → Type 0) (n : ℕ) (fault : BadBody) → 0 < n

@@ -1,28 +1,21 @@
 -- The blocks of a last clip of which the end is replaced.
-use Rattle.std.proofs.Common.{◌≡◌, ℕ, suc, ◌+◌, ◌-◌, ◌<◌, ◌≤◌, ◌^◌, inl, inr, List, [], ◌∷◌, ◌++◌, length, get_or}
-use Rattle.std.proofs.Common.{take, drop, refl, ◌∙◌, ap, subst, arith, length-append, Bool, true, nat_lt}
-use Rattle.std.proofs.Common.{zero, ◌&&◌, ◌==◌, if◌then◌else◌}
+use Rattle.std.proofs.Common.{◌≡◌, ℕ, suc, ◌+◌, ◌-◌, ◌<◌, ◌≤◌, ◌^◌, inl, inr, List, [], ◌∷◌, ◌++◌, length, get_or, take}
+use Rattle.std.proofs.Common.{drop, refl, ◌∙◌, ap, subst, arith, length-append, Bool, true, nat_lt, zero, ◌&&◌, ◌==◌}
+use Rattle.std.proofs.Common.{if◌then◌else◌}
 use Rattle.std.proofs.lemmas.Bool.{cases_Bool, lt-ltb, ltb-false, eqb-false}
 use Rattle.std.proofs.lemmas.List.{drop_more, length-take-le}
 use Rattle.project_journal.specs.Fields.{field}
-use Rattle.record_body.specs.declared.limits.Limits.{Limits}
-use Rattle.record_body.specs.ChangePlaces.{gone_at, fresh_at}
 use Rattle.record_body.specs.ChangeTests.{is_lone, kept_blocks, tail_head_tests, tail_tests}
-use Rattle.record_body.specs.FirstFault.{least_len, block_tests, blocks_tests}
-use Rattle.record_body.specs.Places.{blocks_at}
-use Rattle.record_body.specs.Sound.{AllGiven}
-use Rattle.record_body.proofs.Passing.{Pass, pass_parts}
-use Rattle.record_body.proofs.Sizes.{length-blocks_at}
-use Rattle.record_body.proofs.SoundBodies.{bounded, full_blocks, same_lens, sound_blocks}
+use Rattle.record_body.specs.{declared.limits.Limits.Limits, ChangePlaces.gone_at, ChangePlaces.fresh_at}
+use Rattle.record_body.specs.{FirstFault.least_len, FirstFault.block_tests, FirstFault.blocks_tests, Places.blocks_at}
+use Rattle.record_body.specs.{Valid.AllGiven, Changes.last_blocks, Changes.last_start, Changes.with_last}
+use Rattle.record_body.proofs.ValidBodies.{bounded, full_blocks, same_lens, valid_blocks}
+use Rattle.record_body.proofs.{Passing.pass_parts, Sizes.length-blocks_at}
+use Rattle.project_journal.proofs.AnyFormats.{Pass}
 use Rattle.pcm_base.specs.declared.block.BlockRef.{BlockRef}
 use Rattle.pcm_base.specs.Blocks.{NoneEmpty, AllFull, IsHalfFull, block_lens, blocks_len}
 use Rattle.clip_track.specs.declared.clips.Clip.{Clip}
 use Rattle.clip_track.specs.Clips.{AreClips, AllHalfFull, IsLayout, clip_end, end_of}
-use Rattle.record_body.specs.Changes.{last_blocks, last_start, with_last}
-
-pub blocks_next : (bs : List BlockRef) (i : ℕ) (d : BlockRef) → i < length bs
-    → blocks_len (drop i bs) ≡ (get_or bs i d).len + blocks_len (drop (i + 1) bs)
-blocks_next bs i d h = ap blocks_len (drop_more bs i d h)
 
 pub take_len : (n : ℕ) (bs : List BlockRef) → blocks_len (take n bs) ≤ blocks_len bs
 take_len zero bs = omega arith
@@ -124,12 +117,12 @@ pub record IsTail (l : Limits) (start : ℕ) (olds : List BlockRef) (at : ℕ) (
   pub end : start + blocks_len blocks ≤ 2 ^ 32
   pub given : AllGiven l.next_block (blocks_at (fresh_at at bytes) (at + 17) bytes)
 
-pub sound_tail : (l : Limits) (start : ℕ) (olds : List BlockRef) (at : ℕ) (bytes : List ℕ)
+pub valid_tail : (l : Limits) (start : ℕ) (olds : List BlockRef) (at : ℕ) (bytes : List ℕ)
     → IsHalfFull l.block_size (block_lens olds) → NoneEmpty olds → start + blocks_len olds ≤ 2 ^ 32
     → Pass (tail_tests l start olds at bytes)
     → IsTail l start olds at bytes
     (kept_blocks olds (gone_at at bytes) ++ blocks_at (fresh_at at bytes) (at + 17) bytes)
-sound_tail l start olds at bytes half none near pass =
+valid_tail l start olds at bytes half none near pass =
     let gone = gone_at at bytes in
     let n = fresh_at at bytes in
     let k = length olds - gone in
@@ -142,11 +135,11 @@ sound_tail l start olds at bytes half none near pass =
     let goes : (if is_lone l.block_size olds && nat_lt 0 n then 1 else 0) ≤ gone = omega (arith, parts.0.1.0) in
     let comes : (if gone == length olds then 1 else 0) ≤ n = omega (arith, parts.0.1.1.0) in
     let close : before ≤ 2 ^ 32 = omega (arith, near, take_len k olds) in
-    let sound = sound_blocks l several n before (at + 17) bytes close parts.1 in
+    let valid = valid_blocks l several n before (at + 17) bytes close parts.1 in
     let size : length kept ≡ k = length-take-le k olds (omega arith) in
     let count : length fresh ≡ n = length-blocks_at bytes n (at + 17) in
     let long : length (kept ++ fresh) ≡ k + n = omega (arith, length-append kept fresh, size, count) in
-    let all : NoneEmpty (kept ++ fresh) = none_append kept fresh (none_take k olds none) sound.1 in
+    let all : NoneEmpty (kept ++ fresh) = none_append kept fresh (none_take k olds none) valid.1 in
     let left : 1 ≤ k + n = some_left gone (length olds) n within comes in
     let m = l.block_size in
     record {
@@ -162,8 +155,8 @@ sound_tail l start olds at bytes half none near pass =
           (subst (λ (s : Bool). Pass (blocks_tests l s n before (at + 17) bytes)) true_now parts.1)));
       none_empty = all;
       some = some_len (kept ++ fresh) all (omega (arith, long, left));
-      end = omega (arith, len_append kept fresh, sound.2, same_lens n (at + 17) bytes);
-      given = sound.0;
+      end = omega (arith, len_append kept fresh, valid.2, same_lens n (at + 17) bytes);
+      given = valid.0;
     }
   where
     some_left : (gone len n : ℕ) → gone ≤ len → (if gone == len then 1 else 0) ≤ n → 1 ≤ len - gone + n
@@ -225,3 +218,7 @@ front_and_last (x ∷ y ∷ cs) c bs some is =
     ap (λ n. take n (x ∷ y ∷ cs) ++ record c { blocks = bs } ∷ []) less
     ∙ ap (λ (l : List Clip). x ∷ l) (front_and_last (y ∷ cs) c bs (omega arith)
     (is ∙ ap (λ n. get_or (x ∷ y ∷ cs) n c) less))
+
+pub blocks_next : (bs : List BlockRef) (i : ℕ) (d : BlockRef) → i < length bs
+    → blocks_len (drop i bs) ≡ (get_or bs i d).len + blocks_len (drop (i + 1) bs)
+blocks_next bs i d h = ap blocks_len (drop_more bs i d h)

@@ -1,27 +1,20 @@
 -- One track more that is told by the current point.
 use Rattle.std.proofs.Common.{◌≡◌, ℕ, ◌+◌, ◌-◌, ◌==◌, ◌<◌, ◌≤◌, false, inl, inr, List, [], ◌∷◌, ◌++◌, length, map}
-use Rattle.std.proofs.Common.{Option}
-use Rattle.std.proofs.Common.{Some, None, Result, Ok, Err, refl, sym, ◌∙◌, ap, subst, arith, slice_get, length-append}
+use Rattle.std.proofs.Common.{Option, Some, None, Result, Ok, Err, refl, sym, ◌∙◌, ap, subst, arith, slice_get}
+use Rattle.std.proofs.Common.{length-append}
+use Rattle.std.proofs.{lemmas.Bool.ne_eqb, lemmas.List.append-nil, lemmas.List.map-append}
 use Rattle.std.specs.Prelude.{⊤}
-use Rattle.std.proofs.lemmas.Bool.{ne_eqb}
-use Rattle.std.proofs.lemmas.List.{append-nil, map-append}
-use Rattle.project_journal.specs.Fields.{field}
-use Rattle.project_journal.specs.Header.{first_failed}
-use Rattle.project_journal.specs.declared.fault.Damaged.{Damaged}
-use Rattle.record_body.specs.declared.limits.BadBody.{BadBody}
-use Rattle.record_body.specs.declared.limits.BadBody.TheVariants as bad
-use Rattle.record_body.specs.declared.limits.Limits.{Limits}
-use Rattle.project_state.specs.declared.track.Track.{Track}
+use Rattle.project_journal.specs.{Fields.field, Header.first_failed, declared.fault.Damaged.Damaged}
 use Rattle.record_body.specs.Changes.{last_blocks, last_start, tailed}
-use Rattle.record_body.specs.ChangePlaces.{all_told_at, fresh_at, gone_at, mark_at, whole_at}
-use Rattle.record_body.specs.ChangeTests.{all_told_tests, change_tests, mark_tests, mark_want, marked_tests, tail_tests}
+use Rattle.record_body.specs.ChangePlaces.{all_diff_at, fresh_at, gone_at, mark_at, whole_at}
+use Rattle.record_body.specs.ChangeTests.{all_diff_tests, change_tests, mark_tests, mark_want, marked_tests, tail_tests}
 use Rattle.record_body.specs.ChangeTests.{whole_tests}
-use Rattle.record_body.specs.FirstFault.{Finds, place}
-use Rattle.record_body.specs.Places.{blocks_at, track_at}
-use Rattle.record_body.specs.Told.{AddsTold}
-use Rattle.project_state.specs.Numbers.{unnumbered}
-use Rattle.project_state.specs.Tracks.{track_of}
-use Rattle.record_body.proofs.Passing.{all_pass, failed, pass_parts}
+use Rattle.record_body.specs.{declared.limits.BadBody.BadBody, declared.limits.Limits.Limits, FirstFault.Finds}
+use Rattle.record_body.specs.{FirstFault.place, Places.blocks_at, Places.track_at, Told.AddsTold}
+use Rattle.project_state.specs.{declared.track.Track.Track, Numbers.unnumbered, Tracks.track_of}
+use Rattle.project_journal.proofs.{AnyFormats.all_pass, Headers.some_first}
+use Rattle.record_body.proofs.Passing.{pass_parts}
+use Rattle.record_body.specs.declared.limits.BadBody.TheVariants as bad
 
 -- ---- the mark
 
@@ -34,7 +27,7 @@ mark_fails l at bytes old p want mark d is_place is_want is_mark e =
     let here : want ≡ mark_want (Some old) m = is_want ∙ ap (mark_want (Some old)) is_mark in
     let same : mark_tests p want mark ≡ mark_tests (place l.base (at + 8)) (mark_want (Some old) m) m =
     λ i. mark_tests (is_place i) (here i) (is_mark i) in
-    failed (mark_tests (place l.base (at + 8)) (mark_want (Some old) m) m) (marked_tests l (Some old) at bytes) d
+    some_first (mark_tests (place l.base (at + 8)) (mark_want (Some old) m) m) (marked_tests l (Some old) at bytes) d
     (ap first_failed (sym same) ∙ e)
 
 -- and one that passes them
@@ -136,11 +129,11 @@ said_more xs ys t is = ap (λ (zs : List Track). map Some (map unnumbered zs)) i
 
 -- where none is left
 pub said_all : (current : List Track) (n next : ℕ) (bytes : List ℕ) (xs ys : List (Option Track)) → n ≡ 0
-    → xs ++ all_told_at current n next bytes ≡ ys → xs ≡ ys
+    → xs ++ all_diff_at current n next bytes ≡ ys → xs ≡ ys
 said_all current n next bytes xs ys none e =
-    sym (append-nil xs) ∙ ap (λ (k : ℕ). xs ++ all_told_at current k next bytes) (sym none) ∙ e
+    sym (append-nil xs) ∙ ap (λ (k : ℕ). xs ++ all_diff_at current k next bytes) (sym none) ∙ e
 
 pub passed_all : (l : Limits) (current : List Track) (n from next : ℕ) (bytes : List ℕ) (o : Option Damaged) → n ≡ 0
-    → first_failed (all_told_tests l current n from next bytes) ≡ o → o ≡ None
+    → first_failed (all_diff_tests l current n from next bytes) ≡ o → o ≡ None
 passed_all l current n from next bytes o none e =
-    sym e ∙ ap (λ (k : ℕ). first_failed (all_told_tests l current k from next bytes)) none
+    sym e ∙ ap (λ (k : ℕ). first_failed (all_diff_tests l current k from next bytes)) none

@@ -2,26 +2,17 @@
 use Rattle.std.proofs.Common.{◌≡◌, refl, sym, ap, ap₂, ◌∙◌, ℕ, zero, suc, ◌+◌, ◌==◌, List, [], ◌∷◌, ◌++◌, map, Option}
 use Rattle.std.proofs.Common.{Some, None, slice_index, if◌then◌else◌}
 use Rattle.std.specs.Option.{option_map}
-use Rattle.project_journal.specs.Fields.{field}
-use Rattle.project_journal.specs.declared.fault.Damaged.{Damaged}
-use Rattle.project_state.specs.declared.track.Track.{Track}
-use Rattle.project_state.specs.Numbers.{unnumbered}
-use Rattle.project_state.specs.Tracks.{track_of}
+use Rattle.project_journal.specs.{Fields.field, declared.fault.Damaged.Damaged}
+use Rattle.project_state.specs.{declared.track.Track.Track, Numbers.unnumbered, Tracks.track_of}
 use Rattle.project_state.proofs.Plain.{plain_new, tracks_plain}
-use Rattle.record_body.specs.declared.body.Body.{Body}
 use Rattle.record_body.specs.declared.body.Body.TheVariants.{Edit, Undo, Redo, Purge}
-use Rattle.record_body.specs.declared.limits.Before.{Before}
-use Rattle.record_body.specs.declared.limits.Limits.{Limits}
 use Rattle.record_body.specs.Changes.{Change, Same, Whole, Tail, changed}
-use Rattle.record_body.specs.ChangePlaces.{all_told_at, change_at, told_at, told_size}
-use Rattle.record_body.specs.ChangeTests.{all_told_tests, change_tests, commit_test, delta_edit_tests, delta_kind_test}
-use Rattle.record_body.specs.ChangeTests.{delta_length_test, delta_tests, id_tests, told_tests}
-use Rattle.record_body.specs.DeltaBodies.{SaysBody}
-use Rattle.record_body.specs.FirstFault.{head_tests, limits_at}
-use Rattle.record_body.specs.Numbers.{unnumbered_body}
-use Rattle.record_body.specs.Places.{track_count}
-use Rattle.record_body.specs.Sound.{IsSound}
-use Rattle.record_body.specs.Told.{BodyShares}
+use Rattle.record_body.specs.ChangePlaces.{all_diff_at, change_at, diff_at, diff_size}
+use Rattle.record_body.specs.ChangeTests.{all_diff_tests, change_tests, commit_test, delta_edit_tests, delta_kind_test}
+use Rattle.record_body.specs.ChangeTests.{delta_length_test, delta_tests, id_tests, diff_tests}
+use Rattle.record_body.specs.{declared.body.Body.Body, declared.limits.Before.Before, declared.limits.Limits.Limits}
+use Rattle.record_body.specs.{DeltaBodies.SaysBody, FirstFault.head_tests, FirstFault.limits_at}
+use Rattle.record_body.specs.{Numbers.unnumbered_body, Places.track_count, Valid.IsValidBody, Told.BodyShares}
 use Rattle.record_body.proofs.Unnumbered.{found_alike}
 
 -- ---- what is said
@@ -35,17 +26,17 @@ changed_alike (Some o) (Whole t) = refl
 changed_alike (Some o) (Tail gone ys) = refl
 
 track_said : (current : List Track) (at : ℕ) (bytes : List ℕ)
-    → told_at (map unnumbered current) at bytes ≡ told_at current at bytes
+    → diff_at (map unnumbered current) at bytes ≡ diff_at current at bytes
 track_said current at bytes =
     ap (λ (old : Option Track). changed old (change_at at bytes)) (found_alike (field at 8 bytes) current)
     ∙ changed_alike (track_of (field at 8 bytes) current) (change_at at bytes)
 
 tracks_said : (current : List Track) (count at : ℕ) (bytes : List ℕ)
-    → all_told_at (map unnumbered current) count at bytes ≡ all_told_at current count at bytes
+    → all_diff_at (map unnumbered current) count at bytes ≡ all_diff_at current count at bytes
 tracks_said current zero at bytes = refl
 tracks_said current (suc count) at bytes =
     ap₂ (λ (t : Option Track) (ts : List (Option Track)). t ∷ ts) (track_said current at bytes)
-    (tracks_said current count (at + told_size at bytes) bytes)
+    (tracks_said current count (at + diff_size at bytes) bytes)
 
 pub says_alike : (current : List Track) (bytes : List ℕ) (body : Body) → SaysBody current bytes body
     → SaysBody (map unnumbered current) bytes body
@@ -63,7 +54,7 @@ change_tested l None at bytes = refl
 change_tested l (Some o) at bytes = refl
 
 track_tested : (l : Limits) (current : List Track) (from at : ℕ) (bytes : List ℕ)
-    → told_tests l (map unnumbered current) from at bytes ≡ told_tests l current from at bytes
+    → diff_tests l (map unnumbered current) from at bytes ≡ diff_tests l current from at bytes
 track_tested l current from at bytes =
     ap (λ (old : Option Track). id_tests l from at bytes ++ change_tests l old at bytes)
     (found_alike (field at 8 bytes) current)
@@ -71,11 +62,11 @@ track_tested l current from at bytes =
     (change_tested l (track_of (field at 8 bytes) current) at bytes)
 
 tracks_tested : (l : Limits) (current : List Track) (count from at : ℕ) (bytes : List ℕ)
-    → all_told_tests l (map unnumbered current) count from at bytes ≡ all_told_tests l current count from at bytes
+    → all_diff_tests l (map unnumbered current) count from at bytes ≡ all_diff_tests l current count from at bytes
 tracks_tested l current zero from at bytes = refl
 tracks_tested l current (suc count) from at bytes =
     ap₂ (λ (xs ys : List Damaged). xs ++ ys) (track_tested l current from at bytes)
-    (tracks_tested l current count (field at 8 bytes + 1) (at + told_size at bytes) bytes)
+    (tracks_tested l current count (field at 8 bytes + 1) (at + diff_size at bytes) bytes)
 
 edit_tested : (m : ℕ) (b : Before) (current : List Track) (bytes : List ℕ)
     → delta_edit_tests m b (map unnumbered current) bytes ≡ delta_edit_tests m b current bytes
@@ -90,15 +81,15 @@ tests_alike m b current bytes =
 
 -- ---- bodies that say no numbers
 
-pub body_plain : (m : ℕ) (b : Before) (body : Body) → IsSound m b body → unnumbered_body body ≡ body
-body_plain m b (Edit tag next_block next_track tracks) sound =
-    ap (Edit tag next_block next_track) (tracks_plain tracks sound.unnumbered)
-body_plain m b Undo sound = refl
-body_plain m b Redo sound = refl
-body_plain m b (Purge n) sound = refl
+pub body_plain : (m : ℕ) (b : Before) (body : Body) → IsValidBody m b body → unnumbered_body body ≡ body
+body_plain m b (Edit tag next_block next_track tracks) valid =
+    ap (Edit tag next_block next_track) (tracks_plain tracks valid.unnumbered)
+body_plain m b Undo valid = refl
+body_plain m b Redo valid = refl
+body_plain m b (Purge n) valid = refl
 
-pub body_new : (m : ℕ) (b : Before) (current : List Track) (body : Body) → IsSound m b body → BodyShares current body
-body_new m b current (Edit tag next_block next_track tracks) sound = plain_new current tracks sound.unnumbered
-body_new m b current Undo sound = tt
-body_new m b current Redo sound = tt
-body_new m b current (Purge n) sound = tt
+pub body_new : (m : ℕ) (b : Before) (current : List Track) (body : Body) → IsValidBody m b body → BodyShares current body
+body_new m b current (Edit tag next_block next_track tracks) valid = plain_new current tracks valid.unnumbered
+body_new m b current Undo valid = tt
+body_new m b current Redo valid = tt
+body_new m b current (Purge n) valid = tt

@@ -1,11 +1,9 @@
 -- Tracks that meet their bounds pass their tests and are read back.
-use Rattle.std.proofs.Common.{◌≡◌, ℕ, ◌+◌, ◌^◌, ◌≤◌, ◌<◌, Bool, true, false, List, [], ◌∷◌, ◌++◌, length}
-use Rattle.std.proofs.Common.{drop, slice_index, nat_lt, refl, sym, ap, ap₂, subst, ◌∙◌}
-use Rattle.std.proofs.Common.{arith, append_assoc, length-append}
+use Rattle.std.proofs.Common.{◌≡◌, ℕ, ◌+◌, ◌^◌, ◌≤◌, ◌<◌, Bool, true, false, List, [], ◌∷◌, ◌++◌, length, drop}
+use Rattle.std.proofs.Common.{slice_index, nat_lt, refl, sym, ap, ap₂, subst, ◌∙◌, arith, append_assoc, length-append}
 use Rattle.std.specs.List.{flat_map}
 use Rattle.byteorder.specs.Endian.{little_bytes}
 use Rattle.pcm_base.specs.declared.sound.Side.{Side}
-use Rattle.pcm_base.specs.declared.sound.Side.TheVariants as side
 use Rattle.clip_track.specs.declared.clips.Clip.{Clip}
 use Rattle.project_journal.specs.Fields.{field}
 use Rattle.project_state.specs.declared.track.Track.{Track}
@@ -17,6 +15,7 @@ use Rattle.record_body.specs.FirstFault.{clips_tests, settings_tests, track_test
 use Rattle.record_body.proofs.FieldsBack.{NoneFails, both_pass, byte_there, least_passes, most_passes, no_test}
 use Rattle.record_body.proofs.FieldsBack.{number_there, past}
 use Rattle.record_body.proofs.ClipsBack.{AreGoodClips, AreNarrow, clips_pass, has_clips}
+use Rattle.pcm_base.specs.declared.sound.Side.TheVariants as side
 
 -- a track that meets its bounds, whose id is no lower than a number
 pub record IsGoodTrack (l : Limits) (from : ℕ) (t : Track) : Type 0 where

@@ -1,30 +1,22 @@
 -- The numbers of layouts bear on nothing that records say, and on nothing that points mean.
 use Rattle.std.proofs.Common.{◌≡◌, refl, sym, ap, ap₂, ◌∙◌, ℕ, ◌+◌, ◌==◌, ◌&&◌, inl, inr, List, [], ◌∷◌, ◌++◌, map}
-use Rattle.std.proofs.Common.{drop}
-use Rattle.std.proofs.Common.{zero, suc, Option, Some, None, subst, ◌≤◌}
-use Rattle.std.specs.List.{flat_map}
-use Rattle.std.specs.Option.{option_map}
-use Rattle.std.proofs.lemmas.Bool.{cases_Bool}
-use Rattle.std.proofs.lemmas.List.{length-map}
+use Rattle.std.proofs.Common.{drop, zero, suc, Option, Some, None, subst, ◌≤◌}
+use Rattle.std.proofs.{lemmas.Bool.cases_Bool, lemmas.List.length-map}
+use Rattle.std.specs.{List.flat_map, Option.option_map}
 use Rattle.byteorder.specs.Endian.{little_bytes}
-use Rattle.pcm_base.specs.declared.block.BlockRef.{BlockRef}
-use Rattle.pcm_base.specs.Cells.{Project}
-use Rattle.pcm_base.specs.History.{History, edited, amended, purged, recorded}
-use Rattle.pcm_base.specs.Pieces.{Sources}
+use Rattle.pcm_base.specs.History.{History, edited, purged, recorded}
+use Rattle.pcm_base.specs.{declared.block.BlockRef.BlockRef, Cells.Project, Pieces.Sources}
 use Rattle.clip_track.specs.Clips.{layout_blocks}
-use Rattle.record_body.specs.declared.body.Body.{Body}
 use Rattle.record_body.specs.declared.body.Body.TheVariants.{Edit, Undo, Redo, Purge}
-use Rattle.project_state.specs.declared.track.Track.{Track}
 use Rattle.record_body.specs.Changes.{change_bytes, change_of, delta_bytes, delta_spelling, same_but_last, same_clips}
-use Rattle.record_body.specs.Changes.{same_settings, told_bytes}
-use Rattle.record_body.specs.Kept.{current_tracks, first_tracks, point_bytes}
+use Rattle.record_body.specs.Changes.{same_settings, diff_bytes}
+use Rattle.record_body.specs.{declared.body.Body.Body, Saved.current_tracks, Saved.first_tracks, Saved.point_bytes}
+use Rattle.record_body.specs.{Numbers.unnumbered_body, Valid.AllValidTracks, Valid.IsValidPoint, Spelling.project_bytes}
+use Rattle.record_body.specs.{Spelling.spelling, Spelling.track_bytes}
 use Rattle.project_state.specs.Meaning.{history_blocks, meant, meant_history, meant_track, point_blocks}
 use Rattle.project_state.specs.Numbers.{AreUnnumbered, unnumbered, unnumbered_history}
-use Rattle.record_body.specs.Numbers.{unnumbered_body}
-use Rattle.record_body.specs.Sound.{AllSoundTracks, IsSoundPoint}
-use Rattle.record_body.specs.Spelling.{project_bytes, spelling, track_bytes}
-use Rattle.project_state.specs.Tracks.{AreAbove, track_of}
-use Rattle.project_state.proofs.MeantHistories.{mapped_amended, mapped_edited, mapped_purged, mapped_recorded}
+use Rattle.project_state.specs.{declared.track.Track.Track, Tracks.AreAbove, Tracks.track_of}
+use Rattle.project_state.proofs.MeantHistories.{mapped_edited, mapped_purged, mapped_recorded}
 
 -- ---- what is said
 
@@ -71,22 +63,22 @@ change_alike (Some o) t = elim (cases_Bool (same_settings o t && same_clips o.la
   ]
 ]
 
-told_alike : (current : List Track) (t : Track) → told_bytes (map unnumbered current) (unnumbered t)
-    ≡ told_bytes current t
-told_alike current t = ap (λ (bytes : List ℕ). little_bytes 8 t.id ++ bytes)
+diff_alike : (current : List Track) (t : Track) → diff_bytes (map unnumbered current) (unnumbered t)
+    ≡ diff_bytes current t
+diff_alike current t = ap (λ (bytes : List ℕ). little_bytes 8 t.id ++ bytes)
     (ap (λ (old : Option Track). change_bytes (change_of old (unnumbered t))) (found_alike t.id current)
     ∙ change_alike (track_of t.id current) t)
 
-all_told_alike : (current ts : List Track)
-    → flat_map (told_bytes (map unnumbered current)) (map unnumbered ts) ≡ flat_map (told_bytes current) ts
-all_told_alike current [] = refl
-all_told_alike current (t ∷ ts) =
-    ap₂ (λ (xs ys : List ℕ). xs ++ ys) (told_alike current t) (all_told_alike current ts)
+all_diff_alike : (current ts : List Track)
+    → flat_map (diff_bytes (map unnumbered current)) (map unnumbered ts) ≡ flat_map (diff_bytes current) ts
+all_diff_alike current [] = refl
+all_diff_alike current (t ∷ ts) =
+    ap₂ (λ (xs ys : List ℕ). xs ++ ys) (diff_alike current t) (all_diff_alike current ts)
 
 delta_alike : (current ts : List Track)
     → delta_bytes (map unnumbered current) (map unnumbered ts) ≡ delta_bytes current ts
 delta_alike current ts =
-    ap₂ (λ (n : ℕ) (bytes : List ℕ). little_bytes 4 n ++ bytes) (length-map ts unnumbered) (all_told_alike current ts)
+    ap₂ (λ (n : ℕ) (bytes : List ℕ). little_bytes 4 n ++ bytes) (length-map ts unnumbered) (all_diff_alike current ts)
 
 pub delta_spelled_alike : (current : List Track) (body : Body)
     → delta_spelling (map unnumbered current) (unnumbered_body body) ≡ delta_spelling current body
@@ -155,40 +147,36 @@ pub edited_alike : (h : History (List Track)) (ts : List Track) (tag : ℕ)
     → unnumbered_history (edited h ts tag) ≡ edited (unnumbered_history h) (map unnumbered ts) tag
 edited_alike = mapped_edited (map unnumbered)
 
-pub amended_alike : (h : History (List Track)) (ts : List Track)
-    → unnumbered_history (amended h ts) ≡ amended (unnumbered_history h) (map unnumbered ts)
-amended_alike = mapped_amended (map unnumbered)
-
 pub purged_alike : (h : History (List Track)) (n : ℕ)
     → unnumbered_history (purged h n) ≡ purged (unnumbered_history h) n
 purged_alike = mapped_purged (map unnumbered)
 
--- ---- what is sound
+-- ---- what is valid
 
 above_alike : (least : ℕ) (ts : List Track) → AreAbove least ts → AreAbove least (map unnumbered ts)
 above_alike least [] above = tt
 above_alike least (t ∷ ts) above = (above.0, above_alike (t.id + 1) ts above.1)
 
-tracks_sound_alike : (m block track : ℕ) (ts : List Track) → AllSoundTracks m block track ts
-    → AllSoundTracks m block track (map unnumbered ts)
-tracks_sound_alike m block track [] sound = tt
-tracks_sound_alike m block track (t ∷ ts) sound = (
+tracks_valid_alike : (m block track : ℕ) (ts : List Track) → AllValidTracks m block track ts
+    → AllValidTracks m block track (map unnumbered ts)
+tracks_valid_alike m block track [] valid = tt
+tracks_valid_alike m block track (t ∷ ts) valid = (
   record {
-    given = sound.0.given;
-    gain = sound.0.gain;
-    layout = sound.0.layout;
-    half_full = sound.0.half_full;
-    blocks = sound.0.blocks;
+    given = valid.0.given;
+    gain = valid.0.gain;
+    layout = valid.0.layout;
+    half_full = valid.0.half_full;
+    blocks = valid.0.blocks;
   },
-  tracks_sound_alike m block track ts sound.1,
+  tracks_valid_alike m block track ts valid.1,
 )
 
-pub sound_alike : (m block track : ℕ) (ts : List Track) → IsSoundPoint m block track ts
-    → IsSoundPoint m block track (map unnumbered ts)
-sound_alike m block track ts sound = record {
-  few = subst (λ (n : ℕ). n ≤ 64) (sym (length-map ts unnumbered)) sound.few;
-  rising = above_alike 1 ts sound.rising;
-  sound = tracks_sound_alike m block track ts sound.sound;
+pub valid_alike : (m block track : ℕ) (ts : List Track) → IsValidPoint m block track ts
+    → IsValidPoint m block track (map unnumbered ts)
+valid_alike m block track ts valid = record {
+  few = subst (λ (n : ℕ). n ≤ 64) (sym (length-map ts unnumbered)) valid.few;
+  rising = above_alike 1 ts valid.rising;
+  valid = tracks_valid_alike m block track ts valid.valid;
 }
 
 -- and back
@@ -197,24 +185,24 @@ above_back : (least : ℕ) (ts : List Track) → AreAbove least (map unnumbered 
 above_back least [] above = tt
 above_back least (t ∷ ts) above = (above.0, above_back (t.id + 1) ts above.1)
 
-tracks_back : (m block track : ℕ) (ts : List Track) → AllSoundTracks m block track (map unnumbered ts)
-    → AllSoundTracks m block track ts
-tracks_back m block track [] sound = tt
-tracks_back m block track (t ∷ ts) sound = (
+tracks_back : (m block track : ℕ) (ts : List Track) → AllValidTracks m block track (map unnumbered ts)
+    → AllValidTracks m block track ts
+tracks_back m block track [] valid = tt
+tracks_back m block track (t ∷ ts) valid = (
   record {
-    given = sound.0.given;
-    gain = sound.0.gain;
-    layout = sound.0.layout;
-    half_full = sound.0.half_full;
-    blocks = sound.0.blocks;
+    given = valid.0.given;
+    gain = valid.0.gain;
+    layout = valid.0.layout;
+    half_full = valid.0.half_full;
+    blocks = valid.0.blocks;
   },
-  tracks_back m block track ts sound.1,
+  tracks_back m block track ts valid.1,
 )
 
-pub sound_back : (m block track : ℕ) (ts : List Track) → IsSoundPoint m block track (map unnumbered ts)
-    → IsSoundPoint m block track ts
-sound_back m block track ts sound = record {
-  few = subst (λ (n : ℕ). n ≤ 64) (length-map ts unnumbered) sound.few;
-  rising = above_back 1 ts sound.rising;
-  sound = tracks_back m block track ts sound.sound;
+pub sound_back : (m block track : ℕ) (ts : List Track) → IsValidPoint m block track (map unnumbered ts)
+    → IsValidPoint m block track ts
+sound_back m block track ts valid = record {
+  few = subst (λ (n : ℕ). n ≤ 64) (length-map ts unnumbered) valid.few;
+  rising = above_back 1 ts valid.rising;
+  valid = tracks_back m block track ts valid.valid;
 }

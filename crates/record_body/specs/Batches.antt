@@ -1,10 +1,8 @@
 -- The records of pieces of a recording that come together.
 use Rattle.std.specs.Prelude.{ℕ, zero, suc, ◌+◌, List, [], ◌∷◌}
-use Rattle.record_body.specs.declared.body.Body.{Body}
 use Rattle.record_body.specs.declared.body.Body.TheVariants.{Edit, Undo, Redo, Purge}
+use Rattle.record_body.specs.{declared.body.Body.Body, Changes.spelling_in, Saved.Saved, Saved.after_body}
 use Rattle.project_state.specs.declared.track.Track.{Track}
-use Rattle.record_body.specs.Changes.{spelling_in}
-use Rattle.record_body.specs.Kept.{Kept, after_body}
 
 -- what a body says, with this point in the place of its own
 abbrev pub with_point : List Track → Body → Body
@@ -21,5 +19,5 @@ bodies_in version current (suc more) body =
     spelling_in version current (with_point current body) ∷ bodies_in version current more body
 
 -- what they lead to: what the last one leads to, and as many commits
-abbrev pub after_bodies : Kept → ℕ → Body → Kept
+abbrev pub after_bodies : Saved → ℕ → Body → Saved
 after_bodies k more body = record (after_body k body) { commit = k.commit + suc more }

@@ -1,21 +1,16 @@
 -- The tests of a body of kind 5, in the order of their places, by the current point.
-use Rattle.std.specs.Prelude.{ℕ, zero, suc, ◌+◌, ◌-◌, ◌==◌, ◌&&◌, nat_lt, Bool, true, false, min, max, None, Some, Option}
-use Rattle.std.specs.Prelude.{List, [], ◌∷◌, ◌++◌, length, take, slice_index, if◌then◌else◌}
+use Rattle.std.specs.Prelude.{ℕ, zero, suc, ◌+◌, ◌-◌, ◌==◌, ◌&&◌, nat_lt, Bool, true, false, min, max, None, Some}
+use Rattle.std.specs.Prelude.{Option, List, [], ◌∷◌, ◌++◌, length, take, slice_index, if◌then◌else◌}
 use Rattle.pcm_base.specs.declared.limits.TheConstants.{COUNTER_LIMIT, MAX_GAIN}
-use Rattle.pcm_base.specs.Blocks.{blocks_len}
-use Rattle.pcm_base.specs.declared.block.BlockRef.{BlockRef}
-use Rattle.project_journal.specs.Fields.{field}
-use Rattle.project_journal.specs.declared.fault.Damaged.{Damaged}
-use Rattle.record_body.specs.declared.kinds.TheConstants.{UNDO_KIND, DELTA_KIND}
-use Rattle.record_body.specs.declared.limits.Before.{Before}
-use Rattle.record_body.specs.declared.limits.Limits.{Limits}
-use Rattle.project_state.specs.declared.track.Track.{Track}
-use Rattle.record_body.specs.Changes.{last_blocks, last_start}
-use Rattle.record_body.specs.ChangePlaces.{mark_at, gone_at, fresh_at, told_size, asked_delta}
+use Rattle.pcm_base.specs.{Blocks.blocks_len, declared.block.BlockRef.BlockRef}
+use Rattle.project_journal.specs.{Fields.field, declared.fault.Damaged.Damaged}
+use Rattle.record_body.specs.ChangePlaces.{mark_at, gone_at, fresh_at, diff_size, asked_delta}
 use Rattle.record_body.specs.FirstFault.{least, most, place, least_len, blocks_tests, clips_tests, head_tests}
 use Rattle.record_body.specs.FirstFault.{limits_at}
-use Rattle.record_body.specs.Places.{clip_count, track_count}
-use Rattle.project_state.specs.Tracks.{track_of}
+use Rattle.record_body.specs.{declared.kinds.TheConstants.UNDO_KIND, declared.kinds.TheConstants.DELTA_KIND}
+use Rattle.record_body.specs.{declared.limits.Before.Before, declared.limits.Limits.Limits, Changes.last_blocks}
+use Rattle.record_body.specs.{Changes.last_start, Places.clip_count, Places.track_count}
+use Rattle.project_state.specs.{declared.track.Track.Track, Tracks.track_of}
 
 -- an id that was given, above that of the track before
 abbrev pub id_tests : Limits → ℕ → ℕ → List ℕ → List Damaged
@@ -82,18 +77,18 @@ change_tests l old at bytes =
     mark_tests (place l.base (at + 8)) (mark_want old (mark_at at bytes)) (mark_at at bytes)
     ++ marked_tests l old at bytes
 
-abbrev pub told_tests : Limits → List Track → ℕ → ℕ → List ℕ → List Damaged
-told_tests l current from at bytes =
+abbrev pub diff_tests : Limits → List Track → ℕ → ℕ → List ℕ → List Damaged
+diff_tests l current from at bytes =
     id_tests l from at bytes ++ change_tests l (track_of (field at 8 bytes) current) at bytes
 
-abbrev pub all_told_tests : Limits → List Track → ℕ → ℕ → ℕ → List ℕ → List Damaged
-all_told_tests l current zero from at bytes = []
-all_told_tests l current (suc count) from at bytes = told_tests l current from at bytes
-    ++ all_told_tests l current count (field at 8 bytes + 1) (at + told_size at bytes) bytes
+abbrev pub all_diff_tests : Limits → List Track → ℕ → ℕ → ℕ → List ℕ → List Damaged
+all_diff_tests l current zero from at bytes = []
+all_diff_tests l current (suc count) from at bytes = diff_tests l current from at bytes
+    ++ all_diff_tests l current count (field at 8 bytes + 1) (at + diff_size at bytes) bytes
 
 abbrev pub delta_edit_tests : ℕ → Before → List Track → List ℕ → List Damaged
 delta_edit_tests m b current bytes =
-    head_tests b bytes ++ all_told_tests (limits_at m b bytes) current (track_count bytes) 0 29 bytes
+    head_tests b bytes ++ all_diff_tests (limits_at m b bytes) current (track_count bytes) 0 29 bytes
 
 abbrev pub delta_length_test : Before → List ℕ → Damaged
 delta_length_test b bytes = record { at = b.at - 4; want = asked_delta bytes; have = length bytes }

@@ -1,19 +1,15 @@
 -- How a record tells a track of an edit by the current point: as it is there, written out, or with the last blocks of
 -- its last clip replaced.
-use Rattle.std.specs.Prelude.{ℕ, suc, ◌-◌, ◌==◌, ◌&&◌, nat_lt, Bool, true, false, if◌then◌else◌, List, [], ◌∷◌, ◌++◌, length}
-use Rattle.std.specs.Prelude.{take, drop, Option, Some, None}
-use Rattle.std.specs.Option.{option_map}
-use Rattle.std.specs.List.{flat_map}
+use Rattle.std.specs.Prelude.{ℕ, suc, ◌-◌, ◌==◌, ◌&&◌, nat_lt, Bool, true, false, if◌then◌else◌, List, [], ◌∷◌, ◌++◌}
+use Rattle.std.specs.Prelude.{length, take, drop, Option, Some, None}
+use Rattle.std.specs.{Option.option_map, List.flat_map}
 use Rattle.byteorder.specs.Endian.{little_bytes}
 use Rattle.pcm_base.specs.declared.block.BlockRef.{BlockRef}
 use Rattle.clip_track.specs.declared.clips.Clip.{Clip}
-use Rattle.project_state.specs.declared.track.Track.{Track}
-use Rattle.record_body.specs.declared.body.Body.{Body}
+use Rattle.project_state.specs.{declared.track.Track.Track, Numbers.unnumbered, Tracks.track_of}
 use Rattle.record_body.specs.declared.body.Body.TheVariants.{Edit, Undo, Redo, Purge}
-use Rattle.record_body.specs.declared.kinds.TheConstants.{DELTA_KIND}
-use Rattle.project_state.specs.Numbers.{unnumbered}
 use Rattle.record_body.specs.Spelling.{block_bytes, clip_bytes, side_byte, mute_byte, spelling}
-use Rattle.project_state.specs.Tracks.{track_of}
+use Rattle.record_body.specs.{declared.body.Body.Body, declared.kinds.TheConstants.DELTA_KIND}
 
 pub data Change : Type 0 where
   Same : Change
@@ -114,11 +110,11 @@ change_bytes (Whole t) = 1 ∷ heard_bytes t
 change_bytes (Tail gone ys) = 2 ∷ (little_bytes 4 gone ++ (little_bytes 4 (length ys) ++ flat_map block_bytes ys))
 
 -- the id, and how the track is written by the current point
-abbrev pub told_bytes : List Track → Track → List ℕ
-told_bytes current t = little_bytes 8 t.id ++ change_bytes (change_of (track_of t.id current) t)
+abbrev pub diff_bytes : List Track → Track → List ℕ
+diff_bytes current t = little_bytes 8 t.id ++ change_bytes (change_of (track_of t.id current) t)
 
 abbrev pub delta_bytes : List Track → List Track → List ℕ
-delta_bytes current ts = little_bytes 4 (length ts) ++ flat_map (told_bytes current) ts
+delta_bytes current ts = little_bytes 4 (length ts) ++ flat_map (diff_bytes current) ts
 
 -- the spelling of a body by the current point: an edit has a kind of its own
 abbrev pub delta_spelling : List Track → Body → List ℕ

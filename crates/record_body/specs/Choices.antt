@@ -3,8 +3,8 @@ use Rattle.std.specs.Prelude.{◌≤◌, ◌<◌, length, drop}
 use Rattle.pcm_base.specs.declared.limits.TheConstants.{MAX_CELLS}
 use Rattle.project_state.specs.declared.track.Track.{Track}
 use Rattle.record_body.specs.declared.changes.Choice.{Choice}
-use Rattle.record_body.specs.declared.changes.Choice.TheVariants as choice
 use Rattle.record_body.specs.Changes.{Change, Same, Whole, Tail, last_blocks}
+use Rattle.record_body.specs.declared.changes.Choice.TheVariants as choice
 
 -- a choice as a change to this track
 abbrev pub change_by : Track → Choice → Change

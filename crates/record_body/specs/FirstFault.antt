@@ -2,16 +2,12 @@
 use Rattle.std.specs.Prelude.{◌≡◌, ℕ, zero, suc, ◌+◌, ◌-◌, ◌^◌, ◌/◌, ◌==◌, nat_lt, Bool, min, max, None, Some, List, []}
 use Rattle.std.specs.Prelude.{◌∷◌, ◌++◌, length, slice_index, if◌then◌else◌, Result, Ok, Err}
 use Rattle.pcm_base.specs.declared.limits.TheConstants.{COUNTER_LIMIT, FIRST_BLOCK, MAX_CELLS, MAX_GAIN, MAX_TRACKS}
-use Rattle.project_journal.specs.Fields.{field}
-use Rattle.project_journal.specs.Header.{first_failed}
-use Rattle.project_journal.specs.declared.fault.Damaged.{Damaged}
+use Rattle.project_journal.specs.{Fields.field, Header.first_failed, declared.fault.Damaged.Damaged}
 use Rattle.record_body.specs.declared.kinds.TheConstants.{EDIT_KIND, PURGE_KIND}
-use Rattle.record_body.specs.declared.limits.Limits.{Limits}
-use Rattle.record_body.specs.declared.limits.Before.{Before}
-use Rattle.record_body.specs.declared.limits.BadBody.{BadBody}
-use Rattle.record_body.specs.declared.limits.BadBody.TheVariants as bad
 use Rattle.record_body.specs.Places.{block_count, clip_size, clip_count, clip_end_at, track_size, track_count}
-use Rattle.record_body.specs.Widths.{asked_length}
+use Rattle.record_body.specs.{declared.limits.Limits.Limits, declared.limits.Before.Before}
+use Rattle.record_body.specs.{declared.limits.BadBody.BadBody, Widths.asked_length}
+use Rattle.record_body.specs.declared.limits.BadBody.TheVariants as bad
 
 -- A value has to be at least, or at most, a bound. A test fails where the nearest value that it allows is not the one
 -- that is there.

@@ -1,37 +1,26 @@
 -- What is proved of the definitions themselves.
 use Rattle.std.specs.Prelude.{◌≡◌, ◌+◌, ◌-◌, ◌<◌, ◌≤◌, ◌^◌, ℕ, List, length, Option, Some, None, slice_index}
-use Rattle.pcm_base.specs.declared.block.BlockRef.{BlockRef}
-use Rattle.project_state.specs.declared.track.Track.{Track}
-use Rattle.project_journal.specs.Header.{first_failed}
-use Rattle.record_body.specs.declared.body.Body.{Body}
-use Rattle.record_body.specs.declared.body.Body.TheVariants.{Edit}
-use Rattle.record_body.specs.declared.limits.Before.{Before}
-use Rattle.record_body.specs.Batches.{after_bodies, bodies_in}
-use Rattle.record_body.specs.Changes.{Same, change_of, changed, common, delta_spelling, last_blocks, tailed}
-use Rattle.record_body.specs.ChangeTests.{delta_tests}
-use Rattle.record_body.specs.DeltaBodies.{SaysBody}
-use Rattle.project_state.specs.Numbers.{unnumbered}
-use Rattle.record_body.specs.Sound.{IsSound, IsSoundPoint}
-use Rattle.project_state.specs.Tracks.{track_of}
-use Rattle.disk_model.specs.Disk.{Files}
 use Rattle.std.specs.List.{AllByRecursion}
-use Rattle.pcm_base.specs.declared.limits.TheConstants.{COUNTER_LIMIT}
+use Rattle.pcm_base.specs.{declared.block.BlockRef.BlockRef, declared.limits.TheConstants.COUNTER_LIMIT}
+use Rattle.project_state.specs.{declared.track.Track.Track, Numbers.unnumbered, Tracks.track_of, Meaning.history_blocks}
+use Rattle.project_journal.specs.{Header.first_failed, Header.Form, Header.IsForm, Journal.Log, Packing.HasEither}
+use Rattle.record_body.specs.Changes.{Same, change_of, changed, common, delta_spelling, last_blocks, tailed}
+use Rattle.record_body.specs.Saved.{Saved, Opened, Keeps, Begins, LeadIn, IsPacked, MayFollow, IsNextDiff, opened}
+use Rattle.record_body.specs.Saved.{before_of, current_tracks, version_of}
+use Rattle.record_body.specs.{declared.body.Body.Body, declared.body.Body.TheVariants.Edit}
+use Rattle.record_body.specs.{declared.limits.Before.Before, Batches.after_bodies, Batches.bodies_in}
+use Rattle.record_body.specs.{ChangeTests.delta_tests, DeltaBodies.SaysBody, Valid.IsValidBody, Valid.IsValidPoint}
+use Rattle.disk_model.specs.Disk.{Files}
 use Rattle.sample_block.specs.Sources.{IsWhole}
-use Rattle.project_journal.specs.Header.{Form, IsForm}
-use Rattle.project_journal.specs.Journal.{Log}
-use Rattle.project_journal.specs.Packing.{HasEither}
-use Rattle.record_body.specs.Kept.{Kept, Opened, Keeps, Begins, LeadIn, IsPacked, MayFollow, IsNextTold, opened}
-use Rattle.record_body.specs.Kept.{before_of, current_tracks, version_of}
-use Rattle.project_state.specs.Meaning.{history_blocks}
 
 -- a disk keeps one project at most, whichever file and version its journal is in
 abbrev pub KeepsOne : Type 0
 KeepsOne = (files : Files) (a b : Opened) → Keeps files a → Keeps files b → a ≡ b
 
 -- a journal and the one into which it was put, as a header alone, are one project
-abbrev pub PackedIsKept : Type 0
-PackedIsKept =
-    (form : Form) (log packed : Log) (base kept : Kept) (c : Files) → IsForm form → form.file ≤ 1 → Begins log base
+abbrev pub PackedIsSaved : Type 0
+PackedIsSaved =
+    (form : Form) (log packed : Log) (base kept : Saved) (c : Files) → IsForm form → form.file ≤ 1 → Begins log base
     → LeadIn (version_of form) log.block_size base log.bodies kept → IsPacked log kept packed
     → AllByRecursion (IsWhole c) (history_blocks kept.history) → HasEither form log packed c
     → Keeps c (opened log kept c)
@@ -66,31 +55,31 @@ EndsShort (Some old) = length (last_blocks old.layout) < 2 ^ 32
 abbrev pub HasShortEnds : List Track → Type 0
 HasShortEnds current = (id : ℕ) → EndsShort (track_of id current)
 
--- A sound body that is written by the current point passes the tests where the record may follow, and its bytes say
+-- A valid body that is written by the current point passes the tests where the record may follow, and its bytes say
 -- that body.
 abbrev pub WrittenIsRead : Type 0
 WrittenIsRead =
     (m : ℕ) (before : Before) (current : List Track) (body : Body) → 4 ≤ m → m < 2 ^ 32
-    → before.commits < COUNTER_LIMIT → HasShortEnds current → IsSound m before body
+    → before.commits < COUNTER_LIMIT → HasShortEnds current → IsValidBody m before body
     → (first_failed (delta_tests m before current (delta_spelling current body)) ≡ None)
     × SaysBody current (delta_spelling current body) body
 
 -- What bytes say by a valid point may come next, where they pass their tests and the history has room for it.
 abbrev pub PassedIsNext : Type 0
 PassedIsNext =
-    (m : ℕ) (k : Kept) (bytes : List ℕ) (body : Body) → ((i : ℕ) → slice_index bytes i < 256)
-    → IsSoundPoint m k.next_block k.next_track (current_tracks k.history)
+    (m : ℕ) (k : Saved) (bytes : List ℕ) (body : Body) → ((i : ℕ) → slice_index bytes i < 256)
+    → IsValidPoint m k.next_block k.next_track (current_tracks k.history)
     → first_failed (delta_tests m (before_of k) (current_tracks k.history) bytes) ≡ None
-    → SaysBody (current_tracks k.history) bytes body → MayFollow k.history body → IsNextTold m k bytes body
+    → SaysBody (current_tracks k.history) bytes body → MayFollow k.history body → IsNextDiff m k bytes body
 
 -- Records that come together, all but the last of which say the current point under the last one's tag, lead to the
 -- last one's point, and are as many commits.
 abbrev pub BatchesLead : Type 0
 BatchesLead =
-    (version m more : ℕ) (k : Kept) (tag next_block next_track : ℕ) (point : List Track) → 1 ≤ version → version ≤ 3
+    (version m more : ℕ) (k : Saved) (tag next_block next_track : ℕ) (point : List Track) → 1 ≤ version → version ≤ 3
     → 4 ≤ m → m < 2 ^ 32 → 1 ≤ k.history.depth → 1 ≤ tag → k.commit + more < COUNTER_LIMIT
     → HasShortEnds (current_tracks k.history)
-    → IsSound m (before_of k) (Edit tag next_block next_track (current_tracks k.history))
-    → IsSound m (before_of k) (Edit tag next_block next_track point)
+    → IsValidBody m (before_of k) (Edit tag next_block next_track (current_tracks k.history))
+    → IsValidBody m (before_of k) (Edit tag next_block next_track point)
     → LeadIn version m k (bodies_in version (current_tracks k.history) more (Edit tag next_block next_track point))
     (after_bodies k more (Edit tag next_block next_track point))

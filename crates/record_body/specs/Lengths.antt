@@ -6,11 +6,11 @@ use Rattle.record_body.specs.declared.body.Body.{Body}
 use Rattle.record_body.specs.declared.body.Body.TheVariants.{Edit, Undo, Redo, Purge}
 
 -- the tracks that a body tells
-abbrev pub told_tracks : Body → List Track
-told_tracks (Edit tag next_block next_track tracks) = tracks
-told_tracks Undo = []
-told_tracks Redo = []
-told_tracks (Purge n) = []
+abbrev pub body_tracks : Body → List Track
+body_tracks (Edit tag next_block next_track tracks) = tracks
+body_tracks Undo = []
+body_tracks Redo = []
+body_tracks (Purge n) = []
 
 abbrev pub AreLayouts : List Track → Type 0
 AreLayouts [] = Unit {0}

@@ -4,7 +4,7 @@ pub mod Places
 pub mod Widths
 pub mod FirstFault
 pub mod PointTests
-pub mod Sound
+pub mod Valid
 pub mod Lengths
 pub mod Changes
 pub mod Choices
@@ -12,7 +12,7 @@ pub mod ChangePlaces
 pub mod ChangeTests
 pub mod DeltaBodies
 pub mod Told
-pub mod Kept
-pub mod KeptSound
+pub mod Saved
+pub mod SavedValid
 pub mod Batches
 pub mod Laws

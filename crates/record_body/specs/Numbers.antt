@@ -1,7 +1,6 @@
 -- Bodies without the numbers of layouts, as records and headers say them, and bodies that agree with a point by them.
 use Rattle.std.specs.Prelude.{List, map}
-use Rattle.project_state.specs.declared.track.Track.{Track}
-use Rattle.project_state.specs.Numbers.{AgreeById, unnumbered}
+use Rattle.project_state.specs.{declared.track.Track.Track, Numbers.AgreeById, Numbers.unnumbered}
 use Rattle.record_body.specs.declared.body.Body.{Body}
 use Rattle.record_body.specs.declared.body.Body.TheVariants.{Edit, Undo, Redo, Purge}
 

@@ -1,14 +1,13 @@
 -- What stands in the bytes of a body, place by place. A place is counted from the body's first byte.
 use Rattle.std.specs.Prelude.{ℕ, zero, suc, ◌+◌, ◌*◌, ◌==◌, nat_lt, List, [], ◌∷◌, slice_index, if◌then◌else◌}
-use Rattle.pcm_base.specs.declared.block.BlockRef.{BlockRef}
-use Rattle.pcm_base.specs.declared.sound.Side.{Side}
-use Rattle.pcm_base.specs.declared.sound.Side.TheVariants as side
+use Rattle.pcm_base.specs.{declared.block.BlockRef.BlockRef, declared.sound.Side.Side}
 use Rattle.clip_track.specs.declared.clips.Clip.{Clip}
 use Rattle.project_journal.specs.Fields.{field}
 use Rattle.project_state.specs.declared.track.Track.{Track}
 use Rattle.record_body.specs.declared.body.Body.{Body}
 use Rattle.record_body.specs.declared.body.Body.TheVariants.{Edit, Undo, Redo, Purge}
 use Rattle.record_body.specs.declared.kinds.TheConstants.{EDIT_KIND, UNDO_KIND, REDO_KIND}
+use Rattle.pcm_base.specs.declared.sound.Side.TheVariants as side
 
 abbrev pub block_at : ℕ → List ℕ → BlockRef
 block_at at bytes = record { id = field at 8 bytes; len = field (at + 8) 4 bytes }

@@ -1,14 +1,11 @@
 -- The tests of a header's point, in the order of their places: its tag, and its tracks.
 use Rattle.std.specs.Prelude.{ℕ, ◌-◌, List, [], ◌∷◌, ◌++◌, length}
 use Rattle.pcm_base.specs.declared.limits.TheConstants.{MAX_TRACKS}
-use Rattle.project_journal.specs.Fields.{field}
-use Rattle.project_journal.specs.declared.fault.Damaged.{Damaged}
-use Rattle.record_body.specs.declared.limits.Before.{Before}
-use Rattle.record_body.specs.declared.limits.Limits.{Limits}
-use Rattle.project_state.specs.declared.track.Track.{Track}
+use Rattle.project_journal.specs.{Fields.field, declared.fault.Damaged.Damaged}
 use Rattle.record_body.specs.FirstFault.{most, place, tracks_tests}
-use Rattle.record_body.specs.Places.{tracks_at}
 use Rattle.record_body.specs.Widths.{reach, tracks_widths}
+use Rattle.record_body.specs.{declared.limits.Before.Before, declared.limits.Limits.Limits, Places.tracks_at}
+use Rattle.project_state.specs.declared.track.Track.{Track}
 
 -- how many tracks a point has
 abbrev pub point_count : List ℕ → ℕ

@@ -2,14 +2,13 @@
 use Rattle.std.specs.Prelude.{ℕ, Bool, List, [], ◌∷◌, ◌++◌, length, if◌then◌else◌}
 use Rattle.std.specs.List.{flat_map}
 use Rattle.byteorder.specs.Endian.{little_bytes}
-use Rattle.pcm_base.specs.declared.block.BlockRef.{BlockRef}
-use Rattle.pcm_base.specs.declared.sound.Side.{Side}
-use Rattle.pcm_base.specs.declared.sound.Side.TheVariants as side
+use Rattle.pcm_base.specs.{declared.block.BlockRef.BlockRef, declared.sound.Side.Side}
 use Rattle.clip_track.specs.declared.clips.Clip.{Clip}
 use Rattle.project_state.specs.declared.track.Track.{Track}
 use Rattle.record_body.specs.declared.body.Body.{Body}
 use Rattle.record_body.specs.declared.body.Body.TheVariants.{Edit, Undo, Redo, Purge}
 use Rattle.record_body.specs.declared.kinds.TheConstants.{EDIT_KIND, UNDO_KIND, REDO_KIND, PURGE_KIND}
+use Rattle.pcm_base.specs.declared.sound.Side.TheVariants as side
 
 -- id and length
 abbrev pub block_bytes : BlockRef → List ℕ

@@ -3,12 +3,10 @@
 use Rattle.std.specs.Prelude.{◌≡◌, ℕ, Option, Some, List, [], ◌∷◌, ◌++◌, map}
 use Rattle.project_state.specs.declared.track.Track.{Track}
 use Rattle.project_state.specs.Numbers.{AreNewOrCurrent, IsNewOrCurrent, unnumbered}
-use Rattle.record_body.specs.declared.body.Body.{Body}
 use Rattle.record_body.specs.declared.body.Body.TheVariants.{Edit, Undo, Redo, Purge}
-use Rattle.record_body.specs.Changes.{changed}
-use Rattle.record_body.specs.ChangePlaces.{all_told_at, change_at}
+use Rattle.record_body.specs.ChangePlaces.{all_diff_at, change_at}
 use Rattle.record_body.specs.DeltaBodies.{SaysBody, SaysEdit}
-use Rattle.record_body.specs.Numbers.{unnumbered_body}
+use Rattle.record_body.specs.{declared.body.Body.Body, Changes.changed, Numbers.unnumbered_body}
 
 -- One track more stands after others: what is said at a place by this track of the current point, or by none.
 pub record AddsTold (current : List Track) (old : Option Track) (at : ℕ) (bytes : List ℕ) (before after : List Track)
@@ -19,8 +17,8 @@ pub record AddsTold (current : List Track) (old : Option Track) (at : ℕ) (byte
   pub number : IsNewOrCurrent current track
 
 -- this number of tracks, from a place on
-pub record AreTold (current : List Track) (count at : ℕ) (bytes : List ℕ) (ts : List Track) : Type 0 where
-  pub said : map Some (map unnumbered ts) ≡ all_told_at current count at bytes
+pub record AreDiff (current : List Track) (count at : ℕ) (bytes : List ℕ) (ts : List Track) : Type 0 where
+  pub said : map Some (map unnumbered ts) ≡ all_diff_at current count at bytes
   pub numbers : AreNewOrCurrent current ts
 
 -- the tracks of a body have no numbers, or are current ones

@@ -41,23 +41,23 @@ fn fit_marked(bytes: &[u8], at: usize) -> Result<usize, PastEnd>
 }
 
 /// Where the track at a place ends.
-fn fit_told(bytes: &[u8], at: usize) -> Result<usize, PastEnd>
+fn fit_diff(bytes: &[u8], at: usize) -> Result<usize, PastEnd>
     requires within { at ≤ length bytes.now }
-    ensures { Reaches (length bytes.now) at (there.told_widths at bytes.now) result }
+    ensures { Reaches (length bytes.now) at (there.diff_widths at bytes.now) result }
 {
     let end = fit_all(bytes.len(), at, &[8, 1])?;
     fit_marked(bytes, end - 9)
 }
 
 /// Where this number of tracks ends. After a mark that is not known all that is left is taken for its track.
-fn fit_all_told(bytes: &[u8], at: usize, count: u32) -> Result<usize, PastEnd>
+fn fit_all_diff(bytes: &[u8], at: usize, count: u32) -> Result<usize, PastEnd>
     requires within { at ≤ length bytes.now }
-    ensures { Reaches (length bytes.now) at (there.all_told_widths count at bytes.now) result }
+    ensures { Reaches (length bytes.now) at (there.all_diff_widths count at bytes.now) result }
 {
     let mut end = at;
     for _ in 0..count {
         let from = end;
-        end = fit_told(bytes, from)?;
+        end = fit_diff(bytes, from)?;
         if bytes[from + 8] > 2 {
             return Ok(end);
         }
@@ -70,7 +70,7 @@ fn fit_delta(bytes: &[u8]) -> Result<usize, PastEnd>
     ensures { Reaches (length bytes.now) 0 (there.delta_widths bytes.now) result }
 {
     let end = fit_all(bytes.len(), 0, &[1, 8, 8, 8, 4])?;
-    fit_all_told(bytes, end, u32_at(bytes, end - 4))
+    fit_all_diff(bytes, end, u32_at(bytes, end - 4))
 }
 
 /// The length that the fields ask of the body: up to the end of the first that does not fit, else of the last.

@@ -8,7 +8,7 @@ ghost use Rattle.record_body.specs.ChangePlaces as there;
 ghost use Rattle.record_body.specs.ChangeTests as test;
 ghost use Rattle.record_body.specs.FirstFault.{Tells, Finds};
 ghost use Rattle.record_body.specs.Lengths.{AreHalfFull};
-ghost use Rattle.record_body.specs.Told.{AddsTold, AreTold};
+ghost use Rattle.record_body.specs.Told.{AddsTold, AreDiff};
 ghost use Rattle.project_state.specs.declared.track.Track.{Track};
 ghost use Rattle.project_state.specs.Numbers.{unnumbered};
 ghost use Rattle.project_state.specs.Tracks.{AllBelow, track_of};
@@ -161,7 +161,7 @@ fn add_known(
     i: usize,
     point: &mut Point,
 ) -> Result<(), BadBody>
-    requires within { there.HasTold at bytes.now }
+    requires within { there.HasDiff at bytes.now }
     requires here { i < length current.now }
     requires found { (t : Track) → slice_get current.now i ≡ Some t
         → track_of (field at 8 bytes.now) current.now ≡ Some t }
@@ -193,7 +193,7 @@ fn add_new(
     limits: Limits,
     point: &mut Point,
 ) -> Result<(), BadBody>
-    requires within { there.HasTold at bytes.now }
+    requires within { there.HasDiff at bytes.now }
     requires above { AllBelow (field at 8 bytes.now) point.old }
     requires few { length point.old < MAX_TRACKS }
     ensures { Finds (test.change_tests limits None at bytes.now)
@@ -214,11 +214,11 @@ fn add_told(
     current: &Point,
     point: &mut Point,
 ) -> Result<(), BadBody>
-    requires within { there.HasTold at bytes.now }
+    requires within { there.HasDiff at bytes.now }
     requires half_full { AreHalfFull limits.block_size current.now }
     requires below { AllBelow from point.old }
     requires few { length point.old < MAX_TRACKS }
-    ensures { Finds (test.told_tests limits current.now from at bytes.now)
+    ensures { Finds (test.diff_tests limits current.now from at bytes.now)
         (λ _. AddsTold current.now (track_of (field at 8 bytes.now) current.now) at bytes.now point.old point.new)
         result }
 {
@@ -230,11 +230,11 @@ fn add_told(
 }
 
 /// How many bytes tell the track at a place, whose mark is known.
-fn told_len_at(bytes: &[u8], at: usize, track: &Track) -> usize
-    requires within { there.HasTold at bytes.now }
+fn diff_len_at(bytes: &[u8], at: usize, track: &Track) -> usize
+    requires within { there.HasDiff at bytes.now }
     requires known { there.mark_at at bytes.now ≤ 2 }
     requires whole { there.mark_at at bytes.now ≡ 1 → unnumbered track.now ≡ there.whole_at at bytes.now }
-    ensures { result ≡ there.told_size at bytes.now }
+    ensures { result ≡ there.diff_size at bytes.now }
 {
     match u8_at(bytes, at + 8) {
         0 => 9,
@@ -245,7 +245,7 @@ fn told_len_at(bytes: &[u8], at: usize, track: &Track) -> usize
 
 /// This many tracks from a place on, by the current point. A track that is said to be the same is the current one,
 /// which both points have then, with its number. All others have none.
-pub(crate) fn read_all_told(
+pub(crate) fn read_all_diff(
     alloc: Global,
     bytes: &[u8],
     at: usize,
@@ -253,11 +253,11 @@ pub(crate) fn read_all_told(
     limits: Limits,
     current: &Point,
 ) -> Result<Point, BadBody>
-    requires within { there.HaveTold count at bytes.now }
+    requires within { there.HaveDiff count at bytes.now }
     requires few { count ≤ MAX_TRACKS }
     requires half_full { AreHalfFull limits.block_size current.now }
-    ensures { Finds (test.all_told_tests limits current.now count 0 at bytes.now)
-        (AreTold current.now count at bytes.now) result }
+    ensures { Finds (test.all_diff_tests limits current.now count 0 at bytes.now)
+        (AreDiff current.now count at bytes.now) result }
 {
     let mut point = Point::new(alloc);
     let mut next = at;
@@ -266,7 +266,7 @@ pub(crate) fn read_all_told(
         add_told(alloc, bytes, next, limits, from, current, &mut point)?;
         let last = point.len() - 1;
         let track = point.track_at(last);
-        next += told_len_at(bytes, next, track);
+        next += diff_len_at(bytes, next, track);
         from = track.id + 1;
     }
     Ok(point)

@@ -6,7 +6,7 @@ ghost use Rattle.byteorder.specs.Endian.{little_bytes};
 ghost use Rattle.record_body.specs.Changes as change;
 ghost use Rattle.record_body.specs.Choices.{change_by, LiesWithin};
 ghost use Rattle.record_body.specs.declared.kinds.TheConstants.{DELTA_KIND};
-ghost use Rattle.record_body.specs.Lengths.{told_tracks};
+ghost use Rattle.record_body.specs.Lengths.{body_tracks};
 ghost use Rattle.project_state.specs.Numbers.{AgreeById, AgreesIfAny};
 ghost use Rattle.record_body.specs.Numbers.{BodyAgrees};
 ghost use Rattle.record_body.specs.Spelling.{block_bytes, side_byte, mute_byte, spelling};
@@ -45,9 +45,9 @@ fn fresh(track: &Track, kept: usize) -> &[BlockRef]
 }
 
 /// How many bytes tell a track.
-fn told_len(current: &Point, track: &Track) -> usize
+fn diff_len(current: &Point, track: &Track) -> usize
     requires numbers { AgreesIfAny (track_of track.now.id current.now) track.now }
-    ensures value { result ≡ length (change.told_bytes current.now track.now) }
+    ensures value { result ≡ length (change.diff_bytes current.now track.now) }
     ensures few { result ≤ 2 ^ 38 }
 {
     match choice_in(current, track) {
@@ -119,37 +119,37 @@ fn write_change(choice: Choice, track: &Track, out: &mut [u8])
 }
 
 /// The id, and how the track is written by the current point.
-fn write_told(current: &Point, track: &Track, out: &mut [u8])
+fn write_diff(current: &Point, track: &Track, out: &mut [u8])
     requires numbers { AgreesIfAny (track_of track.now.id current.now) track.now }
-    requires size { length out.old ≡ length (change.told_bytes current.now track.now) }
-    ensures { out.new ≡ change.told_bytes current.now track.now }
+    requires size { length out.old ≡ length (change.diff_bytes current.now track.now) }
+    ensures { out.new ≡ change.diff_bytes current.now track.now }
 {
     LittleEndian::write_u64(out, track.id);
     write_change(choice_in(current, track), track, &mut out[8..]);
 }
 
-fn all_told_len(current: &Point, point: &Point) -> usize
+fn all_diff_len(current: &Point, point: &Point) -> usize
     requires numbers { AgreeById current.now point.now }
-    ensures value { result ≡ length (flat_map (change.told_bytes current.now) point.now) }
+    ensures value { result ≡ length (flat_map (change.diff_bytes current.now) point.now) }
     ensures few { result ≤ 2 ^ 44 }
 {
     let mut len = 0;
     for i in 0..point.len() {
-        len += told_len(current, point.track_at(i));
+        len += diff_len(current, point.track_at(i));
     }
     len
 }
 
-fn write_all_told(current: &Point, point: &Point, out: &mut [u8])
+fn write_all_diff(current: &Point, point: &Point, out: &mut [u8])
     requires numbers { AgreeById current.now point.now }
-    requires size { length out.old ≡ length (flat_map (change.told_bytes current.now) point.now) }
-    ensures { out.new ≡ flat_map (change.told_bytes current.now) point.now }
+    requires size { length out.old ≡ length (flat_map (change.diff_bytes current.now) point.now) }
+    ensures { out.new ≡ flat_map (change.diff_bytes current.now) point.now }
 {
     let mut at = 0;
     for i in 0..point.len() {
         let track = point.track_at(i);
-        let end = at + told_len(current, track);
-        write_told(current, track, &mut out[at..end]);
+        let end = at + diff_len(current, track);
+        write_diff(current, track, &mut out[at..end]);
         at = end;
     }
 }
@@ -160,7 +160,7 @@ fn write_delta(current: &Point, point: &Point, out: &mut [u8])
     ensures { out.new ≡ change.delta_bytes current.now point.now }
 {
     write_count(point.len(), out);
-    write_all_told(current, point, &mut out[4..]);
+    write_all_diff(current, point, &mut out[4..]);
 }
 
 fn write_edit_by(
@@ -188,10 +188,10 @@ pub fn delta_len(body: &Body, current: &Point) -> usize
     ensures value { result ≡ length (change.delta_spelling current.now body.now) }
     ensures few { result ≤ 2 ^ 45 }
     // It passes the length of the body that is written by no point by one byte a track at most.
-    ensures more { result ≤ length (spelling body.now) + length (told_tracks body.now) }
+    ensures more { result ≤ length (spelling body.now) + length (body_tracks body.now) }
 {
     match body {
-        Body::Edit { point, .. } => 29 + all_told_len(current, point),
+        Body::Edit { point, .. } => 29 + all_diff_len(current, point),
         _ => body_len(body),
     }
 }

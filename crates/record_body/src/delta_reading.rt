@@ -11,13 +11,13 @@ ghost use Rattle.record_body.specs.Lengths.{AreHalfFull};
 ghost use Rattle.record_body.specs.Laws.{HasShortEnds};
 ghost use Rattle.record_body.specs.Numbers.{unnumbered_body};
 ghost use Rattle.record_body.specs.Places.{track_count};
-ghost use Rattle.record_body.specs.Sound.{IsSound, IsSoundPoint};
+ghost use Rattle.record_body.specs.Valid.{IsValidBody, IsValidPoint};
 ghost use Rattle.record_body.specs.Told.{BodyShares, ReadsBody, ReadsEdit};
 
 use super::body::Body;
 use super::bounds::least;
 use super::changes_measuring::asked_delta_len;
-use super::changes_reading::read_all_told;
+use super::changes_reading::read_all_diff;
 use super::kinds::{DELTA_KIND, REDO_KIND, UNDO_KIND};
 use super::limits::{BadBody, Before, Limits};
 use super::reading::test_head;
@@ -34,7 +34,7 @@ fn read_edit_by(
     current: &Point,
 ) -> Result<Body, BadBody>
     requires long { 29 ≤ length bytes.now }
-    requires within { there.HaveTold (track_count bytes.now) 29 bytes.now }
+    requires within { there.HaveDiff (track_count bytes.now) 29 bytes.now }
     requires half_full { AreHalfFull m current.now }
     ensures { Finds (test.delta_edit_tests m before current.now bytes.now) (ReadsEdit current.now bytes.now) result }
 {
@@ -47,7 +47,7 @@ fn read_edit_by(
         next_block,
         next_track,
     };
-    let point = read_all_told(alloc, bytes, 29, u32_at(bytes, 25), limits, current)?;
+    let point = read_all_diff(alloc, bytes, 29, u32_at(bytes, 25), limits, current)?;
     Ok(Body::Edit {
         tag: u64_at(bytes, 1),
         next_block,
@@ -124,10 +124,10 @@ pub fn read_delta_body(
         (λ b. SaysBody current.now bytes.now (unnumbered_body b)) result }
     ensures shared { IfOk result (BodyShares current.now) }
     // By a valid point the bytes say a valid body.
-    ensures valid { (next_track : ℕ) → IsSoundPoint m before.next_block next_track current.now
-        → IfOk result (λ b. IsSound m before (unnumbered_body b)) }
+    ensures valid { (next_track : ℕ) → IsValidPoint m before.next_block next_track current.now
+        → IfOk result (λ b. IsValidBody m before (unnumbered_body b)) }
     // A valid body that was written by the current point is read back, but for the numbers.
-    ensures back { (body : Body) → delta_spelling current.now body ≡ bytes.now → IsSound m before body → 4 ≤ m
+    ensures back { (body : Body) → delta_spelling current.now body ≡ bytes.now → IsValidBody m before body → 4 ≤ m
         → before.commits < COUNTER_LIMIT → HasShortEnds current.now
         → MatchResult result (λ b. unnumbered_body b ≡ body) (λ e. e ≡ bad.NoMemory) }
 {

@@ -1,5 +1,5 @@
 // Laws, each the contract of a function that does nothing.
-ghost use Rattle.record_body.specs.Laws.{KeepsOne, PackedIsKept, ChoiceTellsTheTrack, SameStays, FewestGo};
+ghost use Rattle.record_body.specs.Laws.{KeepsOne, PackedIsSaved, ChoiceTellsTheTrack, SameStays, FewestGo};
 ghost use Rattle.record_body.specs.Laws.{WrittenIsRead, BatchesLead, PassedIsNext};
 
 /// A disk keeps one project at most.
@@ -9,7 +9,7 @@ pub fn disks_keep_one_project()
 
 /// A journal and the one into which it was put, as a header alone, are one project.
 pub fn a_packed_journal_keeps_its_project()
-    ensures { PackedIsKept }
+    ensures { PackedIsSaved }
 {}
 
 /// What the writer takes for a track says that track. A track that stays is written as the same. And whoever says one
@@ -20,7 +20,7 @@ pub fn the_writer_tells_each_track()
     ensures fewest { FewestGo }
 {}
 
-/// A sound body that is written by the current point passes the tests of a reader, and its bytes say that body.
+/// A valid body that is written by the current point passes the tests of a reader, and its bytes say that body.
 pub fn what_is_written_is_read()
     ensures { WrittenIsRead }
 {}

@@ -1,11 +1,11 @@
 // A point of a header out of its bytes.
 ghost use Rattle.std.specs.Prelude.{◌≡◌, ◌+◌, ◌≤◌, ⊤, [], ◌∷◌, length};
 ghost use Rattle.record_body.specs.FirstFault.{Tells, Finds};
-ghost use Rattle.record_body.specs.Kept.{point_bytes};
+ghost use Rattle.record_body.specs.Saved.{point_bytes};
 ghost use Rattle.record_body.specs.Places.{tracks_size};
 ghost use Rattle.record_body.specs.PointTests.{asked_point, point_at, point_count, point_field_tests, point_head_tests};
 ghost use Rattle.record_body.specs.PointTests.{point_length_test, point_tests, point_widths};
-ghost use Rattle.record_body.specs.Sound.{IsSoundTagged};
+ghost use Rattle.record_body.specs.Valid.{IsValidTagged};
 ghost use Rattle.record_body.specs.Widths.{Reaches};
 
 use super::bounds::{most, place};
@@ -110,7 +110,7 @@ pub fn read_point(
     before: Before,
 ) -> Result<(Point, u64), BadBody>
     ensures { Finds (point_tests m before bytes.now) (λ p. (p ≡ point_at bytes.now) × (point_bytes p ≡ bytes.now)
-        × IsSoundTagged m before.next_block before.next_track before.commits p) result }
+        × IsValidTagged m before.next_block before.next_track before.commits p) result }
 {
     read_point_whole(alloc, bytes, m, before)
 }

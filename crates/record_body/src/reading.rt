@@ -3,7 +3,7 @@ ghost use Rattle.std.specs.Prelude.{◌≡◌, ◌+◌, ◌≤◌, ◌<◌, ⊤,
 ghost use Rattle.record_body.specs.Places as there;
 ghost use Rattle.record_body.specs.FirstFault as test;
 ghost use Rattle.record_body.specs.FirstFault.{Tells, Finds};
-ghost use Rattle.record_body.specs.Sound.{IsSound};
+ghost use Rattle.record_body.specs.Valid.{IsValidBody};
 ghost use Rattle.record_body.specs.declared.body.Body.{Body};
 ghost use Rattle.record_body.specs.declared.limits.BadBody.TheVariants as bad;
 ghost use Rattle.record_body.specs.Spelling.{spelling};
@@ -195,9 +195,9 @@ fn read_fields(alloc: Global, bytes: &[u8], m: u32, before: Before) -> Result<Bo
 /// the body counts as its first field. `NoMemory`: there is no memory for what the bytes say.
 pub fn read_body(alloc: Global, bytes: &[u8], m: u32, before: Before) -> Result<Body, BadBody>
     ensures found { Finds (test.body_tests m before bytes.now)
-        (λ b. (spelling b ≡ bytes.now) × IsSound m before b) result }
-    // A sound body that was written is read back.
-    ensures back { (body : Body) → spelling body ≡ bytes.now → IsSound m before body → 4 ≤ m
+        (λ b. (spelling b ≡ bytes.now) × IsValidBody m before b) result }
+    // A valid body that was written is read back.
+    ensures back { (body : Body) → spelling body ≡ bytes.now → IsValidBody m before body → 4 ≤ m
         → MatchResult result (λ b. b ≡ body) (λ e. e ≡ bad.NoMemory) }
 {
     read_fields(alloc, bytes, m, before)

@@ -71,25 +71,31 @@ fn read_block(
     Ok(BlockRef { id, len })
 }
 
-/// The blocks from a place on, of a clip that may have several. The first begins at the cell `start`.
+/// Blocks in a row: the place of the first, and how many they are.
+#[derive(Clone, Copy)]
+pub(crate) struct Row {
+    pub(crate) at: usize,
+    pub(crate) count: u32,
+}
+
+/// The blocks of a row, of a clip that may have several. The first begins at the cell `start`.
 pub(crate) fn read_blocks(
     alloc: Global,
     bytes: &[u8],
-    at: usize,
-    count: u32,
+    row: Row,
     limits: Limits,
     several: bool,
     start: u64,
 ) -> Result<Vec<BlockRef>, BadBody>
-    requires within { at + 12 * count ≤ length bytes.now }
+    requires within { row.at + 12 * row.count ≤ length bytes.now }
     requires near { start ≤ MAX_CELLS }
-    ensures { Finds (test.blocks_tests limits several count start at bytes.now)
-        (λ v. v.items ≡ there.blocks_at count at bytes.now) result }
+    ensures { Finds (test.blocks_tests limits several row.count start row.at bytes.now)
+        (λ v. v.items ≡ there.blocks_at row.count row.at bytes.now) result }
 {
-    let mut blocks = Vec::with_capacity(alloc, count as usize)?;
+    let mut blocks = Vec::with_capacity(alloc, row.count as usize)?;
     let mut before = start;
-    for i in 0..count {
-        let block = read_block(bytes, at + 12 * i as usize, limits, several, before)?;
+    for i in 0..row.count {
+        let block = read_block(bytes, row.at + 12 * i as usize, limits, several, before)?;
         before += block.len as u64;
         blocks.push(block)?;
     }
@@ -115,7 +121,8 @@ fn read_clip(
         most(start_place, MAX_CELLS, start),
         least(place(limits.base, at + 8), 1, count as u64),
     ])?;
-    let blocks = read_blocks(alloc, bytes, at + 12, count, limits, count > 1, start)?;
+    let row = Row { at: at + 12, count };
+    let blocks = read_blocks(alloc, bytes, row, limits, count > 1, start)?;
     Ok(Clip {
         start,
         blocks: Sequence::new(blocks),

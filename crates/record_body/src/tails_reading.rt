@@ -17,7 +17,7 @@ ghost use Rattle.project_journal.specs.Fields.{field};
 use super::bounds::{least, most, place};
 use super::changes::{last_blocks, last_start};
 use super::limits::{BadBody, Limits};
-use super::reading_clips::read_blocks;
+use super::reading_clips::{Row, read_blocks};
 use block_sequence::Sequence;
 use clip_track::{Clip, Layout};
 use pcm_base::BlockRef;
@@ -70,15 +70,8 @@ fn read_tail_blocks(
     let count = u32_at(bytes, at + 13);
     let kept = &olds[..olds.len() - gone as usize];
     let several = kept.len() + count as usize > 1;
-    let fresh = read_blocks(
-        alloc,
-        bytes,
-        at + 17,
-        count,
-        limits,
-        several,
-        start + total(kept),
-    )?;
+    let row = Row { at: at + 17, count };
+    let fresh = read_blocks(alloc, bytes, row, limits, several, start + total(kept))?;
     let mut blocks = Vec::with_capacity(alloc, kept.len() + count as usize)?;
     blocks.extend_from_slice(kept)?;
     blocks.extend_from_slice(&fresh)?;

@@ -1,5 +1,6 @@
 // The one spelling of a body.
-ghost use Rattle.std.specs.Prelude.{◌≡◌, ℕ, ◌+◌, ◌*◌, ◌≤◌, ◌<◌, ◌^◌, List, ◌∷◌, [], ◌++◌, length, drop, IsOk, OnOk, OnErr};
+ghost use Rattle.std.specs.Prelude.{◌≡◌, ℕ, ◌+◌, ◌*◌, ◌≤◌, ◌<◌, ◌^◌, List, ◌∷◌, [], ◌++◌, length, drop, IsOk, OnOk};
+ghost use Rattle.std.specs.Prelude.{OnErr};
 ghost use Rattle.std.specs.Prelude.{vec_capacity};
 ghost use Rattle.std.specs.List.{flat_map};
 ghost use Rattle.pcm_base.specs.declared.limits.TheConstants.{MAX_TRACKS};
@@ -11,8 +12,8 @@ ghost use Rattle.record_body.specs.declared.kinds.TheConstants.{EDIT_KIND, PURGE
 ghost use Rattle.project_state.specs.declared.track.Track.{Track};
 ghost use Rattle.record_body.specs.Changes.{delta_spelling};
 ghost use Rattle.project_state.specs.Meaning.{meant};
-ghost use Rattle.record_body.specs.Kept.{point_bytes};
-ghost use Rattle.record_body.specs.Lengths.{AreHalfFull, AreLayouts, told_tracks};
+ghost use Rattle.record_body.specs.Saved.{point_bytes};
+ghost use Rattle.record_body.specs.Lengths.{AreHalfFull, AreLayouts, body_tracks};
 ghost use Rattle.record_body.specs.Spelling.{block_bytes, clip_bytes, track_bytes, project_bytes, side_byte, mute_byte};
 ghost use Rattle.record_body.specs.Spelling.{spelling};
 
@@ -75,11 +76,11 @@ fn tracks_len(point: &Point) -> usize
 pub fn body_len(body: &Body) -> usize
     ensures value { result ≡ length (spelling body.now) }
     ensures few { result ≤ 2 ^ 44 }
-    ensures most { (src : Sources) (m : ℕ) → 0 < m → AreHalfFull m (told_tracks body.now) →
-        result ≤ project_body_most m (meant src (told_tracks body.now)) }
+    ensures most { (src : Sources) (m : ℕ) → 0 < m → AreHalfFull m (body_tracks body.now) →
+        result ≤ project_body_most m (meant src (body_tracks body.now)) }
     // That is room for it by any current point too.
-    ensures told { (src : Sources) (m : ℕ) (current : List Track) → 0 < m → AreHalfFull m (told_tracks body.now) →
-        length (delta_spelling current body.now) ≤ project_body_most m (meant src (told_tracks body.now)) }
+    ensures told { (src : Sources) (m : ℕ) (current : List Track) → 0 < m → AreHalfFull m (body_tracks body.now) →
+        length (delta_spelling current body.now) ≤ project_body_most m (meant src (body_tracks body.now)) }
 {
     match body {
         Body::Edit { point, .. } => EDIT_HEAD + 4 + tracks_len(point),

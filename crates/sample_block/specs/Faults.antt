@@ -4,11 +4,9 @@ use Rattle.std.specs.Prelude.{Ok, Err, MatchResult, if◌then◌else◌}
 use Rattle.std.specs.Int.{w16, cast_signed}
 use Rattle.byteorder.specs.Endian.{little_number}
 use Rattle.peak_summary.specs.declared.stretch.Summary.{Summary}
-use Rattle.sample_block.specs.declared.damage.Damaged.{Damaged}
-use Rattle.sample_block.specs.declared.damage.BadBlock.{BadBlock}
+use Rattle.sample_block.specs.{declared.damage.Damaged.Damaged, declared.damage.BadBlock.BadBlock}
+use Rattle.sample_block.specs.{declared.block.Block.Block, Spelling.Field, Spelling.fields_of, Spelling.size_of}
 use Rattle.sample_block.specs.declared.damage.BadBlock.TheVariants as bad
-use Rattle.sample_block.specs.declared.block.Block.{Block}
-use Rattle.sample_block.specs.Spelling.{Field, fields_of, size_of}
 
 -- the number in the bytes from a place on
 abbrev pub number_at : List ℕ → ℕ → ℕ → ℕ

@@ -1,12 +1,10 @@
 -- The one spelling of a block as bytes.
 use Rattle.std.specs.Prelude.{◌≡◌, ℕ, ◌+◌, ◌*◌, ◌≤◌, ◌<◌, ℤ, List, [], ◌∷◌, ◌++◌, length, map}
-use Rattle.std.specs.Int.{w16, cast_unsigned}
-use Rattle.std.specs.List.{flat_map}
+use Rattle.std.specs.{Int.w16, Int.cast_unsigned, List.flat_map}
 use Rattle.byteorder.specs.Endian.{little_bytes}
 use Rattle.pcm_base.specs.declared.limits.TheConstants.{COUNTER_LIMIT, FIRST_BLOCK, MAX_BLOCK_SAMPLES}
 use Rattle.sample_block.specs.declared.levels.TheConstants.{LONG_FRAME}
-use Rattle.peak_summary.specs.Peaks.{AreSamples, frames_of, frame_count}
-use Rattle.peak_summary.specs.declared.stretch.Summary.{Summary}
+use Rattle.peak_summary.specs.{Peaks.AreSamples, Peaks.frames_of, Peaks.frame_count, declared.stretch.Summary.Summary}
 
 -- a number of `width` bytes, the lowest of them first
 pub record Field : Type 0 where

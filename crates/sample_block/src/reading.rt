@@ -33,14 +33,6 @@ pub fn header(bytes: &[u8]) -> Header
     }
 }
 
-/// Sample `i` of bytes that begin with a sample: two bytes each, the lower first, two's complement.
-pub fn sample_at(bytes: &[u8], i: u32) -> i16
-    requires { 2 * i + 2 ≤ length bytes.now }
-    ensures { result ≡ cast_signed w16 (number_at bytes.now (2 * i) 2) }
-{
-    LittleEndian::read_i16(&bytes[2 * i as usize..])
-}
-
 /// Frame `i` of bytes that begin with a frame: 12 bytes each. A file does not say how many samples a frame has, so
 /// the caller does.
 pub fn frame_at(bytes: &[u8], i: u32, count: u64) -> Summary

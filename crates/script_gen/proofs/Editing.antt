@@ -1,20 +1,17 @@
 -- What the state of an editor is after each line of a script.
-use Rattle.std.proofs.Common.{◌≡◌, ◌⊎◌, inl, inr, ℕ, ℤ, ◌+◌, ◌-◌, ◌≤◌, ◌<◌, Bool, true, false, List, [], ◌∷◌, ◌++◌}
-use Rattle.std.proofs.Common.{map, Option, Some, refl, ap, sym, subst, ◌∙◌, arith}
-use Rattle.std.specs.Prelude.{unwrap_or}
+use Rattle.std.proofs.Common.{◌≡◌, ◌⊎◌, inl, inr, ℕ, ℤ, ◌+◌, ◌-◌, ◌≤◌, ◌<◌, Bool, true, false, List, [], ◌∷◌, ◌++◌, map}
+use Rattle.std.proofs.Common.{Option, Some, refl, ap, sym, subst, ◌∙◌, arith}
 use Rattle.std.proofs.lemmas.List.Elements.{All-nil}
-use Rattle.pcm_base.specs.declared.sound.Cell.{Cell}
-use Rattle.pcm_base.specs.declared.command.Command.TheVariants as command
-use Rattle.pcm_base.specs.Cells.{Project, edited_at, run_edited}
+use Rattle.std.specs.Prelude.{unwrap_or}
 use Rattle.pcm_base.specs.Edits.{changed, deleted, gained, inserted, quieted, ramp_of, range_of}
-use Rattle.pcm_base.specs.History.{edited}
-use Rattle.pcm_base.specs.Outside.{Outside}
-use Rattle.pcm_base.specs.State.{State, clip_of, current, new_state}
-use Rattle.pcm_base.specs.Step.{after_line, copied, new_track, with_project}
+use Rattle.pcm_base.specs.{declared.sound.Cell.Cell, Cells.Project, Cells.edited_at, Cells.run_edited, History.edited}
+use Rattle.pcm_base.specs.{Outside.Outside, State.State, State.clip_of, State.current, State.new_state, Step.after_line}
+use Rattle.pcm_base.specs.{Step.copied, Step.new_track, Step.with_project}
 use Rattle.script_gen.proofs.Points.{IsLast, IsEdited, current-last, edited-last, last_project, redone-last}
 use Rattle.script_gen.proofs.Points.{undone-last}
 use Rattle.script_gen.proofs.Samples.{HasSamples, IsSample, changed-full, deleted-full, gained-sample, inserted-full}
 use Rattle.script_gen.proofs.Samples.{quieted-sample, ramp-full, range-full}
+use Rattle.pcm_base.specs.declared.command.Command.TheVariants as command
 
 -- a project of one track, the first of a project, with this many samples and no gap
 pub record HasTrack (len : ℕ) (p : Project) : Type 0 where

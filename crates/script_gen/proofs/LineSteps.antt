@@ -1,29 +1,22 @@
 -- Each line of a script at its place: nothing refuses it, it can be carried out, and it leads to the next place.
-use Rattle.std.proofs.Common.{◌≡◌, ℕ, ℤ, ◌+◌, ◌-◌, ◌*◌, ◌≤◌, ◌<◌, true, false, length, None, Ok}
-use Rattle.std.proofs.Common.{refl, ap, sym, subst, arith}
+use Rattle.std.proofs.Common.{◌≡◌, ℕ, ℤ, ◌+◌, ◌-◌, ◌*◌, ◌≤◌, ◌<◌, true, false, length, None, Ok, refl, ap, sym, subst}
+use Rattle.std.proofs.Common.{arith}
 use Rattle.std.specs.Prelude.{◌/◌, map}
-use Rattle.pcm_base.specs.declared.answer.Reply.{Reply}
-use Rattle.pcm_base.specs.declared.answer.Reply.TheVariants as reply
-use Rattle.pcm_base.specs.declared.command.Command.{Command}
-use Rattle.pcm_base.specs.declared.command.Command.TheVariants as command
-use Rattle.pcm_base.specs.declared.command.Call.TheVariants as call
-use Rattle.pcm_base.specs.Cells.{cells_at}
 use Rattle.pcm_base.specs.Counters.{LineNeeds, commits_needed, layouts_of, met_cells, tracks_needed}
-use Rattle.pcm_base.specs.Envelope.{columns_of}
-use Rattle.pcm_base.specs.Form.{IsInForm}
-use Rattle.pcm_base.specs.Outside.{Outside}
-use Rattle.pcm_base.specs.Refusals.{own_tests, track_limit}
-use Rattle.pcm_base.specs.Run.{result_of}
-use Rattle.pcm_base.specs.Sizes.{blocks_of_cells}
 use Rattle.pcm_base.specs.State.{State, clip_of, current, new_state}
 use Rattle.pcm_base.specs.Step.{MayReply, after_line, line_of_track, sound_after_line}
-use Rattle.pcm_base.specs.Studio.{Studio}
+use Rattle.pcm_base.specs.{declared.answer.Reply.Reply, declared.command.Command.Command, Cells.cells_at}
+use Rattle.pcm_base.specs.{Envelope.columns_of, Form.IsInForm, Outside.Outside, Refusals.own_tests}
+use Rattle.pcm_base.specs.{Refusals.track_limit, Run.result_of, Sizes.blocks_of_cells, Studio.Studio}
 use Rattle.model_laws.proofs.Answered.{moves_of}
 use Rattle.script_gen.proofs.Editing.{IsAt, copy-after, delete-after, gain-after, paste-after, ramp-after, redo-after}
 use Rattle.script_gen.proofs.Editing.{silence-after, track-after, undo-after}
 use Rattle.script_gen.proofs.Needing.{IsFew, edit-few, met-few, one-clip, record-few}
 use Rattle.script_gen.proofs.Passing.{copy-passes, delete-passes, envelope-passes, gain-passes, paste-passes}
 use Rattle.script_gen.proofs.Passing.{ramp-passes, redo-passes, silence-passes, undo-passes}
+use Rattle.pcm_base.specs.declared.answer.Reply.TheVariants as reply
+use Rattle.pcm_base.specs.declared.command.Command.TheVariants as command
+use Rattle.pcm_base.specs.declared.command.Call.TheVariants as call
 
 -- what a line may need of blocks, and of a record
 pub record SomeNeeds (out : Outside) (t : Studio) (c : Command) : Type 0 where
@@ -96,8 +89,7 @@ delete-goes len copied from to order within short =
       passes = λ out s h. delete-passes out len copied from to s h order within;
       few = λ out t blocks bytes h needs.
           edit-few 0 0 (len - (to - from)) copied 8 out t c blocks bytes (next out t.state h) (omega arith)
-          (omega arith)
-          (omega arith) (omega arith) needs;
+          (omega arith) (omega arith) (omega arith) needs;
       needs = λ out t. some_needs out t c (omega arith, omega arith);
       answers = λ out s. record { reply = reply.Done; answered = refl; may = refl };
       next = next;
@@ -192,8 +184,7 @@ track-goes depth room =
       passes = λ out s e. ap (λ (s : State). track_limit s 1) e;
       few = λ out t blocks bytes e needs.
           edit-few 0 0 0 0 0 out t command.Track blocks bytes (next out t.state e)
-          (omega arith) (omega arith) (omega arith)
-          (omega arith) needs;
+          (omega arith) (omega arith) (omega arith) (omega arith) needs;
       needs = λ out t. some_needs out t command.Track (omega arith, omega arith);
       answers = λ out s. record { reply = reply.Done; answered = refl; may = refl };
       next = next;

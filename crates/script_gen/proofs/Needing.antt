@@ -1,21 +1,14 @@
 -- How many blocks the lines of a script may need, and how long their records may be.
 use Rattle.std.proofs.Common.{◌≡◌, ℕ, ◌+◌, ◌-◌, ◌*◌, ◌≤◌, ◌<◌, false, List, [], length, Option, ap, ◌∙◌, arith}
-use Rattle.std.specs.Prelude.{◌/◌, unwrap_or}
-use Rattle.std.specs.Int.{div_ceil}
 use Rattle.std.proofs.Math.Nat.{div-le_self}
-use Rattle.pcm_base.specs.declared.sound.Cell.{Cell}
-use Rattle.pcm_base.specs.declared.command.Call.TheVariants as call
-use Rattle.pcm_base.specs.declared.command.Command.{Command}
-use Rattle.pcm_base.specs.Cells.{Project, cells_at}
-use Rattle.pcm_base.specs.Counters.{EditNeeds, RecordNeeds, met_cells}
-use Rattle.pcm_base.specs.Edits.{range_of}
-use Rattle.pcm_base.specs.Outside.{Outside}
+use Rattle.std.specs.{Prelude.◌/◌, Prelude.unwrap_or, Int.div_ceil}
 use Rattle.pcm_base.specs.Sizes.{blocks_of_cells, clip_count, project_body_most, sample_count}
-use Rattle.pcm_base.specs.State.{State, clip_of, current}
-use Rattle.pcm_base.specs.Step.{after_line}
-use Rattle.pcm_base.specs.Studio.{Studio}
+use Rattle.pcm_base.specs.{declared.sound.Cell.Cell, declared.command.Command.Command, Cells.Project, Cells.cells_at}
+use Rattle.pcm_base.specs.{Counters.EditNeeds, Counters.RecordNeeds, Counters.met_cells, Edits.range_of}
+use Rattle.pcm_base.specs.{Outside.Outside, State.State, State.clip_of, State.current, Step.after_line, Studio.Studio}
 use Rattle.script_gen.proofs.Editing.{HasTrack, IsAt, copied-cells, current-track}
 use Rattle.script_gen.proofs.Samples.{clip_count-full, range-full, sample_count-full}
+use Rattle.pcm_base.specs.declared.command.Call.TheVariants as call
 
 -- The blocks of a line on one track with at most 2,000 new samples, or with one clip of at most 500; and the length of
 -- a record of one clip with at most 102,000 samples.

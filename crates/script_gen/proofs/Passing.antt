@@ -1,51 +1,32 @@
 -- The tests that let the lines of a script through.
 use Rattle.std.proofs.Common.{◌≡◌, ℕ, ℤ, ◌+◌, ◌-◌, ◌^◌, ◌≤◌, ◌<◌, max, Bool, true, false, List, [], ◌∷◌, length, take}
-use Rattle.std.proofs.Common.{Option, None}
-use Rattle.std.proofs.Common.{ap, ◌∙◌, arith}
-use Rattle.std.specs.Prelude.{nat_lt, nat_le, ◌==◌, not, is_none, unwrap_or, if◌then◌else◌}
+use Rattle.std.proofs.Common.{Option, None, ap, ◌∙◌, arith}
 use Rattle.std.proofs.lemmas.Bool.{and_from, le-leb, le-ltb, lt-ltb, ne_eqb}
-use Rattle.pcm_base.specs.declared.sound.Cell.{Cell}
-use Rattle.pcm_base.specs.declared.command.Call.TheVariants as call
-use Rattle.pcm_base.specs.declared.command.Command.{Command}
-use Rattle.pcm_base.specs.declared.command.Command.TheVariants as command
-use Rattle.pcm_base.specs.declared.refusal.Refusal.{Refusal}
-use Rattle.pcm_base.specs.declared.refusal.Refusal.TheVariants as refusal
-use Rattle.pcm_base.specs.Cells.{Project, cells_at, longest, tracks_from}
+use Rattle.std.specs.Prelude.{nat_lt, nat_le, ◌==◌, not, is_none, unwrap_or, if◌then◌else◌}
 use Rattle.pcm_base.specs.Counters.{commits_needed, commits_of, counter_tests, generations_by, generations_of, no_room}
-use Rattle.pcm_base.specs.Counters.{pins_of, places_of}
-use Rattle.pcm_base.specs.Counters.{layouts_of, record_test, tracks_needed, tracks_of}
-use Rattle.pcm_base.specs.Outside.{Outside}
+use Rattle.pcm_base.specs.Counters.{pins_of, places_of, layouts_of, record_test, tracks_needed, tracks_of}
 use Rattle.pcm_base.specs.Refusals.{◌otherwise◌, bad_columns, bad_range, call_tests, inserted_length, is_empty}
 use Rattle.pcm_base.specs.Refusals.{length_limit, own_tests, pasted_lengths, refused_if}
-use Rattle.pcm_base.specs.Run.{refusal_of, stop_of, stop_test}
-use Rattle.pcm_base.specs.declared.limits.TheConstants.{LONGEST_BODY}
-use Rattle.pcm_base.specs.Shape.{shape_of}
-use Rattle.pcm_base.specs.State.{State, current}
-use Rattle.pcm_base.specs.Step.{new_track}
-use Rattle.pcm_base.specs.Studio.{Studio}
+use Rattle.pcm_base.specs.{declared.sound.Cell.Cell, declared.command.Command.Command, declared.refusal.Refusal.Refusal}
+use Rattle.pcm_base.specs.{Cells.Project, Cells.cells_at, Cells.longest, Cells.tracks_from, Outside.Outside}
+use Rattle.pcm_base.specs.{Run.refusal_of, Run.stop_of, Run.stop_test, declared.limits.TheConstants.LONGEST_BODY}
+use Rattle.pcm_base.specs.{Shape.shape_of, State.State, State.current, Step.new_track, Studio.Studio}
 use Rattle.script_gen.proofs.Editing.{HasTrack, IsAt, copied-cells, current-track}
+use Rattle.model_laws.proofs.Together.{both_pass, room_passes, limit_passes}
+use Rattle.pcm_base.specs.declared.command.Call.TheVariants as call
+use Rattle.pcm_base.specs.declared.command.Command.TheVariants as command
+use Rattle.pcm_base.specs.declared.refusal.Refusal.TheVariants as refusal
 
 -- ---- single tests
 
-pub both-pass : (a b : Option Refusal) → a ≡ None → b ≡ None → (a otherwise b) ≡ None
-both-pass a b e f = ap (λ (o : Option Refusal). o otherwise b) e ∙ f
-
-range-passes : (from to len : ℕ) → from < to → to ≤ len → bad_range from to len ≡ None
+pub range-passes : (from to len : ℕ) → from < to → to ≤ len → bad_range from to len ≡ None
 range-passes from to len order within =
     ap (λ (b : Bool). refused_if (not b) refusal.BadRange)
     (and_from (nat_lt from to) (nat_le to len) (lt-ltb from to order) (le-leb to len within))
 
-length-passes : (len : ℕ) → len ≤ 2 ^ 32 → length_limit (len ∷ []) ≡ None
-length-passes len few =
-    ap (λ (b : Bool). (refused_if b (refusal.LengthLimit len)) otherwise None) (le-ltb (2 ^ 32) len few)
-
-room-passes : (have need : ℕ) → have + need ≤ 2 ^ 62 → no_room have need ≡ None
-room-passes have need few =
-    ap (λ (b : Bool). refused_if b (refusal.SpaceSpent have need)) (le-ltb (2 ^ 62) (have + need) few)
-
 -- ---- the own tests of lines
 
-abbrev range_tests_of : ℕ → ℕ → Project → Option Refusal
+abbrev pub range_tests_of : ℕ → ℕ → Project → Option Refusal
 range_tests_of from to p =
     (refused_if (is_empty (tracks_from 1 p)) (refusal.NoTrack 1)) otherwise (bad_range from to (length (cells_at 1 p)))
 
@@ -63,7 +44,7 @@ ramp-passes out len copied at n start step s h within few =
     let e = t.full.length_is in
     ap (λ (p : Project). (refused_if (is_empty (tracks_from 1 p)) (refusal.NoTrack 1))
     otherwise (length_limit (inserted_length at n (length (cells_at 1 p)) ∷ []))) t.is
-    ∙ length-passes (inserted_length at n (length t.cells)) (omega arith)
+    ∙ limit_passes (inserted_length at n (length t.cells)) (omega arith)
 
 pub delete-passes : (out : Outside) (len copied from to : ℕ) (s : State) → IsAt len copied false s → from < to →
     to ≤ len →
@@ -109,7 +90,7 @@ paste-passes out len copied at s h some within few =
     let f = c.full.length_is in
     ap (λ (p : Project). paste_tests_of at p s.clipboard) t.is
     ∙ ap (λ (o : Option (List (List Cell))). paste_tests_of at (new_track 1 t.cells ∷ []) o) c.is
-    ∙ length-passes (inserted_length at (length c.cells) (length t.cells)) (omega arith)
+    ∙ limit_passes (inserted_length at (length c.cells) (length t.cells)) (omega arith)
 
 pub undo-passes : (out : Outside) (len copied : ℕ) (s : State) → IsAt len copied false s →
     own_tests out s command.Undo ≡ None
@@ -130,7 +111,7 @@ redo-passes out len copied s h =
 pub envelope-passes : (out : Outside) (len copied : ℕ) (s : State) → IsAt len copied false s → 16 ≤ len →
     own_tests out s (command.Envelope 1 0 len 16) ≡ None
 envelope-passes out len copied s h wide =
-    both-pass (range_tests_of 0 len (current s)) (bad_columns 16 (len - 0))
+    both_pass (range_tests_of 0 len (current s)) (bad_columns 16 (len - 0))
     (range-tests len 0 len (current s) (current-track len copied s h) (omega arith) (omega arith))
     (ap (λ (b : Bool). refused_if b refusal.BadColumns) (le-ltb (len - 0) 16 (omega arith)))
 
@@ -177,19 +158,19 @@ line-passes out t c blocks len room own few short tracks commits still draws =
     let g = no_room t.generation (generations_of line) in
     let h = no_room t.next_layout (layouts_of out t.state line) in
     let counters : counter_tests out t line blocks len ≡ None =
-    both-pass a (b otherwise d otherwise e otherwise f otherwise g otherwise h)
-    (room-passes t.next_block blocks (omega arith))
-    (both-pass b (d otherwise e otherwise f otherwise g otherwise h)
-    (room-passes t.state.next_track (tracks_of out line) (omega arith))
-    (both-pass d (e otherwise f otherwise g otherwise h) (room-passes t.state.commit (commits_of line) (omega arith))
-    (both-pass e (f otherwise g otherwise h) (room-passes t.state.next_pin (pins_of line) (omega arith))
-    (both-pass f (g otherwise h) (room-passes t.journal_end (places_of line len) (omega arith))
-    (both-pass g h (room-passes t.generation (generations_of line) (omega arith))
-    (room-passes t.next_layout (layouts_of out t.state line) (omega arith))))))) in
+    both_pass a (b otherwise d otherwise e otherwise f otherwise g otherwise h)
+    (room_passes t.next_block blocks (omega arith))
+    (both_pass b (d otherwise e otherwise f otherwise g otherwise h)
+    (room_passes t.state.next_track (tracks_of out line) (omega arith))
+    (both_pass d (e otherwise f otherwise g otherwise h) (room_passes t.state.commit (commits_of line) (omega arith))
+    (both_pass e (f otherwise g otherwise h) (room_passes t.state.next_pin (pins_of line) (omega arith))
+    (both_pass f (g otherwise h) (room_passes t.journal_end (places_of line len) (omega arith))
+    (both_pass g h (room_passes t.generation (generations_of line) (omega arith))
+    (room_passes t.next_layout (layouts_of out t.state line) (omega arith))))))) in
     let record_passes : record_test len ≡ None =
     ap (λ (r : Bool). refused_if r (refusal.RecordLimit len)) (le-ltb LONGEST_BODY len (omega arith)) in
-    both-pass (stop_test t.stopped line)
+    both_pass (stop_test t.stopped line)
     (call_tests out t.state line otherwise counter_tests out t line blocks len otherwise record_test len)
     (ap stop_of room.going)
-    (both-pass (call_tests out t.state line) (counter_tests out t line blocks len otherwise record_test len) own
-    (both-pass (counter_tests out t line blocks len) (record_test len) counters record_passes))
+    (both_pass (call_tests out t.state line) (counter_tests out t line blocks len otherwise record_test len) own
+    (both_pass (counter_tests out t line blocks len) (record_test len) counters record_passes))

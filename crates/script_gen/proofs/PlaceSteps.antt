@@ -1,17 +1,13 @@
 -- The line at a place of the generator leads to the next place.
-use Rattle.std.proofs.Common.{ℕ, zero, suc, ◌+◌, ◌<◌, Bool, true, false}
-use Rattle.std.proofs.Common.{arith}
+use Rattle.std.proofs.Common.{ℕ, zero, suc, ◌+◌, ◌<◌, Bool, true, false, arith}
 use Rattle.pcm_base.specs.State.{State}
-use Rattle.script_gen.specs.declared.kind.Kind.{Kind}
-use Rattle.script_gen.specs.declared.kind.Kind.TheVariants as kind
-use Rattle.script_gen.specs.declared.place.Place.{Place}
-use Rattle.script_gen.specs.Bounds.{IsPlace}
-use Rattle.script_gen.specs.Draws.{next_state}
 use Rattle.script_gen.specs.Script.{Written, draw_at, drawn_on, kind_at, line_at, range_at, undo_at, written_as}
+use Rattle.script_gen.specs.{declared.kind.Kind.Kind, declared.place.Place.Place, Bounds.IsPlace, Draws.next_state}
 use Rattle.script_gen.proofs.Editing.{IsAt}
 use Rattle.script_gen.proofs.Places.{Fits, drawn-below, drawn_on-bounds, kind-fits, range-drawn}
 use Rattle.script_gen.proofs.LineSteps.{Goes, copy-goes, delete-goes, envelope-goes, gain-goes, paste-goes, ramp-goes}
 use Rattle.script_gen.proofs.LineSteps.{redo-goes, silence-goes, tracks-goes, undo-goes}
+use Rattle.script_gen.specs.declared.kind.Kind.TheVariants as kind
 
 -- an editor at a place of the generator
 abbrev pub Stands : Place → State → Type 0

@@ -1,16 +1,12 @@
 -- Each line leaves a place within its bounds.
 use Rattle.std.proofs.Common.{ℕ, zero, suc, ◌+◌, ◌-◌, ◌<◌, ◌≤◌, Bool, true, false, ◌≡◌, refl, min, arith}
+use Rattle.std.proofs.{lemmas.Nat.mod_below, lemmas.Bool.ltb-true, lemmas.Bool.ltb-false, lemmas.Bool.eqb-false}
 use Rattle.std.specs.Prelude.{nat_lt, ◌==◌, if◌then◌else◌}
-use Rattle.std.proofs.lemmas.Nat.{mod_below}
-use Rattle.std.proofs.lemmas.Bool.{ltb-true, ltb-false, eqb-false}
-use Rattle.script_gen.specs.declared.draws.CellRange.{CellRange}
-use Rattle.script_gen.specs.declared.kind.Kind.{Kind}
-use Rattle.script_gen.specs.declared.kind.Kind.TheVariants as kind
-use Rattle.script_gen.specs.declared.place.Place.{Place}
-use Rattle.script_gen.specs.Bounds.{IsPlace}
-use Rattle.script_gen.specs.Draws.{next_state, drawn}
 use Rattle.script_gen.specs.Script.{drawn_on, draw_at, range_at, first_place, allowed, kind_of, kind_at, ramp_at}
 use Rattle.script_gen.specs.Script.{delete_at, copy_at, paste_at, undo_at, redo_at, written_as, drawn_at, line_at}
+use Rattle.script_gen.specs.{declared.draws.CellRange.CellRange, declared.kind.Kind.Kind, declared.place.Place.Place}
+use Rattle.script_gen.specs.{Bounds.IsPlace, Draws.next_state, Draws.drawn}
+use Rattle.script_gen.specs.declared.kind.Kind.TheVariants as kind
 
 pub drawn-below : (n x : ℕ) → 0 < n → drawn n x < n
 unfolding drawn
@@ -38,12 +34,8 @@ range-drawn p b =
 abbrev pub Fits : Place → Kind → Type 0
 Fits p kind.Ramp = p.len ≤ 100000
 Fits p kind.Delete = 2000 ≤ p.len
-Fits p kind.Gain = Unit {0}
-Fits p kind.Silence = Unit {0}
-Fits p kind.Copy = Unit {0}
 Fits p kind.Paste = (0 < p.copied) × (p.len ≤ 100000)
-Fits p kind.Undo = Unit {0}
-Fits p kind.Envelope = Unit {0}
+Fits p _ = Unit {0}
 
 ramp-fits : (p : Place) → Fits p (allowed p kind.Ramp)
 ramp-fits p = by (nat_lt 100000 p.len) refl
@@ -74,12 +66,8 @@ paste-fits p = by (p.copied == 0) (nat_lt 100000 p.len) refl refl
 pub allowed-fits : (p : Place) (k : Kind) → Fits p (allowed p k)
 allowed-fits p kind.Ramp = ramp-fits p
 allowed-fits p kind.Delete = delete-fits p
-allowed-fits p kind.Gain = tt
-allowed-fits p kind.Silence = tt
-allowed-fits p kind.Copy = tt
 allowed-fits p kind.Paste = paste-fits p
-allowed-fits p kind.Undo = tt
-allowed-fits p kind.Envelope = tt
+allowed-fits p _ = tt
 
 -- ---- places
 

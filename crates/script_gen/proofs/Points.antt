@@ -1,11 +1,10 @@
 -- The last point of a history.
-use Rattle.std.proofs.Common.{◌≡◌, ℕ, ◌+◌, ◌-◌, ◌≤◌, ◌<◌, Bool, true, false, List, [], ◌∷◌, ◌++◌, length, drop}
-use Rattle.std.proofs.Common.{ap, ◌∙◌, arith}
+use Rattle.std.proofs.Common.{◌≡◌, ℕ, ◌+◌, ◌-◌, ◌≤◌, ◌<◌, Bool, true, false, List, [], ◌∷◌, ◌++◌, length, drop, ap, ◌∙◌}
+use Rattle.std.proofs.Common.{arith}
 use Rattle.std.proofs.Math.Seq.{drop-append_seam}
 use Rattle.std.proofs.lemmas.List.{drop-drop, length-drop, length_push, take_all}
-use Rattle.pcm_base.specs.Cells.{Project}
 use Rattle.pcm_base.specs.History.{History, at_cursor, edited, kept, newest}
-use Rattle.pcm_base.specs.State.{State, current, first_point}
+use Rattle.pcm_base.specs.{Cells.Project, State.State, State.current, State.first_point}
 
 abbrev pub last_point : List (Project × ℕ) → Project
 last_point points = first_point (drop (length points - 1) points)

@@ -1,26 +1,19 @@
 -- How much of a disk the lines of a script need.
-use Rattle.std.proofs.Common.{◌≡◌, ℕ, zero, suc, ◌-◌, ◌*◌, ◌≤◌, false, List, [], ◌∷◌, length, pos, negsuc}
-use Rattle.std.proofs.Common.{refl, subst, sym, ◌∙◌, arith}
-use Rattle.pcm_base.specs.declared.answer.Reply.{Reply}
-use Rattle.pcm_base.specs.declared.command.Call.TheVariants as call
-use Rattle.pcm_base.specs.declared.command.Command.{Command}
-use Rattle.pcm_base.specs.declared.command.Command.TheVariants as command
-use Rattle.pcm_base.specs.declared.entry.SoundMove.{SoundMove}
+use Rattle.std.proofs.Common.{◌≡◌, ℕ, zero, suc, ◌-◌, ◌*◌, ◌≤◌, false, List, [], ◌∷◌, length, pos, negsuc, refl, subst}
+use Rattle.std.proofs.Common.{sym, ◌∙◌, arith}
 use Rattle.pcm_base.specs.Counters.{LineNeeds, commits_needed, places_of}
 use Rattle.pcm_base.specs.Run.{CarriesOut, followed, outside}
-use Rattle.pcm_base.specs.State.{State, new_state}
-use Rattle.pcm_base.specs.Studio.{Studio}
+use Rattle.pcm_base.specs.{declared.answer.Reply.Reply, declared.command.Command.Command}
+use Rattle.pcm_base.specs.{declared.entry.SoundMove.SoundMove, State.State, State.new_state, Studio.Studio}
 use Rattle.model_laws.proofs.Answered.{answered_same}
-use Rattle.script_gen.specs.declared.place.Place.{Place}
-use Rattle.script_gen.specs.Bounds.{IsPlace}
 use Rattle.script_gen.specs.Room.{EachNeedsAtMost, HaveRoom, NeedsAtMost, SumsAtMost, script_project}
 use Rattle.script_gen.specs.Script.{first_place, line_at, lines_from, script_of}
-use Rattle.script_gen.proofs.Editing.{IsAt}
+use Rattle.script_gen.specs.{declared.place.Place.Place, Bounds.IsPlace}
 use Rattle.script_gen.proofs.LineSteps.{Goes, ramp-goes, track-goes}
-use Rattle.script_gen.proofs.PlaceSteps.{Stands, line-leads}
-use Rattle.script_gen.proofs.Needing.{IsFew, few-512}
-use Rattle.script_gen.proofs.Passing.{places-few}
-use Rattle.script_gen.proofs.Places.{first_place-bounds, line-bounds}
+use Rattle.script_gen.proofs.{Editing.IsAt, PlaceSteps.Stands, PlaceSteps.line-leads, Needing.IsFew, Needing.few-512}
+use Rattle.script_gen.proofs.{Passing.places-few, Places.first_place-bounds, Places.line-bounds}
+use Rattle.pcm_base.specs.declared.command.Call.TheVariants as call
+use Rattle.pcm_base.specs.declared.command.Command.TheVariants as command
 
 -- a studio with blocks of at most 512 samples, its state of this kind
 record IsSized (P : State → Type 0) (t : Studio) : Type 0 where

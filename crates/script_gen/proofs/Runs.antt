@@ -1,15 +1,11 @@
 -- Lines that are valid where they stand have a run.
 use Rattle.std.proofs.Common.{List, [], ◌∷◌, Result, refl, ap, sym, subst}
-use Rattle.std.specs.Prelude.{IsOk}
 use Rattle.std.proofs.lemmas.List.Elements.{All-cons, All-nil}
-use Rattle.pcm_base.specs.declared.answer.Reply.{Reply}
-use Rattle.pcm_base.specs.declared.command.Call.{Call}
-use Rattle.pcm_base.specs.declared.command.Call.TheVariants.{Line}
-use Rattle.pcm_base.specs.declared.command.Command.{Command}
-use Rattle.pcm_base.specs.declared.entry.Entry.{Entry}
-use Rattle.pcm_base.specs.declared.refusal.Refusal.{Refusal}
+use Rattle.std.specs.Prelude.{IsOk}
 use Rattle.pcm_base.specs.Run.{Answers, Step, result_of}
-use Rattle.pcm_base.specs.Studio.{Studio}
+use Rattle.pcm_base.specs.{declared.answer.Reply.Reply, declared.command.Call.Call}
+use Rattle.pcm_base.specs.{declared.command.Call.TheVariants.Line, declared.command.Command.Command}
+use Rattle.pcm_base.specs.{declared.entry.Entry.Entry, declared.refusal.Refusal.Refusal, Studio.Studio}
 use Rattle.script_gen.specs.Validity.{AreValid, HasRun}
 
 abbrev IsAnswered : Entry → Type 0

@@ -1,14 +1,12 @@
 -- Cells without a gap, and what the edits of a script leave of them.
-use Rattle.std.proofs.Common.{◌≡◌, ℕ, ℤ, ◌+◌, ◌-◌, ◌≤◌, true, List, [], ◌∷◌, ◌++◌, length, map, take, drop}
-use Rattle.std.proofs.Common.{All, replicate, refl, ap, subst, sym, ◌∙◌, arith}
+use Rattle.std.proofs.Common.{◌≡◌, ℕ, ℤ, ◌+◌, ◌-◌, ◌≤◌, true, List, [], ◌∷◌, ◌++◌, length, map, take, drop, All}
+use Rattle.std.proofs.Common.{replicate, refl, ap, subst, sym, ◌∙◌, arith}
 use Rattle.std.proofs.lemmas.List.{append-nil, length-append, length-drop, length-map, length-take}
 use Rattle.std.proofs.lemmas.List.Elements.{All-append, All-drop, All-head, All-map, All-tail, All-take, All-weaker}
-use Rattle.pcm_base.specs.declared.sound.Cell.{Cell}
-use Rattle.pcm_base.specs.declared.sound.Cell.TheVariants.{Gap, Sample}
-use Rattle.pcm_base.specs.Arithmetic.{counted_from}
-use Rattle.pcm_base.specs.Cells.{continued, joined, trimmed}
 use Rattle.pcm_base.specs.Edits.{changed, deleted, gained, inserted, part, quieted, ramp_of, range_of}
-use Rattle.pcm_base.specs.Sizes.{clip_count, clip_starts, sample_count}
+use Rattle.pcm_base.specs.{declared.sound.Cell.Cell, declared.sound.Cell.TheVariants.Gap}
+use Rattle.pcm_base.specs.{declared.sound.Cell.TheVariants.Sample, Arithmetic.counted_from, Cells.continued}
+use Rattle.pcm_base.specs.{Cells.joined, Cells.trimmed, Sizes.clip_count, Sizes.clip_starts, Sizes.sample_count}
 use Rattle.model_laws.proofs.EditLengths.{length-ramp_of}
 
 abbrev pub IsSample : Cell → Type 0

@@ -1,14 +1,10 @@
 -- What is known of the script of a number.
 use Rattle.std.proofs.Common.{◌≡◌, ℕ, ◌≤◌, List, length, sym, subst, arith}
-use Rattle.pcm_base.specs.declared.command.Command.{Command}
-use Rattle.pcm_base.specs.Studio.{fresh}
+use Rattle.pcm_base.specs.{declared.command.Command.Command, Studio.fresh}
 use Rattle.script_gen.specs.Room.{EachNeedsAtMost, HaveRoom, script_project}
-use Rattle.script_gen.specs.Script.{script_of}
-use Rattle.script_gen.specs.Validity.{AlwaysHaveRun, AreAlwaysValid}
-use Rattle.script_gen.proofs.LineLists.{length-script_of}
+use Rattle.script_gen.specs.{Script.script_of, Validity.AlwaysHaveRun, Validity.AreAlwaysValid}
 use Rattle.script_gen.proofs.Rooms.{few-room, script-few}
-use Rattle.script_gen.proofs.Runs.{valid-run}
-use Rattle.script_gen.proofs.Valid.{script-valid}
+use Rattle.script_gen.proofs.{LineLists.length-script_of, Runs.valid-run, Valid.script-valid}
 
 -- all that is promised of the lines
 pub record AreGood (lines : ℕ) (cs : List Command) : Type 0 where

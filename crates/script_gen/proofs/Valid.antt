@@ -2,27 +2,20 @@
 use Rattle.std.proofs.Common.{◌≡◌, ℕ, zero, suc, ◌+◌, ◌-◌, ◌*◌, ◌≤◌, Bool, true, false, List, ◌∷◌, None, pos, negsuc}
 use Rattle.std.proofs.Common.{refl, sym, ◌∙◌, subst, arith}
 use Rattle.std.specs.Prelude.{if◌then◌else◌, ◌==◌}
-use Rattle.pcm_base.specs.declared.answer.Reply.{Reply}
-use Rattle.pcm_base.specs.declared.command.Call.TheVariants as call
-use Rattle.pcm_base.specs.declared.command.Command.{Command}
-use Rattle.pcm_base.specs.declared.command.Command.TheVariants as command
-use Rattle.pcm_base.specs.declared.entry.SoundMove.{SoundMove}
-use Rattle.pcm_base.specs.Counters.{MayDraw, commits_needed}
-use Rattle.pcm_base.specs.Outside.{Outside}
 use Rattle.pcm_base.specs.Run.{CarriesOut, followed, outside}
-use Rattle.pcm_base.specs.State.{State, new_state}
-use Rattle.pcm_base.specs.Studio.{Studio, fresh}
+use Rattle.pcm_base.specs.{declared.answer.Reply.Reply, declared.command.Command.Command}
+use Rattle.pcm_base.specs.{declared.entry.SoundMove.SoundMove, Counters.MayDraw, Counters.commits_needed}
+use Rattle.pcm_base.specs.{Outside.Outside, State.State, State.new_state, Studio.Studio, Studio.fresh}
 use Rattle.model_laws.proofs.Answered.{answered_same, no_generation}
-use Rattle.script_gen.specs.declared.place.Place.{Place}
-use Rattle.script_gen.specs.Bounds.{IsPlace}
 use Rattle.script_gen.specs.Script.{first_place, line_at, lines_from, script_of}
 use Rattle.script_gen.specs.Validity.{AreAlwaysValid, AreValid, GoesOn, IsValid}
-use Rattle.script_gen.proofs.Editing.{IsAt}
+use Rattle.script_gen.specs.{declared.place.Place.Place, Bounds.IsPlace}
 use Rattle.script_gen.proofs.LineSteps.{Goes, ramp-goes, track-goes}
-use Rattle.script_gen.proofs.PlaceSteps.{Stands, line-leads}
 use Rattle.script_gen.proofs.Needing.{IsFew, few-blocks, few-bytes}
-use Rattle.script_gen.proofs.Passing.{HasRoom, line-passes}
-use Rattle.script_gen.proofs.Places.{first_place-bounds, line-bounds}
+use Rattle.script_gen.proofs.{Editing.IsAt, PlaceSteps.Stands, PlaceSteps.line-leads, Passing.HasRoom}
+use Rattle.script_gen.proofs.{Passing.line-passes, Places.first_place-bounds, Places.line-bounds}
+use Rattle.pcm_base.specs.declared.command.Call.TheVariants as call
+use Rattle.pcm_base.specs.declared.command.Command.TheVariants as command
 
 -- a studio after this many lines of a script, its state of this kind
 pub record IsBehind (made : ℕ) (P : State → Type 0) (t : Studio) : Type 0 where

@@ -1,13 +1,9 @@
 -- How much of a disk the lines of a script may need.
 use Rattle.std.specs.Prelude.{ℕ, ◌+◌, ◌-◌, ◌*◌, ◌≤◌, List, [], ◌∷◌, length}
 use Rattle.std.specs.Int.{div_ceil}
-use Rattle.pcm_base.specs.declared.answer.Reply.{Reply}
-use Rattle.pcm_base.specs.declared.command.Call.TheVariants.{Line}
-use Rattle.pcm_base.specs.declared.command.Command.{Command}
-use Rattle.pcm_base.specs.declared.entry.SoundMove.{SoundMove}
-use Rattle.pcm_base.specs.Counters.{Needs, places_of}
-use Rattle.pcm_base.specs.Run.{CarriesOut, outside}
-use Rattle.pcm_base.specs.Studio.{Studio, fresh}
+use Rattle.pcm_base.specs.{declared.answer.Reply.Reply, declared.command.Call.TheVariants.Line}
+use Rattle.pcm_base.specs.{declared.command.Command.Command, declared.entry.SoundMove.SoundMove, Counters.Needs}
+use Rattle.pcm_base.specs.{Counters.places_of, Run.CarriesOut, Run.outside, Studio.Studio, Studio.fresh}
 
 -- Whatever a line needs within its bounds, it makes at most this many blocks, and its record has a body of at most this
 -- length.

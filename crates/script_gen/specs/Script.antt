@@ -1,13 +1,11 @@
 -- The script of a number, line by line.
-use Rattle.std.specs.Prelude.{ℕ, zero, suc, ◌+◌, ◌-◌, min, nat_lt, ◌==◌, if◌then◌else◌, true, false, pos, negsuc}
-use Rattle.std.specs.Prelude.{◌-ℤ◌, List, [], ◌∷◌}
+use Rattle.std.specs.Prelude.{ℕ, zero, suc, ◌+◌, ◌-◌, min, nat_lt, ◌==◌, if◌then◌else◌, true, false, pos, negsuc, ◌-ℤ◌}
+use Rattle.std.specs.Prelude.{List, [], ◌∷◌}
 use Rattle.pcm_base.specs.declared.command.Command.{Command}
-use Rattle.pcm_base.specs.declared.command.Command.TheVariants as command
-use Rattle.script_gen.specs.declared.draws.CellRange.{CellRange}
-use Rattle.script_gen.specs.declared.kind.Kind.{Kind}
-use Rattle.script_gen.specs.declared.kind.Kind.TheVariants as kind
-use Rattle.script_gen.specs.declared.place.Place.{Place}
 use Rattle.script_gen.specs.Draws.{next_state, drawn}
+use Rattle.script_gen.specs.{declared.draws.CellRange.CellRange, declared.kind.Kind.Kind, declared.place.Place.Place}
+use Rattle.pcm_base.specs.declared.command.Command.TheVariants as command
+use Rattle.script_gen.specs.declared.kind.Kind.TheVariants as kind
 
 -- a line, and the place after it
 pub record Written : Type 0 where

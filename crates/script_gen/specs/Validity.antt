@@ -1,14 +1,9 @@
 -- What it means that no line of a script is refused.
 use Rattle.std.specs.Prelude.{◌≡◌, ℕ, ◌≤◌, List, [], ◌∷◌, map, All, IsOk, None, Ok}
-use Rattle.pcm_base.specs.declared.answer.Reply.{Reply}
-use Rattle.pcm_base.specs.declared.command.Call.TheVariants.{Line}
-use Rattle.pcm_base.specs.declared.command.Command.{Command}
-use Rattle.pcm_base.specs.declared.entry.Entry.{Entry}
-use Rattle.pcm_base.specs.declared.entry.SoundMove.{SoundMove}
-use Rattle.pcm_base.specs.Counters.{Needs}
-use Rattle.pcm_base.specs.Form.{IsInForm}
-use Rattle.pcm_base.specs.Run.{CarriesOut, Run, outside, refusal_of, result_of}
-use Rattle.pcm_base.specs.Studio.{Studio, fresh}
+use Rattle.pcm_base.specs.{declared.answer.Reply.Reply, declared.command.Call.TheVariants.Line}
+use Rattle.pcm_base.specs.{declared.command.Command.Command, declared.entry.Entry.Entry}
+use Rattle.pcm_base.specs.{declared.entry.SoundMove.SoundMove, Counters.Needs, Form.IsInForm, Run.CarriesOut, Run.Run}
+use Rattle.pcm_base.specs.{Run.outside, Run.refusal_of, Run.result_of, Studio.Studio, Studio.fresh}
 
 -- Nothing refuses a line, whatever it needs within its bounds: the studio goes on, no own test fails, no counter passes
 -- its end, and no record is too long.

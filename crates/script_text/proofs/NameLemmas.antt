@@ -1,11 +1,8 @@
 -- The bytes of a name are ASCII, and so a text.
 use Rattle.std.proofs.Common.{◌≡◌, ◌<◌, ℕ, Bool, true, List, length, arith}
-use Rattle.std.specs.Prelude.{IsTrue, ◌&&◌, nat_le}
-use Rattle.std.specs.List.{list_all}
-use Rattle.std.specs.Str.{IsUtf8}
-use Rattle.std.proofs.lemmas.List.Sums.{AllPass-from_list_all}
-use Rattle.std.proofs.lemmas.Str.{IsUtf8-from_ascii}
-use Rattle.std.proofs.lemmas.Str.Ascii.{IsAscii-from_all}
+use Rattle.std.proofs.{lemmas.List.Sums.AllPass-from_list_all, lemmas.Str.IsUtf8-from_ascii}
+use Rattle.std.proofs.{lemmas.Str.Ascii.IsAscii-from_all}
+use Rattle.std.specs.{Prelude.IsTrue, Prelude.◌&&◌, Prelude.nat_le, List.list_all, Str.IsUtf8}
 use Rattle.pcm_base.specs.Form.{is_name_byte, begins_well, IsName}
 
 byte_is_ascii : (b : ℕ) → is_name_byte b ≡ true → b < 128

@@ -1,8 +1,7 @@
 -- What is printed of a call that is refused as a whole.
 use Rattle.std.specs.Prelude.{ℕ, ◌++◌, List, codes}
-use Rattle.script_text.specs.declared.call_fault.CallFault.{CallFault}
+use Rattle.script_text.specs.{declared.call_fault.CallFault.CallFault, Text.with_number, Text.damage_text}
 use Rattle.script_text.specs.declared.call_fault.CallFault.TheVariants as fault
-use Rattle.script_text.specs.Text.{with_number, damage_text}
 
 -- why, by its name, and its numbers
 abbrev pub call_fault_text : CallFault → List ℕ

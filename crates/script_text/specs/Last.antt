@@ -1,13 +1,11 @@
 -- What is printed at the end of a session that may have recorded and played.
 use Rattle.std.specs.Prelude.{ℕ, ◌++◌, List, [], Option, Some, None, codes}
 use Rattle.pcm_base.specs.declared.refusal.Refusal.{Refusal}
-use Rattle.script_text.specs.declared.last.RecordEnd.{RecordEnd}
-use Rattle.script_text.specs.declared.last.RecordEnd.TheVariants as record_end
-use Rattle.script_text.specs.declared.last.RecordLine.{RecordLine}
-use Rattle.script_text.specs.declared.last.PlayEnd.{PlayEnd}
-use Rattle.script_text.specs.declared.last.PlayEnd.TheVariants as play_end
-use Rattle.script_text.specs.declared.last.PlayLine.{PlayLine}
 use Rattle.script_text.specs.Text.{with_number, reason_text, end_text}
+use Rattle.script_text.specs.{declared.last.RecordEnd.RecordEnd, declared.last.RecordLine.RecordLine}
+use Rattle.script_text.specs.{declared.last.PlayEnd.PlayEnd, declared.last.PlayLine.PlayLine}
+use Rattle.script_text.specs.declared.last.RecordEnd.TheVariants as record_end
+use Rattle.script_text.specs.declared.last.PlayEnd.TheVariants as play_end
 
 -- why a recording or a playback was refused, after what it did
 abbrev pub refused_ending : Refusal → List ℕ

@@ -1,7 +1,6 @@
 -- What is printed of a script that was made from a number, and run.
 use Rattle.std.specs.Prelude.{ℕ, ◌++◌, List, codes}
-use Rattle.script_text.specs.declared.summary.Summary.{Summary}
-use Rattle.script_text.specs.Text.{with_number, column_text}
+use Rattle.script_text.specs.{declared.summary.Summary.Summary, Text.with_number, Text.column_text}
 
 -- the number and the lines of the script, and the commits that it made
 abbrev pub run_text : Summary → List ℕ

@@ -1,7 +1,6 @@
 -- The words of a line: one of a kind, several, or none.
 use Rattle.std.specs.Prelude.{ℕ, List, [], ◌∷◌, ℤ, Bool, Option, Some, None, Result, Ok, Err}
-use Rattle.pcm_base.specs.declared.sound.Side.{Side}
-use Rattle.pcm_base.specs.declared.command.Command.{Command}
+use Rattle.pcm_base.specs.{declared.sound.Side.Side, declared.command.Command.Command}
 use Rattle.script_text.specs.Words.{Words, End, Word, number_of, count_of, ramp_count_of, sample_of, gain_of, side_of}
 use Rattle.script_text.specs.Words.{switch_of, name_of, option_map_to}
 

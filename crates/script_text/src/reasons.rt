@@ -65,13 +65,8 @@ pub fn put_reason<O: Sink>(text: &mut Gathered, out: &mut O, reason: &Refusal)
             put_wav_fault(text, out, fault);
         }
         Refusal::RateDiffers { have, want } => {
-            put_pair(
-                text,
-                out,
-                b"RateDiffers",
-                u64::from(*have),
-                u64::from(*want),
-            )
+            let wanted = u64::from(*want);
+            put_pair(text, out, b"RateDiffers", u64::from(*have), wanted)
         }
         Refusal::TooLong { frames } => put_named(text, out, b"TooLong", *frames),
         Refusal::SpaceSpent { have, need } => put_pair(text, out, b"SpaceSpent", *have, *need),

@@ -3,30 +3,19 @@ use Rattle.std.proofs.Common.{◌≡◌, ⊎_elim, ℕ, suc, ◌+◌, ◌-◌, �
 use Rattle.std.proofs.Common.{Ok, Err, refl, sym, ap, ◌∙◌, subst, arith, length-append}
 use Rattle.std.proofs.lemmas.List.{length-take-le}
 use Rattle.std.specs.Prelude.{IfOk, OnOk}
-use Rattle.pcm_base.specs.declared.answer.Reply.{Reply}
-use Rattle.pcm_base.specs.declared.command.Call.{Call}
-use Rattle.pcm_base.specs.declared.entry.SoundMove.{SoundMove}
-use Rattle.pcm_base.specs.declared.refusal.Refusal.{Refusal}
-use Rattle.pcm_base.specs.declared.said.Said.{Said}
-use Rattle.pcm_base.specs.Counters.{commits_of}
+use Rattle.pcm_base.specs.{declared.answer.Reply.Reply, declared.command.Call.Call, declared.entry.SoundMove.SoundMove}
+use Rattle.pcm_base.specs.{declared.refusal.Refusal.Refusal, declared.said.Said.Said, Counters.commits_of}
 use Rattle.disk_model.specs.declared.store.Store.{Ghosts}
-use Rattle.edit_ports.specs.Answers.{AreTaken, numbered_pieces}
-use Rattle.edit_ports.specs.declared.pieces.Taken.{Taken}
-use Rattle.edit_ports.specs.declared.vault.Vault as vault
+use Rattle.edit_ports.specs.{Answers.AreTaken, Answers.numbered_pieces, declared.pieces.Taken.Taken}
 use Rattle.pin_turn.specs.declared.view.View.{View}
-use Rattle.editor_state.specs.Core.{Core}
-use Rattle.editor_state.specs.Took.{told_by}
-use Rattle.studio_seats.specs.declared.deed.Deed.{Deed}
-use Rattle.studio_seats.specs.declared.held.Held.{Held}
+use Rattle.editor_state.specs.{Core.Core, Took.as_reply}
 use Rattle.studio_seats.specs.Deeds.{deed, entries_of, number_after}
 use Rattle.studio_seats.specs.Desks.{Says, Spends, Turned, asked, views}
-use Rattle.studio_seats.specs.Pins.{is_made}
-use Rattle.studio_seats.specs.Stands.{origin}
-use Rattle.studio_seats.proofs.FrameLemmas.{made_on}
-use Rattle.studio_seats.proofs.Grown.{entries_append, number_append}
-use Rattle.studio_seats.proofs.Turns.{number_on, turned_number}
-use Rattle.seat_examples.specs.declared.session.Session.{Session}
-use Rattle.seat_examples.specs.Jobs.{IsReady}
+use Rattle.studio_seats.specs.{declared.deed.Deed.Deed, declared.held.Held.Held, Pins.is_made, Stands.origin}
+use Rattle.studio_seats.proofs.{FrameLemmas.made_on, Grown.entries_append, Grown.number_append, Turns.number_on}
+use Rattle.studio_seats.proofs.{Turns.turned_number}
+use Rattle.seat_examples.specs.{declared.session.Session.Session, Jobs.IsReady}
+use Rattle.edit_ports.specs.declared.vault.Vault as vault
 
 -- a pin that was made stays so
 pub made_still : (pin : ℕ) (seen seen' more : List Deed) → seen' ≡ seen ++ more → IsTrue (is_made pin (entries_of seen))
@@ -51,7 +40,7 @@ ready_on s first seen seen' more is h = record {
 module _ {D V A : Type 0} (disk : Ghosts D) (vaults : vault.Ghosts V) (start : Core D) (v w : View (Held D V disk) Deed)
     (call : Call) (f : A → Reply) (sound : SoundMove) (commit : commits_of call ≡ 1) where
   abbrev Took : Result A Refusal → ℕ → Type 0
-  Took what at = Turned (origin disk vaults start) (asked call (told_by f what) sound) at (views v w)
+  Took what at = Turned (origin disk vaults start) (asked call (as_reply f what) sound) at (views v w)
 
   taken : (what : Result A Refusal) (at : ℕ) → Took what at → OnOk what (1 ≤ at)
   taken (Ok x) at h =
@@ -65,7 +54,7 @@ module _ {D V A : Type 0} (disk : Ghosts D) (vaults : vault.Ghosts V) (start : C
 
   -- a commit that is carried out has a number from 1 on
   pub counted : (said : Said A)
-      → Says (origin disk vaults start) (asked call (told_by f said.what) sound) said (views v w)
+      → Says (origin disk vaults start) (asked call (as_reply f said.what) sound) said (views v w)
       → OnOk said.what (1 ≤ said.at)
   counted said h = ⊎_elim
       (λ (x : Took said.what said.at). taken said.what said.at x)

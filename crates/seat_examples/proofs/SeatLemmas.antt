@@ -1,17 +1,11 @@
 -- A seat that split one off takes it in again.
-use Rattle.std.proofs.Common.{◌≡◌, ℕ, ◌<◌, if◌then◌else◌, Bool, true, false, List, [], ◌∷◌, ◌++◌, length, nat_lt}
-use Rattle.std.proofs.Common.{refl, sym, ap, ◌∙◌, subst}
+use Rattle.std.proofs.Common.{◌≡◌, ◌<◌, if◌then◌else◌, Bool, true, false, List, [], ◌∷◌, ◌++◌, length, nat_lt, refl}
+use Rattle.std.proofs.Common.{sym, ap, ◌∙◌, subst}
 use Rattle.pcm_base.specs.declared.command.Call.{Call}
 use Rattle.disk_model.specs.declared.store.Store.{Ghosts}
-use Rattle.pin_turn.specs.declared.view.View.{View}
-use Rattle.pin_turn.specs.Counts.{longer, times}
-use Rattle.pin_turn.specs.Rule.{IsNewNumber}
-use Rattle.pin_turn.specs.Views.{joined}
+use Rattle.pin_turn.specs.{declared.view.View.View, Counts.longer, Counts.times, Rule.IsNewNumber, Views.joined}
 use Rattle.pin_turn.proofs.Calls.{rejoins}
-use Rattle.studio_seats.specs.declared.deed.Deed.{Deed}
-use Rattle.studio_seats.specs.declared.held.Held.{Held}
-use Rattle.studio_seats.specs.Deeds.{actor_of}
-use Rattle.studio_seats.specs.Onward.{Onward}
+use Rattle.studio_seats.specs.{declared.deed.Deed.Deed, declared.held.Held.Held, Deeds.actor_of, Onward.Onward}
 use Rattle.seat_examples.specs.Jobs.{StaysSeat}
 
 either : (c : Bool) (xs a b : List Deed) → (more : List Deed) × ((if c then xs ++ b else xs ++ a) ≡ xs ++ more)

@@ -1,25 +1,15 @@
 -- What jobs ask of a desk, and what they need.
 use Rattle.std.specs.Prelude.{◌≡◌, ℕ, ◌+◌, ◌^◌, ◌<◌, ◌≤◌, ℤ, IsTrue, List, ◌++◌, length}
-use Rattle.pcm_base.specs.declared.command.Call.{Call}
-use Rattle.pcm_base.specs.declared.command.Call.TheVariants.{Line}
-use Rattle.pcm_base.specs.declared.command.Command.TheVariants as command
-use Rattle.pcm_base.specs.declared.sound.Frame.{Frame}
+use Rattle.pcm_base.specs.{declared.command.Call.Call, declared.command.Call.TheVariants.Line}
+use Rattle.pcm_base.specs.{declared.sound.Frame.Frame}
 use Rattle.disk_model.specs.declared.store.Store.{Ghosts}
 use Rattle.pin_turn.specs.declared.view.View.{View}
-use Rattle.studio_seats.specs.declared.deed.Deed.{Deed}
-use Rattle.studio_seats.specs.declared.held.Held.{Held}
-use Rattle.studio_seats.specs.Deeds.{entries_of, number_after}
-use Rattle.studio_seats.specs.Desks.{Views}
-use Rattle.studio_seats.specs.Freeing.{IsFullReclaim}
-use Rattle.studio_seats.specs.Onward.{IsReadOf}
-use Rattle.studio_seats.specs.Pieces.{pieces_by}
-use Rattle.studio_seats.specs.Pins.{is_made}
-use Rattle.studio_seats.specs.Recording.{RecorderAsks}
-use Rattle.studio_seats.specs.Shows.{IsMixOf}
-use Rattle.studio_seats.specs.Stands.{Origin}
-use Rattle.seat_examples.specs.declared.jobs.Job.{Job}
+use Rattle.studio_seats.specs.{declared.deed.Deed.Deed, declared.held.Held.Held, Deeds.entries_of, Deeds.number_after}
+use Rattle.studio_seats.specs.{Desks.Views, Freeing.IsFullReclaim, Onward.IsReadOf, Pieces.pieces_by, Pins.is_made}
+use Rattle.studio_seats.specs.{Recording.RecorderAsks, Shows.IsMixOf, Stands.Origin}
+use Rattle.seat_examples.specs.{declared.jobs.Job.Job, declared.session.Session.Session}
+use Rattle.pcm_base.specs.declared.command.Command.TheVariants as command
 use Rattle.seat_examples.specs.declared.jobs.Job.TheVariants as job
-use Rattle.seat_examples.specs.declared.session.Session.{Session}
 
 -- a ramp in front of this track
 abbrev pub IsRampIn : ℕ → Call → Type 0

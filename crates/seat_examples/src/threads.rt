@@ -69,41 +69,23 @@ pub fn by_four<R: Threads + Wait + Sync>(
     ensures ready { IsReady session (start_at desk.now).commit_number (known result.0).seen }
 {
     let Session { pin, track, tag } = session;
+    let adds = Job::Record { track, tag };
+    let reads = Job::Play { pin, mix };
     let other = desk.split(&mut seat);
     let (one, two) = join(
         rt,
         || -> (RamSeat, [End; 2])
             requires seat { IsAt desk.now seat }
-            requires needed { needed (Job.Record track tag) (start_at desk.now).commit_number (known seat).seen }
+            requires needed { needed adds (start_at desk.now).commit_number (known seat).seen }
             ensures same { IsAt desk.entry.now result.0 }
             ensures stays { StaysSeat (known seat) (known result.0) }
-        {
-            by_two(
-                rt,
-                alloc,
-                desk,
-                seat,
-                Job::Edit { track: 1 },
-                Job::Record { track, tag },
-                turns,
-            )
-        },
+        { by_two(rt, alloc, desk, seat, Job::Edit { track: 1 }, adds, turns) },
         || -> (RamSeat, [End; 2])
             requires seat { IsAt desk.now other }
-            requires needed { needed (Job.Play pin mix) (start_at desk.now).commit_number (known other).seen }
+            requires needed { needed reads (start_at desk.now).commit_number (known other).seen }
             ensures same { IsAt desk.entry.now result.0 }
             ensures stays { StaysSeat (known other) (known result.0) }
-        {
-            by_two(
-                rt,
-                alloc,
-                desk,
-                other,
-                Job::Play { pin, mix },
-                Job::Reclaim,
-                turns,
-            )
-        },
+        { by_two(rt, alloc, desk, other, reads, Job::Reclaim, turns) },
     );
     let (mut seat, ends) = one;
     let (other, other_ends) = two;

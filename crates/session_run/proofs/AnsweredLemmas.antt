@@ -2,21 +2,17 @@
 use Rattle.std.proofs.Common.{◌≡◌, inl, inr, ◌∙◌, refl, sym, ap, subst, ℕ, Bool, true, false, List, [], ◌∷◌, ◌++◌}
 use Rattle.std.proofs.Common.{append_assoc, Result, Ok, Err}
 use Rattle.std.specs.Prelude.{MatchBool}
-use Rattle.pcm_base.specs.declared.answer.Answer.{Answer}
-use Rattle.pcm_base.specs.declared.command.Command.{Command}
-use Rattle.pcm_base.specs.declared.command.Command.TheVariants.{Bounce}
-use Rattle.pcm_base.specs.declared.entry.Entry.{Entry}
-use Rattle.pin_turn.specs.Counts.{Each}
-use Rattle.pin_turn.specs.Rule.{ByOthers}
+use Rattle.pcm_base.specs.{declared.answer.Answer.Answer, declared.command.Command.Command}
+use Rattle.pcm_base.specs.{declared.command.Command.TheVariants.Bounce, declared.entry.Entry.Entry}
+use Rattle.pin_turn.specs.{Counts.Each, Rule.ByOthers}
 use Rattle.pin_turn.proofs.Sums.{Each-left, Each-right}
 use Rattle.script_text.specs.Grammar.{is_silent, line_of}
-use Rattle.studio_seats.specs.declared.deed.Deed.{Deed}
 use Rattle.studio_seats.specs.Deeds.{actor_of, entries_of, entry_of, number_after}
+use Rattle.studio_seats.specs.{declared.deed.Deed.Deed, Merge.by_seat, Merge.deeds_of}
 use Rattle.studio_seats.proofs.Grown.{entries_append, number_append}
-use Rattle.studio_seats.specs.Merge.{by_seat, deeds_of}
-use Rattle.script_session.specs.Place.{Bounces, Enters, Place, line_deed}
-use Rattle.script_session.specs.Session.{Next, Session, Turn}
-use Rattle.script_session.proofs.AddedLemmas.{sessions_add}
+use Rattle.script_reader.specs.Place.{Bounces, Enters, Place, line_deed}
+use Rattle.script_reader.specs.Answering.{Next, AnswersLines, Turn}
+use Rattle.script_reader.proofs.AddedLemmas.{scripts_add}
 use Rattle.desk_session.proofs.ListLemmas.{same_rest}
 use Rattle.session_run.specs.Answered.{Answered, BounceEntries, BounceNumber, IsNext, IsUnasked}
 use Rattle.session_run.specs.Entries.{entries_by, last_number}
@@ -44,7 +40,7 @@ same_place p t lines answers added first seen last h =
     (λ i. (number_after (first i) (seen i), last i)) h
 
 module _ (lines : List (List ℕ)) (q : Place) (later : List Deed)
-    (go : (answers : List Answer) (p : Place) (added : List Deed) → Session p lines answers q → Led p q later added
+    (go : (answers : List Answer) (p : Place) (added : List Deed) → AnswersLines p lines answers q → Led p q later added
     → Answered (number_at p) p.last lines answers (entries_of added)) where
   abbrev Later : ℕ → ℕ → List Answer → List Entry → Type 0
   Later m shown more rest = Answered m shown lines more rest
@@ -52,12 +48,12 @@ module _ (lines : List (List ℕ)) (q : Place) (later : List Deed)
   -- a line that made no entry
   unasked : (p t : Place) (line : Result Command ℕ) (a : Answer) (answers : List Answer) (added : List Deed)
       → t.seat ≡ p.seat → t.first ≡ p.first → t.seen ≡ p.seen → t.last ≡ p.last → IsUnasked line a.reply
-      → a.commit ≡ t.last → Session t lines answers q → Led p q later added
+      → a.commit ≡ t.last → AnswersLines t lines answers q → Led p q later added
       → IsNext (number_at p) p.last line (a ∷ answers) (entries_of added) Later
-  unasked p t line a answers added seat first seen last reply commit session led = inl (
+  unasked p t line a answers added seat first seen last reply commit by_line led = inl (
     reply,
     commit ∙ last,
-    same_place p t lines answers added first seen last (go answers t added session (record {
+    same_place p t lines answers added first seen last (go answers t added by_line (record {
       script = seat ∙ led.script;
       seen = led.seen ∙ ap (λ (l : List Deed). l ++ added) (sym seen);
       by_others = led.by_others;
@@ -67,11 +63,11 @@ module _ (lines : List (List ℕ)) (q : Place) (later : List Deed)
 
   -- a line that took a turn
   entered : (p t : Place) (command : Command) (a : Answer) (answers : List Answer) (added : List Deed)
-      → Enters p command a.reply t → a.commit ≡ t.last → Session t lines answers q → Led p q later added
+      → Enters p command a.reply t → a.commit ≡ t.last → AnswersLines t lines answers q → Led p q later added
       → IsNext (number_at p) p.last (Ok command) (a ∷ answers) (entries_of added) Later
-  entered p t command a answers added x commit session led =
+  entered p t command a answers added x commit by_line led =
       let d = line_deed p command x.what t.sounds in
-      let more = sessions_add lines answers t q session in
+      let more = scripts_add lines answers t q by_line in
       let rest = more.added ++ later in
       let seen_t : t.seen ≡ (p.seen ++ x.between) ++ d ∷ [] = ap (λ (z : Place). z.seen) x.after in
       let first_t : t.first ≡ p.first = ap (λ (z : Place). z.first) x.after in
@@ -110,7 +106,7 @@ module _ (lines : List (List ℕ)) (q : Place) (later : List Deed)
               ∙ ap (last_number (number_at p)) (entries_append x.between (d ∷ [])));
         },
         subst (λ (z : ℕ × ℕ). Answered z.0 z.1 lines answers (entries_of rest)) (λ i. (number_t i, sym commit i))
-            (go answers t rest session (record {
+            (go answers t rest by_line (record {
               script = ap (λ (z : Place). z.seat) x.after ∙ led.script;
               seen = on;
               by_others = led.by_others;
@@ -120,11 +116,11 @@ module _ (lines : List (List ℕ)) (q : Place) (later : List Deed)
 
   -- a bounce
   bounced : (p t : Place) (command : Command) (name : List ℕ) (a : Answer) (answers : List Answer) (added : List Deed)
-      → command ≡ Bounce name → Bounces p name a.reply t → a.commit ≡ t.last → Session t lines answers q
+      → command ≡ Bounce name → Bounces p name a.reply t → a.commit ≡ t.last → AnswersLines t lines answers q
       → Led p q later added → IsNext (number_at p) p.last (Ok command) (a ∷ answers) (entries_of added) Later
-  bounced p t command name a answers added is x commit session led =
+  bounced p t command name a answers added is x commit by_line led =
       let own : List Deed = deeds_of (by_seat p.seat) x.added in
-      let more = sessions_add lines answers t q session in
+      let more = scripts_add lines answers t q by_line in
       let rest = more.added ++ later in
       let seen_t : t.seen ≡ p.seen ++ x.added = ap (λ (z : Place). z.seen) x.after in
       let first_t : t.first ≡ p.first = ap (λ (z : Place). z.first) x.after in
@@ -157,7 +153,7 @@ module _ (lines : List (List ℕ)) (q : Place) (later : List Deed)
               (subst (λ (l : List Deed). Each IsPlain l) (are ∙ sym (append_assoc f (d ∷ []) b)) front)) x.last));
         },
         subst (λ (z : ℕ × ℕ). Answered z.0 z.1 lines answers (entries_of rest)) (λ i. (number_t i, sym commit i))
-            (go answers t rest session (record {
+            (go answers t rest by_line (record {
               script = ap (λ (z : Place). z.seat) x.after ∙ led.script;
               seen = on;
               by_others = led.by_others;
@@ -166,28 +162,28 @@ module _ (lines : List (List ℕ)) (q : Place) (later : List Deed)
       ))
 
   next : (p : Place) (line : List ℕ) (answers : List Answer) (added : List Deed)
-      → Next p line answers (λ mid more. Session mid lines more q) → Led p q later added
+      → Next p line answers (λ mid more. AnswersLines mid lines more q) → Led p q later added
       → IsNext (number_at p) p.last (line_of line) answers (entries_of added) Later
   next p line [] added h led = absurd h
-  next p line (a ∷ answers) added (t, (turn, commit), session) led = by (line_of line) turn
+  next p line (a ∷ answers) added (t, (turn, commit), by_line) led = by (line_of line) turn
     where
       by : (r : Result Command ℕ) → Turn p r a.reply t
           → IsNext (number_at p) p.last r (a ∷ answers) (entries_of added) Later
       by (Err column) (reply, same) =
           unasked p t (Err column) a answers added (ap (λ (z : Place). z.seat) same) (ap (λ (z : Place). z.first) same)
-          (ap (λ (z : Place). z.seen) same) (ap (λ (z : Place). z.last) same) reply commit session led
-      by (Ok command) (inl x) = entered p t command a answers added x.1 commit session led
+          (ap (λ (z : Place). z.seen) same) (ap (λ (z : Place). z.last) same) reply commit by_line led
+      by (Ok command) (inl x) = entered p t command a answers added x.1 commit by_line led
       by (Ok command) (inr (inl (reply, same))) =
           unasked p t (Ok command) a answers added (ap (λ (z : Place). z.seat) same) (ap (λ (z : Place). z.first) same)
-          (ap (λ (z : Place). z.seen) same) (ap (λ (z : Place). z.last) same) (inl reply) commit session led
-      by (Ok command) (inr (inr (inr x))) = bounced p t command x.0 a answers added x.1 x.2 commit session led
+          (ap (λ (z : Place). z.seen) same) (ap (λ (z : Place). z.last) same) (inl reply) commit by_line led
+      by (Ok command) (inr (inr (inr x))) = bounced p t command x.0 a answers added x.1 x.2 commit by_line led
       by (Ok command) (inr (inr (inl (reply, same)))) =
           unasked p t (Ok command) a answers added (ap (λ (z : Place). z.seat) same) (ap (λ (z : Place). z.first) same)
-          (ap (λ (z : Place). z.seen) same) (ap (λ (z : Place). z.last) same) (inr reply) commit session led
+          (ap (λ (z : Place). z.seen) same) (ap (λ (z : Place). z.last) same) (inr reply) commit by_line led
 
 -- the lines have their answers by the entries of the deeds that were added
 pub answered : (lines : List (List ℕ)) (answers : List Answer) (p q : Place) (later added : List Deed)
-    → Session p lines answers q → Led p q later added
+    → AnswersLines p lines answers q → Led p q later added
     → Answered (number_at p) p.last lines answers (entries_of added)
 answered [] answers p q later added h led = (
   h.0,
@@ -197,11 +193,11 @@ answered [] answers p q later added h led = (
 answered (line ∷ lines) answers p q later added h led =
     by (λ more t rest. answered lines more t q later rest) (is_silent line) h
   where
-    by : ((more : List Answer) (t : Place) (rest : List Deed) → Session t lines more q → Led t q later rest
+    by : ((more : List Answer) (t : Place) (rest : List Deed) → AnswersLines t lines more q → Led t q later rest
         → Answered (number_at t) t.last lines more (entries_of rest))
-        → (b : Bool) → MatchBool b (Session p lines answers q) (Next p line answers (λ mid more. Session mid lines more q))
+        → (b : Bool) → MatchBool b (AnswersLines p lines answers q) (Next p line answers (λ mid more. AnswersLines mid lines more q))
         → MatchBool b (Answered (number_at p) p.last lines answers (entries_of added))
         (IsNext (number_at p) p.last (line_of line) answers (entries_of added)
         (λ m shown more rest. Answered m shown lines more rest))
-    by go true session = go answers p added session led
+    by go true by_line = go answers p added by_line led
     by go false turn = next lines q later go p line answers added turn led

@@ -1,54 +1,38 @@
 -- A run in which each entry of pieces is taken apart into single pieces.
-use Rattle.std.proofs.Common.{◌≡◌, inl, inr, ⊎_elim, ◌∙◌, refl, sym, ap, subst, ℕ, ◌+◌, ◌≤◌, ◌<◌, ℤ, if◌then◌else◌, Bool}
-use Rattle.std.proofs.Common.{true, false, List, [], ◌∷◌, ◌++◌, length, drop, Result, Ok, Err, arith}
-use Rattle.std.specs.Prelude.{◌||◌}
+use Rattle.std.proofs.Common.{◌≡◌, inl, inr, ⊎_elim, ◌∙◌, refl, sym, ap, subst, ℕ, ◌+◌, ◌≤◌, ◌<◌, ℤ, if◌then◌else◌}
+use Rattle.std.proofs.Common.{Bool, true, false, List, [], ◌∷◌, ◌++◌, length, drop, Result, Ok, Err, arith}
 use Rattle.std.proofs.lemmas.Bool.{cases_lt, eqb-true, or_cases}
 use Rattle.std.proofs.lemmas.List.{at_drop_all, length-map}
-use Rattle.pcm_base.specs.declared.answer.Reply.{Reply}
-use Rattle.pcm_base.specs.declared.answer.Reply.TheVariants as reply
-use Rattle.pcm_base.specs.declared.command.Call.{Call}
-use Rattle.pcm_base.specs.declared.command.Call.TheVariants as call
+use Rattle.std.specs.Prelude.{◌||◌}
 use Rattle.pcm_base.specs.declared.command.Call.TheVariants.{Line, Piece, Pin}
-use Rattle.pcm_base.specs.declared.command.Command.TheVariants.{Track}
-use Rattle.pcm_base.specs.declared.entry.Entry.{Entry}
-use Rattle.pcm_base.specs.declared.entry.SoundMove.{SoundMove}
-use Rattle.pcm_base.specs.declared.refusal.Refusal.{Refusal}
-use Rattle.pcm_base.specs.declared.refusal.Refusal.TheVariants.{NoTrack}
 use Rattle.pcm_base.specs.Cells.{Project, cells_at, tracks_from}
-use Rattle.pcm_base.specs.Counters.{counter_tests, record_test}
-use Rattle.pcm_base.specs.History.{IsHistory}
-use Rattle.pcm_base.specs.Recordings.{pieces_of}
 use Rattle.pcm_base.specs.Refusals.{◌otherwise◌, call_tests, is_empty, length_limit, no_track}
 use Rattle.pcm_base.specs.Run.{Answers, CarriesOut, Run, outside, stop_test}
-use Rattle.pcm_base.specs.State.{current, first_point}
-use Rattle.pcm_base.specs.Studio as model
-use Rattle.model_laws.specs.Bounds.{IsBoundedStudio}
-use Rattle.model_laws.specs.Laws.{pieces_done}
-use Rattle.model_laws.proofs.OwnTests.{both_passed, not_refused}
-use Rattle.model_laws.proofs.Together.{batch_pieces}
+use Rattle.pcm_base.specs.{declared.answer.Reply.Reply, declared.command.Call.Call}
+use Rattle.pcm_base.specs.{declared.command.Command.TheVariants.Track, declared.entry.Entry.Entry}
+use Rattle.pcm_base.specs.{declared.entry.SoundMove.SoundMove, declared.refusal.Refusal.Refusal}
+use Rattle.pcm_base.specs.{declared.refusal.Refusal.TheVariants.NoTrack, Counters.counter_tests, Counters.record_test}
+use Rattle.pcm_base.specs.{History.IsHistory, Recordings.pieces_of, State.current, State.first_point}
+use Rattle.model_laws.specs.{Bounds.IsBoundedStudio, Laws.pieces_done}
+use Rattle.model_laws.proofs.{OwnTests.both_passed, OwnTests.not_refused, Together.batch_pieces}
 use Rattle.disk_model.specs.declared.store.Store.{Ghosts}
-use Rattle.edit_ports.specs.declared.vault.Vault as vault
 use Rattle.pin_turn.specs.Counts.{Each}
-use Rattle.editor_state.specs.Applied.{reply_of}
-use Rattle.editor_state.specs.Core.{Core}
-use Rattle.editor_state.specs.Studios.{IsHeld, IsStudio, studio_of}
+use Rattle.editor_state.specs.{Applied.reply_of, Core.Core, Studios.IsHeld, Studios.IsStudio, Studios.studio_of}
 use Rattle.editor_state.proofs.Images.ModelBounds.{bounded}
-use Rattle.studio_seats.specs.declared.deed.Deed.{Deed}
-use Rattle.studio_seats.specs.Deeds.{entries_of, entry_of}
-use Rattle.studio_seats.specs.Merge.{Rises, by_seat}
-use Rattle.studio_seats.specs.Onward.{Asks}
-use Rattle.studio_seats.specs.Stands.{AllTell, Chain}
+use Rattle.studio_seats.specs.{declared.deed.Deed.Deed, Deeds.entries_of, Deeds.entry_of, Merge.Rises, Merge.by_seat}
+use Rattle.studio_seats.specs.{Onward.Asks, Stands.AllTell, Stands.Chain}
 use Rattle.studio_seats.proofs.OnwardLemmas.{each_append}
-use Rattle.script_session.specs.Calls.{IsOfScript}
-use Rattle.script_session.specs.Session.{is_refusal}
-use Rattle.desk_session.specs.declared.opening.Opened.{Opened}
-use Rattle.desk_session.specs.declared.side.Side.{Side}
+use Rattle.script_reader.specs.{Calls.IsOfScript, Answering.is_refusal}
 use Rattle.desk_session.specs.declared.side.Side.TheVariants.{Made, NotAsked, Refused}
 use Rattle.desk_session.specs.Makers.{Seats, is_by}
 use Rattle.desk_session.specs.Opening.{OwnDeed, PinDeed, TrackDeed, play_calls, record_calls, record_commits}
-use Rattle.desk_session.specs.Sessions.{IsMadeOf}
+use Rattle.desk_session.specs.{declared.opening.Opened.Opened, declared.side.Side.Side, Sessions.IsMadeOf}
 use Rattle.session_run.specs.Entries.{call_apart, pieces_apart}
 use Rattle.session_run.proofs.PromiseLemmas.{plain_of}
+use Rattle.pcm_base.specs.declared.answer.Reply.TheVariants as reply
+use Rattle.pcm_base.specs.declared.command.Call.TheVariants as call
+use Rattle.pcm_base.specs.Studio as model
+use Rattle.edit_ports.specs.declared.vault.Vault as vault
 
 -- ---- runs
 
@@ -113,20 +97,14 @@ pieces t u actor track tag samples sound (Err why) bound numbered h =
 pieces t u actor track tag samples sound (Ok r) bound numbered h =
     subst (λ (b : Bool). Run t (if b then entry actor (Piece track tag samples) sound (Ok r) ∷ []
     else pieces_done actor track tag sound (pieces_of samples)) u)
-    (sym (ap is_refusal h.answers))
-    (batch_pieces t u actor track tag samples sound r (bound r h) numbered h)
+    (sym (ap is_refusal h.answers)) (batch_pieces t u actor track tag samples sound r (bound r h) numbered h)
 
 -- ---- deeds
 
 -- the tag of a call of pieces is a commit number from 1 on
 abbrev pub IsTagged : Call → Type 0
-IsTagged (call.Line c) = Unit {0}
 IsTagged (call.Piece track tag samples) = 1 ≤ tag
-IsTagged call.Pin = Unit {0}
-IsTagged (call.PinLen pin) = Unit {0}
-IsTagged (call.ReadPin pin from count) = Unit {0}
-IsTagged (call.LoadPin pin from count) = Unit {0}
-IsTagged (call.Unpin pin) = Unit {0}
+IsTagged _ = Unit {0}
 
 module _ {D V : Type 0} (disk : Ghosts D) (vaults : vault.Ghosts V) where
   -- one deed
@@ -160,8 +138,7 @@ module _ {D V : Type 0} (disk : Ghosts D) (vaults : vault.Ghosts V) where
   deeds_apart old (d ∷ ds) new (mid, does, chain) told held is numbered =
       let took = does.took (λ some. told) in
       run_append (studio_of disk old) (studio_of disk mid) (studio_of disk new) (call_apart d.call (entry_of d))
-      (pieces_apart (entries_of ds))
-      (by_call old mid d.actor d.call d.sound d.what is numbered.0 (took.step held))
+      (pieces_apart (entries_of ds)) (by_call old mid d.actor d.call d.sound d.what is numbered.0 (took.step held))
       (deeds_apart mid ds new chain told (took.held held) does.lasts.studio numbered.1)
 
 -- ---- the tags of a session

@@ -1,25 +1,18 @@
 -- The deeds of a bounce as entries of a run.
-use Rattle.std.proofs.Common.{◌≡◌, ◌⊎◌, inl, inr, ⊎_elim, ◌∙◌, refl, sym, ap, subst, ℕ, ◌+◌, Bool, true, false, List, []}
-use Rattle.std.proofs.Common.{◌∷◌, ◌++◌, length, Result, Ok, Err}
-use Rattle.pcm_base.specs.declared.answer.Reply.{Reply}
+use Rattle.std.proofs.Common.{◌≡◌, ◌⊎◌, inl, inr, ⊎_elim, ◌∙◌, refl, sym, ap, subst, ℕ, ◌+◌, Bool, true, false, List}
+use Rattle.std.proofs.Common.{[], ◌∷◌, ◌++◌, length, Result, Ok, Err}
 use Rattle.pcm_base.specs.declared.answer.Reply.TheVariants.{Done, Pinned, Wrote}
-use Rattle.pcm_base.specs.declared.command.Call.{Call}
 use Rattle.pcm_base.specs.declared.command.Call.TheVariants.{LoadPin, PinLen, Unpin}
-use Rattle.pcm_base.specs.declared.entry.Entry.{Entry}
-use Rattle.pcm_base.specs.declared.refusal.Refusal.{Refusal}
+use Rattle.pcm_base.specs.{declared.answer.Reply.Reply, declared.command.Call.Call, declared.entry.Entry.Entry}
+use Rattle.pcm_base.specs.{declared.refusal.Refusal.Refusal}
 use Rattle.pin_turn.specs.Counts.{Each}
-use Rattle.editor_state.specs.Applied.{reply_of}
-use Rattle.editor_state.specs.Took.{told_by}
-use Rattle.studio_seats.specs.declared.deed.Deed.{Deed}
-use Rattle.studio_seats.specs.Deeds.{entries_of, number_after}
-use Rattle.studio_seats.specs.Desks.{spent}
-use Rattle.studio_seats.proofs.Grown.{entries_append, number_append}
-use Rattle.studio_seats.proofs.OnwardLemmas.{each_append}
-use Rattle.sound_bounce.specs.Bounces.{AfterPin, AreLoads, BounceDeeds, IsRefusedBy, LetsGo, LoadsAll, LoadsEnd, LoadsOf}
-use Rattle.sound_bounce.specs.Bounces.{RefusedAs, Unasked, frames_by, may_let_go}
-use Rattle.script_session.specs.Place.{Place, TellsBounce, batch}
-use Rattle.session_run.specs.Answered.{BounceEntries, BounceNumber, IsOfPin}
-use Rattle.session_run.specs.Entries.{last_number}
+use Rattle.editor_state.specs.{Applied.reply_of, Took.as_reply}
+use Rattle.studio_seats.specs.{declared.deed.Deed.Deed, Deeds.entries_of, Deeds.number_after, Desks.spent}
+use Rattle.studio_seats.proofs.{Grown.entries_append, Grown.number_append, OnwardLemmas.each_append}
+use Rattle.sound_bounce.specs.Bounces.{AfterPin, AreLoads, BounceDeeds, IsRefusedBy, LetsGo, LoadsAll, LoadsEnd}
+use Rattle.sound_bounce.specs.Bounces.{LoadsOf, RefusedAs, Unasked, frames_by, may_let_go}
+use Rattle.script_reader.specs.Place.{Place, TellsBounce, batch}
+use Rattle.session_run.specs.{Answered.BounceEntries, Answered.BounceNumber, Answered.IsOfPin, Entries.last_number}
 use Rattle.session_run.proofs.EntryLemmas.{IsPlain, last_as}
 
 -- ---- each of its deeds after the pin's is of this pin
@@ -101,7 +94,7 @@ entries_pin pin (d ∷ ds) h = (h.0, entries_pin pin ds h.1)
 
 -- the reply to a bounce that was answered so
 abbrev reply_by : Result ℕ Refusal → Reply
-reply_by what = reply_of (told_by Wrote what)
+reply_by what = reply_of (as_reply Wrote what)
 
 pub bounce_entries : (used_up : Bool) (what : Result ℕ Refusal) (own : List Deed) (r : Reply) → r ≡ reply_by what
     → BounceDeeds used_up batch what own → BounceEntries r (entries_of own)

@@ -1,11 +1,8 @@
 -- What words ask for, by what was read of them.
 use Rattle.std.proofs.Common.{◌≡◌, sym, subst, Option}
 use Rattle.call_words.specs.declared.asked.Words.{Words}
-use Rattle.script_session.specs.Change.{change}
-use Rattle.session_run.specs.declared.ending.Done.{Done}
-use Rattle.session_run.specs.Call.{DoesWords, World}
-use Rattle.session_run.specs.Ports.{Handed}
-use Rattle.session_run.specs.Streams.{Streams}
+use Rattle.script_reader.specs.Change.{change}
+use Rattle.session_run.specs.{declared.ending.Done.Done, Call.DoesWords, Call.World, Ports.Handed, Streams.Streams}
 
 pub asked : {R D V M P : Type 0} (w : World R D V M P) (said read : Option Words) (h : Handed D V M P) (done : Done D)
     → said ≡ read → DoesWords w read h done → DoesWords w said h done

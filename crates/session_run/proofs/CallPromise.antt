@@ -1,40 +1,34 @@
 -- The call keeps the promise.
-use Rattle.std.proofs.Common.{◌≡◌, inl, inr, ◌∙◌, refl, sym, subst, ℕ, if◌then◌else◌, Bool, true, false, List}
-use Rattle.std.proofs.Common.{Option, Some}
+use Rattle.std.proofs.Common.{◌≡◌, inl, inr, ◌∙◌, refl, sym, subst, ℕ, if◌then◌else◌, Bool, true, false, List, Option}
+use Rattle.std.proofs.Common.{Some}
 use Rattle.editor_recovery.specs.Honest.{IsHonest}
-use Rattle.call_words.specs.declared.asked.Words.{Words}
-use Rattle.call_words.specs.declared.asked.Words.TheVariants as words
-use Rattle.call_words.specs.Words.{words_of}
-use Rattle.call_words.specs.Texts.{Text}
-use Rattle.script_session.specs.Change.{change}
-use Rattle.studio_seats.specs.Leads.{DeedsAsk}
-use Rattle.studio_seats.specs.Stands.{AllTell}
-use Rattle.desk_session.specs.declared.opening.Beside.{Beside}
-use Rattle.desk_session.specs.Lent.{Kinds}
-use Rattle.session_run.specs.declared.ending.Done.{Done}
-use Rattle.session_run.specs.declared.ending.Ending.{Ending}
+use Rattle.call_words.specs.{declared.asked.Words.Words, Words.words_of, Texts.Text}
+use Rattle.script_reader.specs.Change.{change}
+use Rattle.studio_seats.specs.{Leads.DeedsAsk, Stands.AllTell}
+use Rattle.desk_session.specs.{declared.opening.Beside.Beside, Lent.Kinds}
 use Rattle.session_run.specs.Call.{Does, DoesWords, EndsAs, Promises, World, met_of}
-use Rattle.session_run.specs.Ports.{Handed, job}
-use Rattle.session_run.specs.Promise.{Met, Promise}
-use Rattle.session_run.specs.Runs.{Runs}
-use Rattle.session_run.specs.Streams.{input, output}
-use Rattle.session_run.proofs.Promised.{met, promised}
-use Rattle.session_run.proofs.StatusLemmas.{Counted}
+use Rattle.session_run.specs.{declared.ending.Done.Done, declared.ending.Ending.Ending, Ports.Handed, Ports.job}
+use Rattle.session_run.specs.{Promise.Met, Promise.Promise, Runs.Runs, Streams.input, Streams.output}
+use Rattle.session_run.proofs.{Promised.met, Promised.promised, StatusLemmas.Counted}
+use Rattle.call_words.specs.declared.asked.Words.TheVariants as words
 
 -- what the call leaves of what a word left
+abbrev pub ending_of : {D M P : Type 0} → Done D → ℕ → M → P → Ending D M P
+ending_of done status mic speaker = record {
+  status = status;
+  opened = done.opened;
+  store = done.store;
+  mic = mic;
+  speaker = speaker;
+  first_commit = done.first_commit;
+  last_commit = done.last_commit;
+  record_commit = done.record_commit;
+  script_commits = done.commits;
+  piece_commits = done.pieces;
+}
+
 pub ended_as : {D M P : Type 0} (rose : Bool) (done : Done D) (status : ℕ) (mic : M) (speaker : P)
-    → status ≡ (if rose then 4 else done.status) → EndsAs rose done (record {
-      status = status;
-      opened = done.opened;
-      store = done.store;
-      mic = mic;
-      speaker = speaker;
-      first_commit = done.first_commit;
-      last_commit = done.last_commit;
-      record_commit = done.record_commit;
-      script_commits = done.commits;
-      piece_commits = done.pieces;
-    })
+    → status ≡ (if rose then 4 else done.status) → EndsAs rose done (ending_of done status mic speaker)
 ended_as rose done status mic speaker is = record {
   status = is;
   opened = refl;

@@ -1,52 +1,26 @@
 -- The deeds of a desk as entries of a run.
-use Rattle.std.proofs.Common.{◌≡◌, ◌∙◌, refl, ap, ℕ, ◌+◌, ◌==◌, if◌then◌else◌, Bool, true, false, List, [], ◌∷◌, ◌++◌, length, suc}
-use Rattle.std.proofs.Common.{Result, Ok, Err}
+use Rattle.std.proofs.Common.{◌≡◌, ◌∙◌, refl, ap, ℕ, ◌+◌, ◌==◌, if◌then◌else◌, Bool, true, false, List, [], ◌∷◌, ◌++◌}
+use Rattle.std.proofs.Common.{length, suc, Result, Ok, Err}
 use Rattle.std.specs.Prelude.{IsOk}
-use Rattle.pcm_base.specs.declared.answer.Reply.{Reply}
-use Rattle.pcm_base.specs.declared.answer.Reply.TheVariants as reply
-use Rattle.pcm_base.specs.declared.entry.Entry.{Entry}
-use Rattle.pcm_base.specs.declared.refusal.Refusal.{Refusal}
-use Rattle.pcm_base.specs.Arithmetic.{counted_from}
-use Rattle.pcm_base.specs.Counters.{commits_of}
-use Rattle.pcm_base.specs.Run.{result_of}
-use Rattle.pin_turn.specs.Counts.{Each}
-use Rattle.pin_turn.specs.Rule.{ByOthers}
+use Rattle.pcm_base.specs.{declared.answer.Reply.Reply, declared.entry.Entry.Entry, declared.refusal.Refusal.Refusal}
+use Rattle.pcm_base.specs.{Arithmetic.counted_from, Counters.commits_of, Run.result_of}
+use Rattle.pin_turn.specs.{Counts.Each, Rule.ByOthers}
 use Rattle.editor_state.specs.Applied.{reply_of}
-use Rattle.script_session.specs.Session.{is_refusal}
+use Rattle.script_reader.specs.Answering.{is_refusal}
 use Rattle.studio_seats.specs.declared.deed.Deed.{Deed}
 use Rattle.studio_seats.specs.Deeds.{actor_of, commits, entries_of, entry_of, made, number_after, raised_by}
 use Rattle.studio_seats.specs.Merge.{by_seat, deeds_of, numbers_if, numbers_of}
 use Rattle.studio_seats.proofs.MergeLemmas.{deeds_others}
 use Rattle.session_run.specs.Entries.{commits_in, entries_by, last_number, number_of, numbers_by}
-
--- what holds of deeds holds of those of a kind
-pub each_of : (P : Deed → Type 0) (kind : Deed → Bool) (ds : List Deed) → Each P ds → Each P (deeds_of kind ds)
-each_of P kind [] h = tt
-each_of P kind (d ∷ ds) h = by (each_of P kind ds h.1) (kind d)
-  where
-    by : Each P (deeds_of kind ds) → (b : Bool) → Each P ((if b then d ∷ [] else []) ++ deeds_of kind ds)
-    by later true = (h.0, later)
-    by later false = later
+use Rattle.pcm_base.specs.declared.answer.Reply.TheVariants as reply
 
 -- what a deed was answered is its entry's reply: no reply stands for a refusal
 abbrev pub IsPlain : Deed → Type 0
 IsPlain d = result_of (reply_of d.what) ≡ d.what
 
 pub plain_reply : (r : Reply) → result_of r ≡ Ok r → is_refusal r ≡ false
-plain_reply reply.Done is = refl
-plain_reply reply.Copied is = refl
-plain_reply (reply.Cells cells) is = refl
-plain_reply (reply.Frames frames) is = refl
-plain_reply (reply.Columns columns) is = refl
-plain_reply (reply.Tracks tracks) is = refl
-plain_reply (reply.Freed count) is = refl
-plain_reply (reply.Packed bytes) is = refl
-plain_reply (reply.Purged n) is = refl
-plain_reply (reply.Wrote bytes) is = refl
-plain_reply (reply.Pinned pin) is = refl
-plain_reply (reply.Length frames) is = refl
-plain_reply (reply.Loaded tracks) is = refl
 plain_reply (reply.Refused why) is = cc
+plain_reply _ is = refl
 
 -- what was carried out is no refusal
 pub not_refused : (what : Result Reply Refusal) → IsOk what → result_of (reply_of what) ≡ what

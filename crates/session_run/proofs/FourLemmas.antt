@@ -1,55 +1,36 @@
 -- The status 4 comes only where a device failed, or for `try`.
-use Rattle.std.proofs.lemmas.Option.{none-some}
-use Rattle.std.proofs.lemmas.Bool.{ltb-true}
-use Rattle.std.proofs.Common.{◌≡◌, ◌⊎◌, inl, inr, ⊎_elim, refl, sym, ◌∙◌, subst, ℕ, ◌<◌, ◌≤◌, arith}
-use Rattle.std.proofs.Common.{Bool, true, false, ◌||◌, nat_lt, List, Option, Some, None, Result, Ok, Err, ℤ}
+use Rattle.std.proofs.Common.{◌≡◌, ◌⊎◌, inl, inr, ⊎_elim, refl, sym, ◌∙◌, subst, ℕ, ◌<◌, ◌≤◌, arith, Bool, true, false}
+use Rattle.std.proofs.Common.{◌||◌, nat_lt, List, Option, Some, None, Result, Ok, Err, ℤ}
+use Rattle.std.proofs.{lemmas.Option.none-some, lemmas.Bool.ltb-true}
 use Rattle.std.specs.Prelude.{if◌then◌else◌, IsSomeAnd, MatchResult}
-use Rattle.pcm_base.specs.declared.refusal.Refusal.{Refusal}
-use Rattle.pcm_base.specs.declared.sound.Frame.{Frame}
-use Rattle.pcm_base.specs.Causes.{Rose}
-use Rattle.pcm_base.specs.Studio.{fault_sum}
+use Rattle.pcm_base.specs.{declared.sound.Frame.Frame, Causes.Rose, Studio.fault_sum}
 use Rattle.disk_model.specs.declared.store.Store.{Ghosts}
-use Rattle.edit_ports.specs.declared.sink.Sink as sink
-use Rattle.edit_ports.specs.declared.source.Source as source
 use Rattle.project_journal.specs.Answer.{HasFault, NoFault}
 use Rattle.editor_state.specs.Core.{Core}
-use Rattle.editor_recovery.specs.declared.fault.OpenFault.{OpenFault}
-use Rattle.editor_recovery.specs.declared.fault.OpenFault.TheVariants as fault
-use Rattle.editor_recovery.specs.Causes.{Causes}
-use Rattle.editor_recovery.specs.Found.{Found}
-use Rattle.call_words.specs.declared.asked.NewProject.{NewProject}
-use Rattle.call_words.specs.declared.asked.Words.{Words}
-use Rattle.call_words.specs.declared.asked.Words.TheVariants as words
-use Rattle.recorder_work.specs.declared.microphone.MicEnd.{MicEnd}
-use Rattle.recorder_work.specs.declared.microphone.MicEnd.TheVariants as mic_end
-use Rattle.recorder_work.specs.Blocks.{mic_state}
-use Rattle.recorder_work.specs.Captured.{IsStoppedBy}
+use Rattle.editor_recovery.specs.{declared.fault.OpenFault.OpenFault, Causes.Causes, Found.Found}
+use Rattle.call_words.specs.{declared.asked.NewProject.NewProject, declared.asked.Words.Words, Texts.Text}
+use Rattle.call_words.specs.{Words.words_of}
+use Rattle.recorder_threads.specs.{declared.microphone.MicEnd.MicEnd, Blocks.mic_state, Captured.IsStoppedBy}
 use Rattle.studio_seats.specs.declared.deed.Deed.{Deed}
-use Rattle.script_session.specs.declared.stop.Stop.{Stop}
-use Rattle.script_session.specs.declared.stop.Stop.TheVariants as stop
-use Rattle.script_session.specs.Change.{Change, change}
-use Rattle.script_session.specs.Progress.{IsCauseOf}
+use Rattle.script_reader.specs.{declared.stop.Stop.Stop, Change.Change, Change.change, Progress.IsCauseOf}
 use Rattle.script_text.specs.Project.{checked_text, made_text}
-use Rattle.desk_session.specs.declared.told.Heard.{Heard}
-use Rattle.desk_session.specs.declared.told.Kept.{Kept}
-use Rattle.desk_session.specs.Lent.{Kinds}
-use Rattle.desk_session.specs.declared.side.Side.{Side}
-use Rattle.desk_session.specs.declared.side.Side.TheVariants as side
-use Rattle.desk_session.specs.Sides.{WhereMade}
-use Rattle.desk_session.specs.declared.opening.Beside.{Beside}
 use Rattle.desk_session.specs.Sounds.{Played, Recorded}
-use Rattle.session_run.specs.declared.counts.FaultCounts.{FaultCounts}
-use Rattle.session_run.specs.declared.ending.Done.{Done}
-use Rattle.call_words.specs.Texts.{Text}
-use Rattle.call_words.specs.Words.{words_of}
+use Rattle.desk_session.specs.{declared.outcome.PlayOutcome.PlayOutcome, declared.outcome.RecordOutcome.RecordOutcome}
+use Rattle.desk_session.specs.{Lent.Kinds, declared.side.Side.Side, Sides.WhereMade, declared.opening.Beside.Beside}
 use Rattle.session_run.specs.Call.{Does, DoesWords, HasCause, IsTry, OneRose, any_rose, counts}
 use Rattle.session_run.specs.Last.{WritesEnd, is_mic_fault, mic_failed, speaker_failed, status_of}
 use Rattle.session_run.specs.Ports.{Handed, Ports, handed, job}
-use Rattle.session_run.specs.Projects.{OpensNot}
+use Rattle.session_run.specs.Projects.{OpensNot, Checks, Lists, Makes}
 use Rattle.session_run.specs.Refused.{IsDone, IsRefused, call_fault_of, status_of_fault}
-use Rattle.session_run.specs.Projects.{Checks, Lists, Makes}
-use Rattle.session_run.specs.Runs.{Runs, RunsOn, RunsTo}
-use Rattle.session_run.specs.Streams.{Output, Prints, Streams}
+use Rattle.session_run.specs.{declared.counts.FaultCounts.FaultCounts, declared.ending.Done.Done, Runs.Runs}
+use Rattle.session_run.specs.{Runs.RunsOn, Runs.RunsTo, Streams.Output, Streams.Prints, Streams.Streams}
+use Rattle.edit_ports.specs.declared.sink.Sink as sink
+use Rattle.edit_ports.specs.declared.source.Source as source
+use Rattle.editor_recovery.specs.declared.fault.OpenFault.TheVariants as fault
+use Rattle.call_words.specs.declared.asked.Words.TheVariants as words
+use Rattle.recorder_threads.specs.declared.microphone.MicEnd.TheVariants as mic_end
+use Rattle.script_reader.specs.declared.stop.Stop.TheVariants as stop
+use Rattle.desk_session.specs.declared.side.Side.TheVariants as side
 
 -- ---- counts
 
@@ -94,12 +75,8 @@ disk_rose disk old new h =
 -- the status of a fault is 4 only for that of the disk
 refused_rose : {D : Type 0} (T : Type 0) (disk : Ghosts D) (old new : D) (f : OpenFault)
     → Causes {T = T} disk old new (Err f) → status_of_fault (call_fault_of f) ≡ 4 → HasFault disk old new
-refused_rose T disk old new fault.Absent cause is = absurd (omega (arith, is))
-refused_rose T disk old new fault.Exists cause is = absurd (omega (arith, is))
-refused_rose T disk old new (fault.Damaged file at want have) cause is = absurd (omega (arith, is))
-refused_rose T disk old new (fault.Foreign file) cause is = absurd (omega (arith, is))
 refused_rose T disk old new fault.DiskFault cause is = cause
-refused_rose T disk old new fault.NoMemory cause is = absurd (omega (arith, is))
+refused_rose _ disk old new _ cause is = absurd (omega (arith, is))
 
 -- a fault after the opening is one since before it
 after_opening : {D : Type 0} (disk : Ghosts D) (store old new : D) → NoFault disk store old → HasFault disk old new
@@ -147,7 +124,7 @@ mic_ended mic_end.End bytes mics m h is = cc
 mic_ended mic_end.Fault bytes mics m h is = h.1
 mic_ended mic_end.Limit bytes mics m h is = cc
 
-mic_rose : {M : Type 0} (mics : source.Ghosts M) (m : Change M) (made : Side) (kept : Option Kept)
+mic_rose : {M : Type 0} (mics : source.Ghosts M) (m : Change M) (made : Side) (kept : Option RecordOutcome)
     (pieces : ℕ → Change (List (List ℤ × ℕ))) (spent : Bool) (own : List Deed)
     → WhereMade made (λ tag. IsSomeAnd kept (Recorded mics m (pieces tag) spent own))
     ((kept ≡ None) × (m.now ≡ m.before))
@@ -159,7 +136,7 @@ mic_rose mics m (side.Made tag) (Some kept) pieces spent own h is =
 mic_rose mics m (side.Refused why) (Some kept) pieces spent own h is = absurd (none-some _ (sym h.0))
 
 speaker_rose : {P : Type 0} (speakers : sink.Ghosts P) (p : Change P) (made : Side)
-    (heard : Option Heard) (shows : ℕ → List Frame → Type 0) (spent : Bool) (player : ℕ) (own : List Deed)
+    (heard : Option PlayOutcome) (shows : ℕ → List Frame → Type 0) (spent : Bool) (player : ℕ) (own : List Deed)
     → WhereMade made (λ pin. IsSomeAnd heard (Played speakers p (shows pin) pin spent player own))
     ((heard ≡ None) × (p.now ≡ p.before))
     → speaker_failed heard ≡ true → Rose (speakers.fault_count p.before) (speakers.fault_count p.now)

@@ -2,15 +2,11 @@
 use Rattle.std.proofs.Common.{◌≡◌, inl, inr, ◌∙◌, refl, sym, ap, ℕ, ℤ, if◌then◌else◌, Bool, true, false, List, [], ◌∷◌}
 use Rattle.std.proofs.Common.{◌++◌}
 use Rattle.std.proofs.lemmas.Bool.{true≢false}
-use Rattle.pcm_base.specs.declared.command.Call.{Call}
-use Rattle.pcm_base.specs.declared.entry.Entry.{Entry}
+use Rattle.pcm_base.specs.{declared.command.Call.Call, declared.entry.Entry.Entry}
 use Rattle.pin_turn.specs.Counts.{Each}
-use Rattle.studio_seats.specs.declared.deed.Deed.{Deed}
-use Rattle.studio_seats.specs.Deeds.{entries_of, entry_of, is_commit}
-use Rattle.studio_seats.specs.Freeing.{IsFullReclaim, makes_piece, pieces_of}
-use Rattle.studio_seats.specs.Merge.{deeds_of}
-use Rattle.studio_seats.specs.Onward.{IsPieceOf}
-use Rattle.studio_seats.specs.Recording.{RecorderAsks, asks_piece}
+use Rattle.studio_seats.specs.{declared.deed.Deed.Deed, Deeds.entries_of, Deeds.entry_of, Deeds.is_commit}
+use Rattle.studio_seats.specs.{Freeing.IsFullReclaim, Freeing.makes_piece, Freeing.pieces_of, Merge.deeds_of}
+use Rattle.studio_seats.specs.{Onward.IsPieceOf, Recording.RecorderAsks, Recording.asks_piece}
 use Rattle.session_run.proofs.PieceEntries.{call_samples, done_samples}
 
 -- the entries that are pieces are the deeds that are

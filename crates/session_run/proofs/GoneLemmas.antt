@@ -1,19 +1,13 @@
 -- The blocks whose files a call removes were counted before, and not after.
-use Rattle.std.proofs.Common.{◌≡◌, ⊎_elim, refl, sym, subst, ℕ, ◌+◌, ◌-◌, ◌≤◌, ◌<◌, List, [], ◌∷◌, length}
-use Rattle.std.proofs.Common.{Result, IsSome, None, arith}
-use Rattle.std.specs.Prelude.{Contains}
-use Rattle.std.specs.List.Sorted.{IsStrictlyIncreasing}
-use Rattle.pcm_base.specs.declared.answer.Reply.{Reply}
-use Rattle.pcm_base.specs.declared.command.Call.{Call}
+use Rattle.std.proofs.Common.{◌≡◌, ⊎_elim, refl, sym, subst, ℕ, ◌+◌, ◌-◌, ◌≤◌, ◌<◌, List, [], ◌∷◌, length, Result}
+use Rattle.std.proofs.Common.{IsSome, None, arith}
+use Rattle.std.specs.{Prelude.Contains, List.Sorted.IsStrictlyIncreasing}
+use Rattle.pcm_base.specs.{declared.answer.Reply.Reply, declared.command.Call.Call, declared.refusal.Refusal.Refusal}
+use Rattle.disk_model.specs.declared.store.Store.{Ghosts}
+use Rattle.editor_state.specs.{Core.Core, Left.CountsIds, Removals.Frees, Studios.IsHeld, Studios.IsStudio}
+use Rattle.session_run.proofs.MissingLemmas.{AreFrom, missing, missing_gone, missing_more}
 use Rattle.pcm_base.specs.declared.command.Call.TheVariants as call
 use Rattle.pcm_base.specs.declared.command.Command.TheVariants as command
-use Rattle.pcm_base.specs.declared.refusal.Refusal.{Refusal}
-use Rattle.disk_model.specs.declared.store.Store.{Ghosts}
-use Rattle.editor_state.specs.Core.{Core}
-use Rattle.editor_state.specs.Left.{CountsIds}
-use Rattle.editor_state.specs.Removals.{Frees}
-use Rattle.editor_state.specs.Studios.{IsHeld, IsStudio}
-use Rattle.session_run.proofs.MissingLemmas.{AreFrom, missing, missing_gone, missing_more}
 
 module _ {D : Type 0} (disk : Ghosts D) (old new : Core D) (told : Result Reply Refusal) (removed : List ℕ)
     (is : IsStudio disk old) (held : IsHeld disk old) (going : old.stopped ≡ None) where

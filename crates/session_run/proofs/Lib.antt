@@ -28,3 +28,4 @@ pub mod TryLemmas
 pub mod StatusLemmas
 pub mod Promised
 pub mod CallPromise
+pub mod BackLemmas

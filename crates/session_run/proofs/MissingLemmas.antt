@@ -1,9 +1,8 @@
 -- How many ids are not counted: each id that goes is one more.
-use Rattle.std.proofs.Common.{◌≡◌, ⊎_elim, refl, sym, ap, subst, ℕ, zero, suc, ◌+◌, ◌<◌, ◌≤◌}
-use Rattle.std.proofs.Common.{List, [], ◌∷◌, length, Option, Some, None, IsSome, arith}
-use Rattle.std.specs.Prelude.{Contains, slice_index}
-use Rattle.std.specs.List.Sorted.{IsStrictlyIncreasing}
+use Rattle.std.proofs.Common.{◌≡◌, ⊎_elim, refl, sym, ap, subst, ℕ, zero, suc, ◌+◌, ◌<◌, ◌≤◌, List, [], ◌∷◌, length}
+use Rattle.std.proofs.Common.{Option, Some, None, IsSome, arith}
 use Rattle.std.proofs.lemmas.Bool.{cases_eq, true≢false}
+use Rattle.std.specs.{Prelude.Contains, Prelude.slice_index, List.Sorted.IsStrictlyIncreasing}
 
 -- a count of each id that has one
 abbrev pub Counted : Type 0
@@ -87,8 +86,7 @@ module _ (old new : Counted) (top : ℕ) (stays : (id : ℕ) → id < top → Is
   missing_gone low (suc n) (x ∷ xs) within rises from below were gone = ⊎_elim
       (λ same.
       let was = lack_some (old low) (subst (λ (i : ℕ). IsSome (old i)) same (were x (first_there x xs))) in
-      let is = lack_none (new low)
-      (subst (λ (i : ℕ). IsSome (new i) → ⊥) same (gone x (first_there x xs))) in
+      let is = lack_none (new low) (subst (λ (i : ℕ). IsSome (new i) → ⊥) same (gone x (first_there x xs))) in
       let rest = missing_gone (suc low) n xs (omega (arith, within)) (tail_rises x xs rises)
       (subst (λ (i : ℕ). AreFrom (suc i) xs) same (rest_from x xs rises))
       (λ id there. omega (arith, below id (rest_there x id xs there)))

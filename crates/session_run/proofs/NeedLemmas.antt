@@ -1,26 +1,21 @@
 -- What one call needs of the blocks and of the journal, by what it answers.
-use Rattle.std.proofs.Common.{◌≡◌, inl, inr, refl, sym, ap, subst, ℕ, ◌+◌, ◌≤◌, Bool, true, false}
-use Rattle.std.proofs.Common.{if◌then◌else◌, Result, Ok, Err, arith}
-use Rattle.std.specs.Prelude.{IfErr}
+use Rattle.std.proofs.Common.{◌≡◌, inl, inr, refl, sym, ap, subst, ℕ, ◌+◌, ◌≤◌, Bool, true, false, if◌then◌else◌}
+use Rattle.std.proofs.Common.{Result, Ok, Err, arith}
 use Rattle.std.proofs.lemmas.Bool.{true≢false}
-use Rattle.pcm_base.specs.declared.answer.Reply.{Reply}
-use Rattle.pcm_base.specs.declared.command.Call.{Call}
-use Rattle.pcm_base.specs.declared.command.Call.TheVariants as call
-use Rattle.pcm_base.specs.declared.entry.SoundMove.{SoundMove}
-use Rattle.pcm_base.specs.declared.refusal.Refusal.{Refusal}
-use Rattle.pcm_base.specs.declared.refusal.Refusal.TheVariants as refusal
+use Rattle.std.specs.Prelude.{IfErr}
 use Rattle.pcm_base.specs.Counters.{Needs, NeedsBy}
-use Rattle.pcm_base.specs.Outside.{Outside}
 use Rattle.pcm_base.specs.Run.{Answers, Breaks, BreaksOff, CarriesOut, Refuses, outside}
 use Rattle.pcm_base.specs.Shape.{Shape, NewTrack, DropTrack, SetTrack, PutIn, EditRange, CutRun, CopyRun, PasteRun}
 use Rattle.pcm_base.specs.Shape.{MoveTo, Purge, PurgeTo, Look, Reclaim, Compact, Import, Export, Bounce, shape_of}
-use Rattle.pcm_base.specs.Studio.{Studio}
+use Rattle.pcm_base.specs.{declared.answer.Reply.Reply, declared.command.Call.Call, declared.entry.SoundMove.SoundMove}
+use Rattle.pcm_base.specs.{declared.refusal.Refusal.Refusal, Outside.Outside, Studio.Studio}
 use Rattle.editor_state.specs.Exchanges.{begun_in_vain, is_broken_off, is_cut_off, may_begin, may_have_begun}
 use Rattle.editor_state.specs.Exchanges.{reads_sound}
 use Rattle.model_laws.proofs.Answered.{carried_is}
-use Rattle.studio_seats.specs.Faults.{IsServed}
-use Rattle.studio_seats.specs.Leads.{IsUnharmed}
+use Rattle.studio_seats.specs.{Faults.IsServed, Leads.IsUnharmed}
 use Rattle.session_run.specs.Outgrown.{has_begun}
+use Rattle.pcm_base.specs.declared.command.Call.TheVariants as call
+use Rattle.pcm_base.specs.declared.refusal.Refusal.TheVariants as refusal
 
 -- ---- the bounds on blocks and on the record are apart
 
@@ -49,11 +44,7 @@ pub mixed : (out : Outside) (t : Studio) (c : Call) (blocks len few short : ℕ)
 mixed out t (call.Line c) blocks len few short a b =
     line_mixed out t (call.Line c) (shape_of c) blocks len few short a b
 mixed out t (call.Piece track tag samples) blocks len few short a b = (a.0, b.1, b.2)
-mixed out t call.Pin blocks len few short a b = (a.0, b.1)
-mixed out t (call.PinLen pin) blocks len few short a b = (a.0, b.1)
-mixed out t (call.ReadPin pin from count) blocks len few short a b = (a.0, b.1)
-mixed out t (call.LoadPin pin from count) blocks len few short a b = (a.0, b.1)
-mixed out t (call.Unpin pin) blocks len few short a b = (a.0, b.1)
+mixed out t _ blocks len few short a b = (a.0, b.1)
 
 -- ---- a call that may have asked the disk
 

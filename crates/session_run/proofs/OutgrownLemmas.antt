@@ -1,47 +1,33 @@
 -- Where the disk in memory of a script counts a fault, the first entries of the run need more than its room.
-use Rattle.std.proofs.Common.{◌≡◌, ◌⊎◌, inl, inr, ⊎_elim, refl, sym, ap, ◌∙◌, subst, ℕ, ◌+◌, ◌-◌, ◌*◌, ◌≤◌}
-use Rattle.std.proofs.Common.{Bool, true, false, IsSome, Option, List, [], ◌∷◌, ◌++◌, length}
-use Rattle.std.proofs.Common.{Result, Ok, Err, arith}
-use Rattle.std.specs.Prelude.{IfErr}
+use Rattle.std.proofs.Common.{◌≡◌, ◌⊎◌, inl, inr, ⊎_elim, refl, sym, ap, ◌∙◌, subst, ℕ, ◌+◌, ◌-◌, ◌*◌, ◌≤◌, Bool, true}
+use Rattle.std.proofs.Common.{false, IsSome, Option, List, [], ◌∷◌, ◌++◌, length, Result, Ok, Err, arith}
 use Rattle.std.proofs.lemmas.Bool.{true≢false}
-use Rattle.pcm_base.specs.declared.answer.Reply.{Reply}
-use Rattle.pcm_base.specs.declared.command.Call.{Call}
-use Rattle.pcm_base.specs.declared.command.Call.TheVariants as call
-use Rattle.pcm_base.specs.declared.command.Command.TheVariants as command
-use Rattle.pcm_base.specs.declared.entry.Entry.{Entry}
-use Rattle.pcm_base.specs.declared.refusal.Refusal.{Refusal}
-use Rattle.pcm_base.specs.Causes.{Rose}
-use Rattle.pcm_base.specs.Counters.{places_of}
-use Rattle.pcm_base.specs.Run.{Answers, outside, result_of}
-use Rattle.pcm_base.specs.Studio as model
-use Rattle.disk_model.specs.Frames.{Kept, asked}
+use Rattle.std.specs.Prelude.{IfErr}
+use Rattle.pcm_base.specs.Run.{Answers, outside, result_of, name_in}
+use Rattle.pcm_base.specs.{declared.answer.Reply.Reply, declared.command.Call.Call, declared.entry.Entry.Entry}
+use Rattle.pcm_base.specs.{declared.refusal.Refusal.Refusal, Counters.places_of}
 use Rattle.disk_model.specs.Room.{IsSpent, Room, StaysRoom, files_made}
-use Rattle.disk_model.specs.declared.store.Store.{Ghosts}
-use Rattle.edit_ports.specs.declared.vault.Vault as vault
-use Rattle.pcm_base.specs.Run.{name_in}
-use Rattle.editor_state.specs.Applied.{reply_of}
-use Rattle.editor_state.specs.Core.{Core}
-use Rattle.editor_state.specs.Exchanges.{begun_in_vain, exchange_of, may_have_begun}
-use Rattle.editor_state.specs.Left.{Left}
-use Rattle.editor_state.specs.Packing.{packed_by, packed_size, packs}
-use Rattle.editor_state.specs.Studios.{IsStudio, studio_of}
-use Rattle.editor_state.specs.Took.{Took, asks}
+use Rattle.disk_model.specs.{Frames.Kept, Frames.asked, declared.store.Store.Ghosts}
+use Rattle.editor_state.specs.{Applied.reply_of, Core.Core, Exchanges.begun_in_vain, Exchanges.exchange_of}
+use Rattle.editor_state.specs.{Exchanges.may_have_begun, Left.Left, Packing.packed_by, Packing.packed_size}
+use Rattle.editor_state.specs.{Packing.packs, Studios.IsStudio, Studios.studio_of, Took.Took, Took.asks}
 use Rattle.editor_state.proofs.Calls.RunEntries.{step_of}
 use Rattle.editor_cleanup.proofs.HeaderSizes.{packed_few}
-use Rattle.studio_seats.specs.declared.deed.Deed.{Deed}
-use Rattle.studio_seats.specs.Deeds.{entries_of, entry_of}
-use Rattle.studio_seats.specs.Faults.{AllServed}
 use Rattle.studio_seats.specs.Stands.{AllTell, AreTold, Chain, Does}
+use Rattle.studio_seats.specs.{declared.deed.Deed.Deed, Deeds.entries_of, Deeds.entry_of, Faults.AllServed}
 use Rattle.studio_seats.proofs.FaultLemmas.{desks_serve}
 use Rattle.model_laws.proofs.Answered.{carried_is}
 use Rattle.session_run.specs.Outgrown.{IsTooMuch, NeedsAll, NeedsOne, Sum, has_begun, nothing_needed, packed_within}
 use Rattle.session_run.specs.Outgrown.{plus}
 use Rattle.session_run.specs.Tries.{faults_of, tried_project}
-use Rattle.session_run.proofs.GoneLemmas.{more_missing}
-use Rattle.session_run.proofs.MissingLemmas.{missing}
 use Rattle.session_run.proofs.NeedLemmas.{Began, began, idle, mixed, not_begun, vain_most, vain_none}
-use Rattle.session_run.proofs.PromiseLemmas.{plain_of}
 use Rattle.session_run.proofs.RoomLemmas.{HasAskedFor, IsFine, gone_few, much_more, room_on, too_much}
+use Rattle.session_run.proofs.{GoneLemmas.more_missing, MissingLemmas.missing, PromiseLemmas.plain_of}
+use Rattle.memory_project.proofs.LineLemmas.{rose_not}
+use Rattle.pcm_base.specs.declared.command.Call.TheVariants as call
+use Rattle.pcm_base.specs.declared.command.Command.TheVariants as command
+use Rattle.pcm_base.specs.Studio as model
+use Rattle.edit_ports.specs.declared.vault.Vault as vault
 
 -- The first of these entries need so much that it is too much after the rest.
 pub record Grows (t : model.Studio) (es : List Entry) (before : Sum) : Type 0 where
@@ -51,10 +37,6 @@ pub record Grows (t : model.Studio) (es : List Entry) (before : Sum) : Type 0 wh
   pub more : Sum
   pub needs : NeedsAll t front more
   pub over : IsTooMuch tried_project (plus before more)
-
--- a count that is 0 has not risen
-rose_not : (old new : ℕ) → old ≡ 0 → new ≡ 0 → Rose old new → ⊥
-rose_not old new a b rose = absurd (omega (arith, a, b, rose))
 
 -- how many bytes a journal has that a call puts into one header
 abbrev packed_bytes : {D : Type 0} → Core D → Call → ℕ
@@ -265,8 +247,7 @@ module _ {D V : Type 0} (disk : Ghosts D) (vaults : vault.Ghosts V) (from : Room
         over = much_more (plus sum (one_of b)) (plus sum (plus (one_of b) nothing_needed)) (omega arith) (omega arith)
             (omega arith)
             (too_much from fine.room (asked disk new.store) (plus sum (one_of b)) gone (begun_in_vain d.what) fine.large
-            (asked_begun b)
-            (gone_few disk new (plus sum (one_of b)) gone (lost b.least) (omega (arith, before, most)))
+            (asked_begun b) (gone_few disk new (plus sum (one_of b)) gone (lost b.least) (omega (arith, before, most)))
             (vain_most d.what)
             (subst (λ (r : Option Room). IsSpent r (asked disk new.store)) fine.is spent));
       }

@@ -2,26 +2,20 @@
 use Rattle.std.proofs.Common.{◌≡◌, inl, inr, ◌∙◌, refl, sym, ap, subst, ℕ, ◌+◌, nat_lt, ◌==◌, ◌&&◌, ◌≤◌, ℤ}
 use Rattle.std.proofs.Common.{if◌then◌else◌, Bool, true, false, List, [], ◌∷◌, ◌++◌, length, take, Result, Ok, Err}
 use Rattle.std.proofs.Common.{append_assoc, arith, eq-eqb}
-use Rattle.std.specs.Prelude.{IsOk}
-use Rattle.std.proofs.lemmas.Bool.{lt-ltb}
-use Rattle.std.proofs.lemmas.List.{append-nil}
-use Rattle.std.specs.List.{zip}
-use Rattle.pcm_base.specs.declared.answer.Reply.{Reply}
-use Rattle.pcm_base.specs.declared.command.Call.{Call}
-use Rattle.pcm_base.specs.declared.command.Call.TheVariants as call
-use Rattle.pcm_base.specs.declared.refusal.Refusal.{Refusal}
+use Rattle.std.proofs.{lemmas.Bool.lt-ltb, lemmas.List.append-nil}
+use Rattle.std.specs.{Prelude.IsOk, List.zip}
 use Rattle.pcm_base.specs.Recordings.{pieces_in, pieces_of}
+use Rattle.pcm_base.specs.{declared.answer.Reply.Reply, declared.command.Call.Call, declared.refusal.Refusal.Refusal}
 use Rattle.edit_ports.specs.Answers.{numbered_pieces}
 use Rattle.pin_turn.specs.Counts.{Each}
-use Rattle.studio_seats.specs.declared.deed.Deed.{Deed}
 use Rattle.studio_seats.specs.Deeds.{commits, entries_of, is_commit, raised_by}
-use Rattle.studio_seats.specs.Merge.{by_seat, deeds_of}
 use Rattle.studio_seats.specs.Onward.{AreDone, Asks, IsPieceOf}
 use Rattle.studio_seats.specs.Pieces.{piece_by, piece_in, pieces_by}
-use Rattle.studio_seats.specs.Recording.{RecorderAsks}
+use Rattle.studio_seats.specs.{declared.deed.Deed.Deed, Merge.by_seat, Merge.deeds_of, Recording.RecorderAsks}
 use Rattle.studio_seats.proofs.FreeingLemmas.{same_seat}
 use Rattle.session_run.specs.Sides.{ArePieces}
 use Rattle.session_run.proofs.EntryLemmas.{IsPlain, not_refused}
+use Rattle.pcm_base.specs.declared.command.Call.TheVariants as call
 
 -- the samples of pieces, without their numbers
 abbrev pub samples_in : List (List ℤ × ℕ) → List (List ℤ)
@@ -44,13 +38,8 @@ numbered_samples n (c ∷ cs) = ap (λ (l : List (List ℤ)). c ∷ l) (numbered
 
 -- the samples of the pieces that a call brings
 abbrev pub call_samples : Call → List (List ℤ)
-call_samples (call.Line c) = []
 call_samples (call.Piece track tag samples) = pieces_of samples
-call_samples call.Pin = []
-call_samples (call.PinLen pin) = []
-call_samples (call.ReadPin pin from count) = []
-call_samples (call.LoadPin pin from count) = []
-call_samples (call.Unpin pin) = []
+call_samples _ = []
 
 -- those of the deeds that were carried out
 abbrev pub done_samples : List Deed → List (List ℤ)

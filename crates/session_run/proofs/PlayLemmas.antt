@@ -3,31 +3,23 @@ use Rattle.std.proofs.Common.{◌≡◌, ◌⊎◌, inl, inr, ◌∙◌, refl, s
 use Rattle.std.proofs.Common.{◌∷◌, ◌++◌, length, take, drop, Option, Some, None, Result, arith}
 use Rattle.std.proofs.lemmas.List.{length-append, take-append-drop, take-append-le}
 use Rattle.std.proofs.lemmas.List.Concat.{flat_map-append}
-use Rattle.pcm_base.specs.declared.answer.Reply.{Reply}
-use Rattle.pcm_base.specs.declared.answer.Reply.TheVariants as reply
-use Rattle.pcm_base.specs.declared.command.Call.TheVariants.{Unpin}
-use Rattle.pcm_base.specs.declared.entry.Entry.{Entry}
-use Rattle.pcm_base.specs.declared.refusal.Refusal.{Refusal}
-use Rattle.pcm_base.specs.declared.sound.Frame.{Frame}
-use Rattle.pcm_base.specs.Causes.{Rose}
-use Rattle.pcm_base.specs.Recordings.{bytes_of_frame, frame_bytes}
-use Rattle.edit_ports.specs.declared.sink.Sink as sink
+use Rattle.pcm_base.specs.{declared.answer.Reply.Reply, declared.command.Call.TheVariants.Unpin}
+use Rattle.pcm_base.specs.{declared.entry.Entry.Entry, declared.refusal.Refusal.Refusal, declared.sound.Frame.Frame}
+use Rattle.pcm_base.specs.{Causes.Rose, Recordings.bytes_of_frame, Recordings.frame_bytes}
 use Rattle.edit_ports.specs.Told.{grown}
 use Rattle.editor_state.specs.Applied.{reply_of}
-use Rattle.player_work.specs.Filled.{reads_to}
-use Rattle.player_work.proofs.FrameLaws.{length-bytes}
-use Rattle.script_session.specs.Change.{Change}
-use Rattle.script_text.specs.declared.last.PlayEnd.TheVariants as play
-use Rattle.studio_seats.specs.declared.deed.Deed.{Deed}
-use Rattle.studio_seats.specs.Deeds.{entries_of, entry_of}
+use Rattle.player_threads.specs.Filled.{reads_to}
+use Rattle.pcm_base.proofs.ListFacts.{length_frames}
+use Rattle.script_reader.specs.Change.{Change}
 use Rattle.studio_seats.specs.Reads.{AreFullReads, EndReads, IsShortRead}
+use Rattle.studio_seats.specs.{declared.deed.Deed.Deed, Deeds.entries_of, Deeds.entry_of}
 use Rattle.studio_seats.proofs.Grown.{entries_append}
-use Rattle.desk_session.specs.declared.told.Heard.{Heard}
-use Rattle.desk_session.specs.Opening.{OwnDeed}
-use Rattle.desk_session.specs.Sounds.{Played}
-use Rattle.session_run.specs.Last.{play_end}
+use Rattle.desk_session.specs.{declared.outcome.PlayOutcome.PlayOutcome, Opening.OwnDeed, Sounds.Played}
 use Rattle.session_run.specs.Sides.{AreReads, IsRead, IsRelease, Plays, ReadsEnd}
-use Rattle.session_run.specs.Streams.{output}
+use Rattle.session_run.specs.{Last.play_end, Streams.output}
+use Rattle.pcm_base.specs.declared.answer.Reply.TheVariants as reply
+use Rattle.edit_ports.specs.declared.sink.Sink as sink
+use Rattle.script_text.specs.declared.last.PlayEnd.TheVariants as play
 
 -- reads that gave all that they asked for
 are_reads : (pin from to : ℕ) (ds : List Deed) → AreFullReads pin from to ds → AreReads pin from to (entries_of ds)
@@ -120,7 +112,7 @@ all_written true A B all rose = inr (rose refl)
 
 -- the line of a playback, and the entries of its actor
 pub plays : {P : Type 0} (speakers : sink.Ghosts P) (speaker : Change P) (shows : List Frame → Type 0)
-    (pin seat : ℕ) (NoTurn : Type 0) (used : Bool) (none : used ≡ true → NoTurn) (own : List Deed) (heard : Heard)
+    (pin seat : ℕ) (NoTurn : Type 0) (used : Bool) (none : used ≡ true → NoTurn) (own : List Deed) (heard : PlayOutcome)
     (mix : List Frame)
     → Played speakers speaker shows pin used seat own heard → shows mix
     → Plays NoTurn pin mix (output speakers speaker)
@@ -146,7 +138,7 @@ plays speakers speaker shows pin seat NoTurn used none own heard mix h shown =
           all_written heard.fault
           ((w.bytes ≡ 4 * p.place) × (speakers.fault_count speaker.now ≡ speakers.fault_count speaker.before))
           (Rose (speakers.fault_count speaker.before) (speakers.fault_count speaker.now))
-          (λ no. (omega (arith, (w.all no).0, length-bytes h.is.frames, read), (w.all no).1))
+          (λ no. (omega (arith, (w.all no).0, length_frames h.is.frames, read), (w.all no).1))
           (λ yes. w.cause yes);
       reads = entries_of p.full;
       place = p.place;

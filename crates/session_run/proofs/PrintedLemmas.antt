@@ -1,21 +1,17 @@
 -- What is printed: the answers, and then the last lines.
 use Rattle.std.proofs.Common.{◌≡◌, ◌∙◌, refl, sym, ap, subst, ℕ, ◌+◌, List, [], ◌∷◌, ◌++◌, length, take, Option}
 use Rattle.std.proofs.Common.{append_assoc, arith}
-use Rattle.std.specs.Prelude.{flat_map}
-use Rattle.std.proofs.Math.Seq.{take-append-add}
 use Rattle.std.proofs.lemmas.List.{append-nil, length-append, take-append-le}
-use Rattle.std.proofs.lemmas.List.Concat.{flat_map-append}
-use Rattle.pcm_base.specs.declared.answer.Answer.{Answer}
-use Rattle.pcm_base.specs.Causes.{Rose}
+use Rattle.std.proofs.{Math.Seq.take-append-add, lemmas.List.Concat.flat_map-append}
+use Rattle.std.specs.Prelude.{flat_map}
+use Rattle.pcm_base.specs.{declared.answer.Answer.Answer, Causes.Rose}
 use Rattle.edit_ports.specs.Told.{grown}
 use Rattle.edit_ports.proofs.ToldLaws.{grown-grown}
 use Rattle.script_text.specs.Text.{text_of}
-use Rattle.script_session.specs.declared.stop.Stop.{Stop}
-use Rattle.script_session.specs.declared.stop.Stop.TheVariants as stop
-use Rattle.script_session.specs.Change.{Change, change}
-use Rattle.script_session.specs.Progress.{BreaksOff, IsCauseOf, WritesAnswers, outcome_of}
-use Rattle.session_run.specs.Last.{WritesEnd}
-use Rattle.session_run.specs.Streams.{PrintsFrom, PrintsThen}
+use Rattle.script_reader.specs.Progress.{BreaksOff, IsCauseOf, WritesAnswers, outcome_of}
+use Rattle.script_reader.specs.{declared.stop.Stop.Stop, Change.Change, Change.change}
+use Rattle.session_run.specs.{Last.WritesEnd, Streams.PrintsFrom, Streams.PrintsThen}
+use Rattle.script_reader.specs.declared.stop.Stop.TheVariants as stop
 
 module _ (before mid now : Option (List ℕ)) (first then_ last : ℕ) (answers : List Answer) (end : List ℕ) where
   abbrev said : List ℕ
@@ -67,8 +63,7 @@ pub printed : (s : Stop) (source : Change ℕ) (before mid now : Option (List �
     (answers : List Answer) (end : List ℕ) → WritesAnswers (outcome_of s) before mid answers
     → IsCauseOf s source (change first then_)
     → WritesEnd s (record { written = change mid now; faults = change then_ last }) end
-    → PrintsFrom (record { written = change before now; faults = change first last })
-    (flat_map text_of answers ++ end)
+    → PrintsFrom (record { written = change before now; faults = change first last }) (flat_map text_of answers ++ end)
 printed stop.End source before mid now first then_ last answers end wrote cause ended =
     both before mid now first then_ last answers end wrote cause.1 ended
 printed stop.Limit source before mid now first then_ last answers end wrote cause ended =

@@ -1,13 +1,10 @@
 -- Calls that are refused, and what is told of tracks.
 use Rattle.std.proofs.Common.{◌≡◌, List, [], subst, ap}
-use Rattle.pcm_base.specs.declared.answer.Reply.{Reply}
-use Rattle.pcm_base.specs.declared.answer.Reply.TheVariants as reply
-use Rattle.pcm_base.specs.declared.sound.TrackLine.{TrackLine}
-use Rattle.script_text.specs.declared.call_fault.CallFault.{CallFault}
-use Rattle.script_text.specs.CallFault.{refused_text}
-use Rattle.session_run.specs.declared.ending.Done.{Done}
+use Rattle.pcm_base.specs.{declared.answer.Reply.Reply, declared.sound.TrackLine.TrackLine}
+use Rattle.script_text.specs.{declared.call_fault.CallFault.CallFault, CallFault.refused_text}
 use Rattle.session_run.specs.Refused.{IsDone, IsRefused, status_of_fault}
-use Rattle.session_run.specs.Streams.{Prints, Streams}
+use Rattle.session_run.specs.{declared.ending.Done.Done, Streams.Prints, Streams.Streams}
+use Rattle.pcm_base.specs.declared.answer.Reply.TheVariants as reply
 
 pub refused_as : {D : Type 0} (fault told : CallFault) (s : Streams) (done : Done D) → told ≡ fault
     → Prints s (refused_text told) → IsDone (status_of_fault told) done → IsRefused fault s done

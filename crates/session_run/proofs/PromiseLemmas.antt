@@ -1,34 +1,24 @@
 -- The promise, from what a run did.
-use Rattle.std.proofs.Common.{◌≡◌, refl, sym, subst, ℕ, ◌==◌, List, []}
-use Rattle.pcm_base.specs.Causes.{Rose}
-use Rattle.std.proofs.Common.{◌∷◌, Result, Ok, Err, true}
-use Rattle.std.specs.Prelude.{◌||◌, IfErr}
-use Rattle.pcm_base.specs.declared.answer.Reply.{Reply}
-use Rattle.pcm_base.specs.declared.command.Call.{Call}
-use Rattle.pcm_base.specs.declared.entry.SoundMove.{SoundMove}
-use Rattle.pcm_base.specs.declared.refusal.Refusal.{Refusal}
+use Rattle.std.proofs.Common.{◌≡◌, refl, sym, subst, ℕ, ◌==◌, List, [], ◌∷◌, Result, Ok, Err, true}
 use Rattle.pcm_base.specs.Run.{Answers, outside, result_of}
-use Rattle.pcm_base.specs.Studio as model
+use Rattle.pcm_base.specs.{Causes.Rose, declared.answer.Reply.Reply, declared.command.Call.Call}
+use Rattle.pcm_base.specs.{declared.entry.SoundMove.SoundMove, declared.refusal.Refusal.Refusal}
+use Rattle.std.specs.Prelude.{◌||◌, IfErr}
 use Rattle.disk_model.specs.declared.store.Store.{Ghosts}
-use Rattle.edit_ports.specs.declared.vault.Vault as vault
 use Rattle.pin_turn.specs.Counts.{Each}
-use Rattle.editor_state.specs.Applied.{reply_of}
-use Rattle.editor_state.specs.Core.{Core}
-use Rattle.editor_state.specs.Studios.{IsHeld, studio_of}
+use Rattle.editor_state.specs.{Applied.reply_of, Core.Core, Studios.IsHeld, Studios.studio_of}
 use Rattle.editor_state.proofs.Calls.RunEntries.{plain, plain_result}
-use Rattle.studio_seats.specs.declared.deed.Deed.{Deed}
-use Rattle.studio_seats.specs.Deeds.{entries_of, entry_of}
-use Rattle.studio_seats.specs.Faults.{AreServed, IsServed}
-use Rattle.studio_seats.specs.Merge.{by_seat, deeds_of}
-use Rattle.studio_seats.specs.Stands.{AllTell, Chain}
+use Rattle.studio_seats.specs.{declared.deed.Deed.Deed, Deeds.entries_of, Deeds.entry_of, Faults.AreServed}
+use Rattle.studio_seats.specs.{Faults.IsServed, Merge.by_seat, Merge.deeds_of, Stands.AllTell, Stands.Chain}
 use Rattle.desk_session.specs.Makers.{Seats, is_by}
-use Rattle.script_session.specs.declared.stop.Stop.{Stop}
-use Rattle.script_session.specs.declared.stop.Stop.TheVariants as stop
-use Rattle.script_session.specs.Change.{Change, change}
-use Rattle.script_session.specs.Progress.{IsCauseOf}
-use Rattle.session_run.specs.Entries as entries
+use Rattle.script_reader.specs.{declared.stop.Stop.Stop, Change.Change, Change.change, Progress.IsCauseOf}
 use Rattle.session_run.specs.Promise.{IsStoppedFor}
-use Rattle.session_run.proofs.EntryLemmas.{IsPlain, each_of}
+use Rattle.session_run.proofs.EntryLemmas.{IsPlain}
+use Rattle.script_reader.proofs.BounceLemmas.{each_own as each_of}
+use Rattle.pcm_base.specs.Studio as model
+use Rattle.edit_ports.specs.declared.vault.Vault as vault
+use Rattle.script_reader.specs.declared.stop.Stop.TheVariants as stop
+use Rattle.session_run.specs.Entries as entries
 
 -- what stopped a script, by the output's count at the end
 pub stopped_for : (s : Stop) (source : Change ℕ) (first then_ last : ℕ) → IsCauseOf s source (change first then_)

@@ -1,57 +1,35 @@
 -- A run on an honest disk keeps the promise.
-use Rattle.std.proofs.Common.{◌≡◌, ◌≢◌, inl, inr, ⊎_elim, ◌∙◌, refl, sym, ap, subst, ℕ, List, ◌++◌, length}
-use Rattle.std.proofs.Common.{Some, true}
+use Rattle.std.proofs.Common.{◌≡◌, ◌≢◌, inl, inr, ⊎_elim, ◌∙◌, refl, sym, ap, subst, ℕ, List, ◌++◌, length, Some, true}
 use Rattle.std.specs.Prelude.{IfErr}
-use Rattle.pcm_base.specs.declared.limits.TheConstants.{COUNTER_LIMIT}
-use Rattle.pcm_base.specs.declared.entry.Entry.{Entry}
-use Rattle.pcm_base.specs.Outside.{Sounds}
 use Rattle.pcm_base.specs.Run.{Run, result_of}
-use Rattle.disk_model.specs.Disk.{Files}
-use Rattle.disk_model.specs.declared.store.Store.{Ghosts}
+use Rattle.pcm_base.specs.{declared.limits.TheConstants.COUNTER_LIMIT, declared.entry.Entry.Entry, Outside.Sounds}
+use Rattle.disk_model.specs.{Disk.Files, declared.store.Store.Ghosts}
 use Rattle.pin_turn.specs.Counts.{Each}
 use Rattle.pin_turn.proofs.Sums.{Each-left, Each-right}
-use Rattle.editor_state.specs.Core.{Core}
-use Rattle.editor_state.specs.Events.{KeepsPrefix}
-use Rattle.editor_state.specs.Left.{LeavesForeign}
-use Rattle.editor_state.specs.Studios.{IsHeld, studio_of}
+use Rattle.editor_state.specs.{Core.Core, Events.KeepsPrefix, Left.LeavesForeign, Studios.IsHeld, Studios.studio_of}
 use Rattle.editor_recovery.specs.Honest.{IsHonest}
-use Rattle.script_session.specs.Change.{change}
-use Rattle.studio_seats.specs.declared.deed.Deed.{Deed}
-use Rattle.studio_seats.specs.Deeds.{entries_of, number_after}
+use Rattle.script_reader.specs.Change.{change}
 use Rattle.studio_seats.specs.Leads.{DeedsAsk, HadTurn, IsUnharmed, Leads, StopsInFlight}
 use Rattle.studio_seats.specs.Merge.{any_seat, by_seat, deeds_of, numbers_of}
-use Rattle.studio_seats.specs.Pins.{pin_frames}
-use Rattle.studio_seats.specs.Shows.{IsMixOf}
-use Rattle.studio_seats.specs.Stands.{AllTell, AreTold, origin}
-use Rattle.studio_seats.proofs.Grown.{all_told, entries_append, leads}
-use Rattle.studio_seats.proofs.OnwardLemmas.{each_append}
-use Rattle.desk_session.specs.Lent.{Kinds}
+use Rattle.studio_seats.specs.{declared.deed.Deed.Deed, Deeds.entries_of, Deeds.number_after, Pins.pin_frames}
+use Rattle.studio_seats.specs.{Shows.IsMixOf, Stands.AllTell, Stands.AreTold, Stands.origin}
+use Rattle.studio_seats.proofs.{Grown.all_told, Grown.entries_append, Grown.leads, OnwardLemmas.each_append}
 use Rattle.desk_session.specs.Sessions.{IsSession, place_behind}
-use Rattle.desk_session.specs.Sides.{side_number}
-use Rattle.desk_session.specs.Sounds.{piece_numbers}
+use Rattle.desk_session.specs.{Lent.Kinds, Sides.side_number, Sounds.piece_numbers}
 use Rattle.script_text.specs.Last.{last_text}
-use Rattle.session_run.specs.Answered.{Answered}
-use Rattle.session_run.specs.Entries.{last_number, numbers_by, pieces_apart}
-use Rattle.session_run.specs.Last.{play_line, record_line}
-use Rattle.session_run.specs.Opening.{OpensTo}
-use Rattle.session_run.specs.Ports.{Job, lent_of}
-use Rattle.session_run.specs.Promise.{Ended, Met, Promise}
-use Rattle.session_run.specs.Runs.{RunsOn}
-use Rattle.session_run.specs.Sides.{PlaysSide, RecordsSide}
-use Rattle.session_run.specs.VaultSounds.{SoundsFollow}
-use Rattle.session_run.specs.Streams.{input, output}
-use Rattle.session_run.proofs.AnsweredLemmas.{answered}
-use Rattle.session_run.proofs.ApartLemmas.{all_tagged, deeds_apart}
-use Rattle.session_run.proofs.FourLemmas.{out_stays}
-use Rattle.session_run.proofs.StatusLemmas.{Counted}
+use Rattle.session_run.specs.{Answered.Answered, Entries.last_number, Entries.numbers_by, Entries.pieces_apart}
+use Rattle.session_run.specs.{Last.play_line, Last.record_line, Opening.OpensTo, Ports.Job, Ports.lent_of}
+use Rattle.session_run.specs.{Promise.Ended, Promise.Met, Promise.Promise, Runs.RunsOn, Sides.PlaysSide}
+use Rattle.session_run.specs.{Sides.RecordsSide, VaultSounds.SoundsFollow, Streams.input, Streams.output}
 use Rattle.session_run.proofs.EntryLemmas.{IsPlain, entries_as, entries_length, last_as, numbers_as}
 use Rattle.session_run.proofs.PrintedLemmas.{answered_all, broke, printed}
 use Rattle.session_run.proofs.PromiseLemmas.{each_maker, each_own, each_reply, plain_deeds, stopped_for}
-use Rattle.session_run.proofs.SeatEntries.{plays_side, records_side}
 use Rattle.session_run.proofs.SessionLemmas.{found_spent, quiet, recorded}
-use Rattle.session_run.proofs.SoundLemmas.{SoundsTo, sounds_to}
 use Rattle.session_run.proofs.SideEntries.{pin_actor, pin_side, track_actor, track_side}
 use Rattle.session_run.proofs.SurviveLemmas.{Survives, opened_keeps, survives}
+use Rattle.session_run.proofs.{AnsweredLemmas.answered, ApartLemmas.all_tagged, ApartLemmas.deeds_apart}
+use Rattle.session_run.proofs.{FourLemmas.out_stays, StatusLemmas.Counted, SeatEntries.plays_side}
+use Rattle.session_run.proofs.{SeatEntries.records_side, SoundLemmas.SoundsTo, SoundLemmas.sounds_to}
 
 module _ {D V M P : Type 0} (k : Kinds D V M P) (ask : DeedsAsk k.disk k.vaults) (store : D)
     (start final : Core D) (j : Job V M P)
@@ -189,7 +167,7 @@ module _ {D V M P : Type 0} (k : Kinds D V M P) (ask : DeedsAsk k.disk k.vaults)
       (answered s.scripted.lines s.scripted.answers
       (place_behind n start.rate s.made.opening s.scripted.used_up (k.vaults.tells j.ports.vault.before)
       (k.vaults.holds j.ports.vault.before) (k.vaults.fault_count j.ports.vault.before))
-      s.scripted.last s.scripted.later rest s.scripted.session (record {
+      s.scripted.last s.scripted.later rest s.scripted.line_by_line (record {
         script = refl;
         seen = sym s.scripted.seen;
         by_others = s.scripted.by_others;
@@ -203,7 +181,7 @@ module _ {D V M P : Type 0} (k : Kinds D V M P) (ask : DeedsAsk k.disk k.vaults)
       s.scripted.answers
       (place_behind n start.rate s.made.opening s.scripted.used_up (k.vaults.tells j.ports.vault.before)
       (k.vaults.holds j.ports.vault.before) (k.vaults.fault_count j.ports.vault.before))
-      rest s.scripted.session refl refl (told j.ports.vault.before) s.made.split s.scripted.later
+      rest s.scripted.line_by_line refl refl (told j.ports.vault.before) s.made.split s.scripted.later
       (sym (s.made.split ∙ s.scripted.seen)) s.scripted.by_others
 
   opening_is : entries_of s.made.opening ≡ opening_entries

@@ -1,37 +1,29 @@
 -- A recording, by the entries of its actor.
 use Rattle.std.proofs.Common.{◌≡◌, ◌⊎◌, inl, inr, ⊎_elim, ◌∙◌, refl, sym, ap, subst, ℕ, ◌≤◌, ℤ, List, [], ◌∷◌, ◌++◌}
 use Rattle.std.proofs.Common.{Bool, true, length, take, Option, Some, None, arith}
-use Rattle.std.proofs.lemmas.List.{append-nil}
-use Rattle.std.proofs.lemmas.Option.{none-some}
-use Rattle.pcm_base.specs.declared.answer.Reply.TheVariants as reply
-use Rattle.pcm_base.specs.declared.refusal.Refusal.{Refusal}
-use Rattle.pcm_base.specs.declared.refusal.Refusal.TheVariants.{NoMemory}
-use Rattle.pcm_base.specs.Recordings.{chunks_of}
-use Rattle.edit_ports.specs.declared.source.Source as source
+use Rattle.std.proofs.{lemmas.List.append-nil, lemmas.Option.none-some}
+use Rattle.pcm_base.specs.{declared.refusal.Refusal.Refusal, declared.refusal.Refusal.TheVariants.NoMemory}
+use Rattle.pcm_base.specs.{Recordings.chunks_of}
 use Rattle.editor_state.specs.Applied.{reply_of}
 use Rattle.pin_turn.specs.Counts.{Each}
 use Rattle.pin_turn.proofs.Sums.{Each-left, Each-right}
-use Rattle.recorder_work.specs.declared.microphone.MicEnd.{MicEnd}
-use Rattle.recorder_work.specs.declared.microphone.MicEnd.TheVariants as mic_end
-use Rattle.recorder_work.specs.Blocks.{mic_state}
-use Rattle.recorder_work.specs.Captured.{IsStoppedBy}
-use Rattle.script_text.specs.declared.last.RecordEnd.TheVariants as rec
-use Rattle.script_session.specs.Change.{Change, change}
-use Rattle.studio_seats.specs.declared.deed.Deed.{Deed}
-use Rattle.studio_seats.specs.Deeds.{entries_of, entry_of}
-use Rattle.studio_seats.specs.Merge.{deeds_of}
+use Rattle.recorder_threads.specs.{declared.microphone.MicEnd.MicEnd, Blocks.mic_state, Captured.IsStoppedBy}
+use Rattle.script_reader.specs.Change.{Change, change}
 use Rattle.studio_seats.specs.Onward.{AreDone, EndsBy, IsPieceOf}
-use Rattle.studio_seats.specs.Pieces.{pieces_by}
-use Rattle.studio_seats.specs.Recording.{RecorderAsks, asks_piece}
+use Rattle.studio_seats.specs.{declared.deed.Deed.Deed, Deeds.entries_of, Deeds.entry_of, Merge.deeds_of}
+use Rattle.studio_seats.specs.{Pieces.pieces_by, Recording.RecorderAsks, Recording.asks_piece}
 use Rattle.studio_seats.proofs.Grown.{entries_append}
-use Rattle.desk_session.specs.declared.told.Kept.{Kept}
-use Rattle.desk_session.specs.Sounds.{Recorded}
-use Rattle.session_run.specs.Last.{mic_end, record_end}
+use Rattle.desk_session.specs.{declared.outcome.RecordOutcome.RecordOutcome, Sounds.Recorded}
 use Rattle.session_run.specs.Sides.{ArePieces, MicEnds, PieceRefused, Records}
-use Rattle.session_run.specs.Streams.{input}
-use Rattle.session_run.proofs.EntryLemmas.{IsPlain, each_of}
+use Rattle.session_run.specs.{Last.mic_end, Last.record_end, Streams.input}
 use Rattle.session_run.proofs.FreedEntries.{done_pieces, fit_pieces, fit_reclaims, pieces_as}
 use Rattle.session_run.proofs.PieceEntries.{are_pieces, done_samples, refused_samples, samples_in, zipped}
+use Rattle.session_run.proofs.{EntryLemmas.IsPlain, SpentLemmas.record_refusal}
+use Rattle.script_reader.proofs.BounceLemmas.{each_own}
+use Rattle.pcm_base.specs.declared.answer.Reply.TheVariants as reply
+use Rattle.edit_ports.specs.declared.source.Source as source
+use Rattle.recorder_threads.specs.declared.microphone.MicEnd.TheVariants as mic_end
+use Rattle.script_text.specs.declared.last.RecordEnd.TheVariants as rec
 
 module _ {M : Type 0} (mics : source.Ghosts M) (mic : Change M) where
   -- what ended the microphone
@@ -54,14 +46,6 @@ unrefused : (refused : Option Refusal) (end : MicEnd)
     → ((why : Refusal) → record_end refused end ≡ rec.Refused why → ⊥) → refused ≡ None
 unrefused None end never = refl
 unrefused (Some why) end never = absurd (never why refl)
-
--- what ends a recording as refused refused it
-refused_by : (refused : Option Refusal) (end : MicEnd) (why : Refusal) → record_end refused end ≡ rec.Refused why
-    → refused ≡ Some why
-refused_by None mic_end.End why is = absurd (let clash = is in cc)
-refused_by None mic_end.Fault why is = absurd (let clash = is in cc)
-refused_by None mic_end.Limit why is = absurd (let clash = is in cc)
-refused_by (Some other) end why is = cc
 
 -- the deeds of a recorder, up to the one that was refused
 record Parts (track tag : ℕ) (told : Option Refusal) (ds : List Deed) : Type 0 where
@@ -121,7 +105,7 @@ module _ (track tag : ℕ) where
       same_why a b is = cc
 
 -- what refused the recording, by what the taker was refused
-refusal : (track tag : ℕ) (kept : Kept) (told : Option Refusal) (ds : List Deed) (p : Parts track tag told ds)
+refusal : (track tag : ℕ) (kept : RecordOutcome) (told : Option Refusal) (ds : List Deed) (p : Parts track tag told ds)
     → (kept.refused ≡ None → told ≡ None)
     → ((why : Refusal) → kept.refused ≡ Some why → (told ≡ Some why) ⊎ ((why ≡ NoMemory) × (told ≡ None)))
     → PieceRefused track tag (record_end kept.refused kept.end) (entries_of p.last)
@@ -142,7 +126,7 @@ refusal track tag kept told ds p whole some = by kept.refused refl
 
 -- the line of a recording, its numbers, and the entries of its actor
 pub records : {M : Type 0} (mics : source.Ghosts M) (mic : Change M) (track tag seat first : ℕ) (deeds own : List Deed)
-    (NoTurn : Type 0) (used : Bool) (none : used ≡ true → NoTurn) (kept : Kept)
+    (NoTurn : Type 0) (used : Bool) (none : used ≡ true → NoTurn) (kept : RecordOutcome)
     → Recorded mics mic (change [] (pieces_by track tag seat first deeds)) used own kept
     → done_samples own ≡ samples_in (pieces_by track tag seat first deeds)
     → Each (λ d. RecorderAsks track tag d.call) own → Each IsPlain own
@@ -167,7 +151,7 @@ records mics mic track tag seat first deeds own NoTurn used none kept r same ask
       ended = ends mics mic kept.refused kept.end r.is.bytes r.is.stopped;
       within = within;
       all = λ never. (r.is.takes.all (unrefused kept.refused kept.end never)).0;
-      fewer = λ why is. (r.is.takes.some why (refused_by kept.refused kept.end why is)).0;
+      fewer = λ why is. (r.is.takes.some why (record_refusal kept.refused kept.end why is)).0;
       taken = entries_of p.taken;
       last = entries_of p.last;
       own_is = pieces_as own ∙ (ap entries_of p.are ∙ entries_append p.taken p.last);
@@ -177,7 +161,7 @@ records mics mic track tag seat first deeds own NoTurn used none kept r same ask
           (subst (λ (l : List Deed). Each (λ d. IsPieceOf track tag d.call) l) p.are fit))
           p.done
           (Each-left IsPlain p.taken p.last (subst (λ (l : List Deed). Each IsPlain l) p.are
-          (each_of IsPlain asks_piece own plain))));
+          (each_own IsPlain asks_piece own plain))));
       refused = refusal track tag kept r.told asked p (λ is. (r.is.takes.all is).1)
           (λ why is. (r.is.takes.some why is).1);
       reclaims = fit_reclaims track tag own asks;

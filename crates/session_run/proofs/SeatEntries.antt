@@ -1,36 +1,24 @@
 -- The recording and the playback of a session, by what was made for them.
-use Rattle.std.proofs.Common.{◌≡◌, ◌≢◌, ◌∙◌, refl, sym, ap, ℕ, ◌==◌, if◌then◌else◌, Bool, true, false}
-use Rattle.std.proofs.Common.{List, [], ◌∷◌, ◌++◌, Option, Some, None}
+use Rattle.std.proofs.Common.{◌≡◌, ◌≢◌, ◌∙◌, refl, sym, ap, ℕ, ◌==◌, if◌then◌else◌, Bool, true, false, List, [], ◌∷◌}
+use Rattle.std.proofs.Common.{◌++◌, Option, Some, None}
 use Rattle.std.specs.Prelude.{IsSomeAnd}
-use Rattle.pcm_base.specs.declared.command.Call.{Call}
-use Rattle.pcm_base.specs.declared.sound.Frame.{Frame}
+use Rattle.pcm_base.specs.{declared.command.Call.Call, declared.sound.Frame.Frame}
+use Rattle.pin_turn.specs.Counts.{Each}
+use Rattle.script_reader.specs.Change.{Change, change}
+use Rattle.studio_seats.specs.{declared.deed.Deed.Deed, Deeds.entries_of, Merge.by_seat, Merge.deeds_of, Onward.Asks}
+use Rattle.studio_seats.specs.{Pieces.pieces_by, Recording.RecorderAsks}
+use Rattle.studio_seats.proofs.FreeingLemmas.{asked_own, same_seat}
+use Rattle.studio_seats.proofs.{OnwardLemmas.each_append, MergeLemmas.deeds_append}
+use Rattle.desk_session.specs.Sounds.{Played, Recorded, piece_numbers}
+use Rattle.desk_session.specs.{declared.outcome.PlayOutcome.PlayOutcome, declared.outcome.RecordOutcome.RecordOutcome}
+use Rattle.desk_session.specs.{declared.side.Side.Side, Opening.play_calls, Opening.record_calls, Sides.WhereMade}
+use Rattle.session_run.specs.{Last.play_line, Last.record_line, Sides.PlaysSide, Sides.RecordsSide, Streams.input}
+use Rattle.session_run.specs.{Streams.output}
+use Rattle.session_run.proofs.PieceEntries.{done_samples, own_samples}
+use Rattle.session_run.proofs.{EntryLemmas.IsPlain, PlayLemmas.plays, RecordLemmas.records}
 use Rattle.edit_ports.specs.declared.sink.Sink as sink
 use Rattle.edit_ports.specs.declared.source.Source as source
-use Rattle.pin_turn.specs.Counts.{Each}
-use Rattle.script_session.specs.Change.{Change, change}
-use Rattle.studio_seats.specs.declared.deed.Deed.{Deed}
-use Rattle.studio_seats.specs.Deeds.{entries_of}
-use Rattle.studio_seats.specs.Merge.{by_seat, deeds_of}
-use Rattle.studio_seats.specs.Onward.{Asks}
-use Rattle.studio_seats.specs.Pieces.{pieces_by}
-use Rattle.studio_seats.specs.Recording.{RecorderAsks}
-use Rattle.studio_seats.proofs.FreeingLemmas.{asked_own, same_seat}
-use Rattle.studio_seats.proofs.OnwardLemmas.{each_append}
-use Rattle.studio_seats.proofs.MergeLemmas.{deeds_append}
-use Rattle.desk_session.specs.declared.told.Heard.{Heard}
-use Rattle.desk_session.specs.declared.told.Kept.{Kept}
-use Rattle.desk_session.specs.declared.side.Side.{Side}
 use Rattle.desk_session.specs.declared.side.Side.TheVariants as side
-use Rattle.desk_session.specs.Opening.{play_calls, record_calls}
-use Rattle.desk_session.specs.Sides.{WhereMade}
-use Rattle.desk_session.specs.Sounds.{Played, Recorded, piece_numbers}
-use Rattle.session_run.specs.Last.{play_line, record_line}
-use Rattle.session_run.specs.Sides.{PlaysSide, RecordsSide}
-use Rattle.session_run.specs.Streams.{input, output}
-use Rattle.session_run.proofs.EntryLemmas.{IsPlain}
-use Rattle.session_run.proofs.PieceEntries.{done_samples, own_samples}
-use Rattle.session_run.proofs.PlayLemmas.{plays}
-use Rattle.session_run.proofs.RecordLemmas.{records}
 
 -- a seat that may ask nothing has no deeds
 none_own : (fits : Call → Type 0) → ((c : Call) → fits c → ⊥) → (seat : ℕ) (ds : List Deed) → Asks fits seat ds
@@ -64,7 +52,7 @@ module _ (seat first : ℕ) (opening rest : List Deed) (apart : 0 ≢ seat)
 
   -- the recording
   pub records_side : {M : Type 0} (mics : source.Ghosts M) (mic : Change M) (track : ℕ) (NoTurn : Type 0) (used : Bool)
-      (none : used ≡ true → NoTurn) (made : Side) (kept : Option Kept)
+      (none : used ≡ true → NoTurn) (made : Side) (kept : Option RecordOutcome)
       → WhereMade made (λ tag. IsSomeAnd kept
       (Recorded mics mic (change [] (pieces_by track tag seat first (opening ++ rest))) used own))
       ((kept ≡ None) × (mic.now ≡ mic.before))
@@ -97,9 +85,8 @@ module _ (seat first : ℕ) (opening rest : List Deed) (apart : 0 ≢ seat)
 
   -- the playback
   pub plays_side : {P : Type 0} (speakers : sink.Ghosts P) (speaker : Change P) (NoTurn : Type 0) (used : Bool)
-      (none : used ≡ true → NoTurn)
-      (shows : ℕ → List Frame → Type 0) (Shown : ℕ → List Frame → Type 0)
-      (made : Side) (heard : Option Heard)
+      (none : used ≡ true → NoTurn) (shows : ℕ → List Frame → Type 0) (Shown : ℕ → List Frame → Type 0)
+      (made : Side) (heard : Option PlayOutcome)
       → WhereMade made (λ pin. IsSomeAnd heard (Played speakers speaker (shows pin) pin used seat own))
       ((heard ≡ None) × (speaker.now ≡ speaker.before))
       → Asks (play_calls made) seat rest

@@ -1,27 +1,20 @@
 -- The entries that a session's opening made.
-use Rattle.std.proofs.Common.{◌≡◌, inl, inr, ◌∙◌, refl, sym, ap, subst, ℕ, ◌+◌, Bool, true, false, List, [], ◌∷◌}
-use Rattle.std.proofs.Common.{◌++◌, Result, Ok, Err}
-use Rattle.pcm_base.specs.declared.answer.Reply.{Reply}
-use Rattle.pcm_base.specs.declared.answer.Reply.TheVariants as reply
-use Rattle.pcm_base.specs.declared.command.Call.{Call}
+use Rattle.std.proofs.Common.{◌≡◌, inl, inr, ◌∙◌, refl, sym, ap, subst, ℕ, ◌+◌, Bool, true, false, List, [], ◌∷◌, ◌++◌}
+use Rattle.std.proofs.Common.{Result, Ok, Err}
 use Rattle.pcm_base.specs.declared.command.Call.TheVariants.{Line, Pin}
-use Rattle.pcm_base.specs.declared.command.Command.TheVariants.{Track}
-use Rattle.pcm_base.specs.declared.refusal.Refusal.{Refusal}
-use Rattle.editor_state.specs.Applied.{reply_of}
-use Rattle.editor_state.specs.Took.{silent}
+use Rattle.pcm_base.specs.{declared.answer.Reply.Reply, declared.command.Call.Call}
+use Rattle.pcm_base.specs.{declared.command.Command.TheVariants.Track, declared.refusal.Refusal.Refusal}
+use Rattle.editor_state.specs.{Applied.reply_of, Took.silent}
 use Rattle.pin_turn.specs.Counts.{Each}
-use Rattle.studio_seats.specs.declared.deed.Deed.{Deed}
 use Rattle.studio_seats.specs.Deeds.{deed, entries_of, entry_of, number_after}
-use Rattle.studio_seats.specs.Desks.{spent}
-use Rattle.studio_seats.specs.Leads.{HadTurn}
-use Rattle.studio_seats.specs.Merge.{any_seat, numbers_of}
-use Rattle.script_session.specs.Session.{is_refusal}
+use Rattle.studio_seats.specs.{declared.deed.Deed.Deed, Desks.spent, Leads.HadTurn, Merge.any_seat, Merge.numbers_of}
+use Rattle.script_reader.specs.Answering.{is_refusal}
 use Rattle.desk_session.specs.declared.side.Side.{Side}
 use Rattle.desk_session.specs.declared.side.Side.TheVariants.{Made, NotAsked, Refused}
 use Rattle.desk_session.specs.Opening.{OwnDeed, PinDeed, TrackDeed, record_commits}
-use Rattle.session_run.specs.Entries.{last_number}
-use Rattle.session_run.specs.Sides.{IsOne, MakesSide}
+use Rattle.session_run.specs.{Entries.last_number, Sides.IsOne, Sides.MakesSide}
 use Rattle.session_run.proofs.EntryLemmas.{IsPlain, last_as, plain_reply}
+use Rattle.pcm_base.specs.declared.answer.Reply.TheVariants as reply
 
 -- the entry of a call of the first seat
 one_of : (call : Call) (what : Result Reply Refusal) (own : List Deed) → own ≡ deed 0 call what silent ∷ []
@@ -98,8 +91,7 @@ track_spent spent_ made own h had is = own_spent spent_ (Line Track) own
 
 pub pin_spent : (spent_ : Bool) (made : Side) (own : List Deed) → PinDeed spent_ 0 made own
     → Each HadTurn own → made ≡ Refused spent → spent_ ≡ true
-pin_spent spent_ made own h had is = own_spent spent_ Pin own
-    (subst (λ (m : Side). PinDeed spent_ 0 m own) is h) had
+pin_spent spent_ made own h had is = own_spent spent_ Pin own (subst (λ (m : Side). PinDeed spent_ 0 m own) is h) had
 
 -- ---- whose the opening's deeds are
 

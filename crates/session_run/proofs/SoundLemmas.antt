@@ -1,61 +1,40 @@
 -- What becomes of the sounds of a vault, line by line.
-use Rattle.std.proofs.Common.{◌≡◌, ◌⊎◌, inl, inr, ⊎_elim, ◌∙◌, refl, sym, ap, subst, ℕ, Bool, true, false, List, [], ◌∷◌}
-use Rattle.std.proofs.Common.{◌++◌, ◌+◌, ◌*◌, append_assoc, length, take, drop, take-append-drop, Option, Some, Result, Ok}
-use Rattle.std.proofs.Common.{Err, IsTrue, arith}
-use Rattle.std.specs.Prelude.{IfOk, MatchBool, OnErr, OnOk}
-use Rattle.std.specs.List.{flat_map}
+use Rattle.std.proofs.Common.{◌≡◌, ◌⊎◌, inl, inr, ⊎_elim, ◌∙◌, refl, sym, ap, subst, ℕ, Bool, true, false, List, []}
+use Rattle.std.proofs.Common.{◌∷◌, ◌++◌, ◌+◌, ◌*◌, append_assoc, length, take, drop, take-append-drop, Option, Some}
+use Rattle.std.proofs.Common.{Result, Ok, Err, IsTrue, arith, eq-eqb}
 use Rattle.std.proofs.lemmas.List.{append-nil}
-use Rattle.pcm_base.specs.declared.answer.Answer.{Answer}
-use Rattle.pcm_base.specs.declared.answer.Reply.{Reply}
+use Rattle.std.specs.{Prelude.IfOk, Prelude.MatchBool, Prelude.OnErr, Prelude.OnOk, List.flat_map}
 use Rattle.pcm_base.specs.declared.answer.Reply.TheVariants.{Pinned, Wrote}
-use Rattle.pcm_base.specs.declared.command.Call.TheVariants.{Pin}
-use Rattle.pcm_base.specs.declared.command.Command.{Command}
-use Rattle.pcm_base.specs.declared.command.Command.TheVariants.{Bounce}
-use Rattle.pcm_base.specs.declared.entry.Entry.{Entry}
-use Rattle.pcm_base.specs.declared.refusal.Refusal.{Refusal}
-use Rattle.pcm_base.specs.declared.sound.Frame.{Frame}
-use Rattle.pcm_base.specs.Form.{IsTurn}
-use Rattle.pcm_base.specs.Mix.{mix_of}
-use Rattle.pcm_base.specs.Outside.{Sounds}
-use Rattle.pcm_base.specs.Recordings.{frame_bytes}
 use Rattle.pcm_base.specs.Run.{Answers, Follows, Run, result_of}
-use Rattle.pcm_base.specs.State.{current}
-use Rattle.pcm_base.specs.Studio as model
-use Rattle.pcm_base.specs.Wave.{wav_text}
+use Rattle.pcm_base.specs.{declared.answer.Answer.Answer, declared.answer.Reply.Reply}
+use Rattle.pcm_base.specs.{declared.command.Call.TheVariants.Pin, declared.command.Command.Command}
+use Rattle.pcm_base.specs.{declared.command.Command.TheVariants.Bounce, declared.entry.Entry.Entry}
+use Rattle.pcm_base.specs.{declared.refusal.Refusal.Refusal, declared.sound.Frame.Frame, Form.IsTurn, Mix.mix_of}
+use Rattle.pcm_base.specs.{Recordings.frame_bytes, State.current, Wave.wav_text}
 use Rattle.disk_model.specs.declared.store.Store.{Ghosts}
-use Rattle.edit_ports.specs.declared.vault.Vault as vault
-use Rattle.editor_state.specs.Applied.{reply_of}
-use Rattle.editor_state.specs.Core.{Core}
-use Rattle.editor_state.specs.Studios.{IsHeld, studio_of}
-use Rattle.editor_state.specs.Took.{told_by}
+use Rattle.editor_state.specs.{Applied.reply_of, Core.Core, Studios.IsHeld, Studios.studio_of, Took.as_reply}
 use Rattle.editor_views.proofs.ExportLengths.{length_text}
 use Rattle.wav_pcm.specs.Written.{MayBegin}
 use Rattle.wav_pcm.proofs.GrowLaws.{begun_front}
 use Rattle.script_text.specs.Grammar.{is_silent, line_of}
-use Rattle.studio_seats.specs.declared.deed.Deed.{Deed}
-use Rattle.studio_seats.specs.Deeds.{actor_of, entries_of, entry_of}
-use Rattle.studio_seats.specs.Merge.{by_seat, deeds_of}
-use Rattle.studio_seats.specs.Pins.{makes_pin, pin_frames}
-use Rattle.studio_seats.specs.Shows.{IsMixOf}
-use Rattle.studio_seats.specs.Stands.{AllTell, StandsFor, origin}
-use Rattle.studio_seats.proofs.Chains.{chain_cut}
+use Rattle.studio_seats.specs.{declared.deed.Deed.Deed, Deeds.actor_of, Deeds.entries_of, Deeds.entry_of, Merge.by_seat}
+use Rattle.studio_seats.specs.{Merge.deeds_of, Pins.makes_pin, Pins.pin_frames, Shows.IsMixOf, Stands.AllTell}
+use Rattle.studio_seats.specs.{Stands.StandsFor, Stands.origin}
 use Rattle.studio_seats.proofs.Grown.{all_told, entries_append, leads}
-use Rattle.studio_seats.proofs.PinLemmas.{frames_at, run_rate}
-use Rattle.std.proofs.Common.{eq-eqb}
-use Rattle.sound_bounce.specs.Bounces.{AfterPin, BounceDeeds, IsOwnPin, IsUnread, TellsMix, frames_in, length_in, text_by}
-use Rattle.sound_bounce.proofs.Sayings.{mute_err}
-use Rattle.sound_bounce.proofs.TellLemmas.{bounces_tell, cut_first}
-use Rattle.pin_turn.specs.Counts.{Each}
-use Rattle.pin_turn.specs.Rule.{ByOthers}
-use Rattle.script_session.specs.Place.{Bounces, Enters, Place, batch, line_deed}
-use Rattle.script_session.specs.Session.{Next, Session, Turn}
-use Rattle.script_session.proofs.AddedLemmas.{sessions_add, turn_sounds}
+use Rattle.studio_seats.proofs.{Chains.chain_cut, PinLemmas.frames_at, PinLemmas.run_rate}
+use Rattle.sound_bounce.specs.Bounces.{AfterPin, BounceDeeds, IsOwnPin, IsUnread, TellsMix, frames_in, length_in}
+use Rattle.sound_bounce.specs.Bounces.{text_by}
+use Rattle.sound_bounce.proofs.{Sayings.mute_err, TellLemmas.bounces_tell, TellLemmas.cut_first}
+use Rattle.pin_turn.specs.{Counts.Each, Rule.ByOthers}
+use Rattle.script_reader.specs.Place.{Bounces, Enters, Place, batch, line_deed}
+use Rattle.script_reader.specs.Answering.{Next, AnswersLines, Turn}
+use Rattle.script_reader.proofs.AddedLemmas.{scripts_add, turn_sounds}
 use Rattle.desk_session.proofs.ListLemmas.{same_rest}
-use Rattle.session_run.specs.Answered.{BounceEntries}
-use Rattle.session_run.specs.Entries.{entries_by}
 use Rattle.session_run.specs.VaultSounds.{IsBounceOf, IsNoBounce, IsWholeFile, LineSounds, NextSounds, SoundsFollow}
-use Rattle.session_run.proofs.BounceEntries.{bounce_entries}
-use Rattle.session_run.proofs.EntryLemmas.{entries_as, none_by}
+use Rattle.session_run.specs.{Answered.BounceEntries, Entries.entries_by}
+use Rattle.session_run.proofs.{BounceEntries.bounce_entries, EntryLemmas.entries_as, EntryLemmas.none_by}
+use Rattle.pcm_base.specs.Studio as model
+use Rattle.edit_ports.specs.declared.vault.Vault as vault
 
 -- ---- a text, and what a sound holds of it
 
@@ -79,7 +58,7 @@ wrote_by r = 0
 
 -- what was written where some deeds said all of it, and the number that the answer has
 written_by : (what : Result ℕ Refusal) (said : List ℕ) (count : ℕ) (mix : List Frame) (rate : ℕ) (new : Option (List ℕ))
-    (bytes : ℕ) → Wrote bytes ≡ reply_of (told_by Wrote what) → OnOk what (new ≡ Some said)
+    (bytes : ℕ) → Wrote bytes ≡ reply_of (as_reply Wrote what) → OnOk what (new ≡ Some said)
     → IfOk what (λ n. n ≡ 44 + 4 * count) → OnOk what ((said ≡ wav_text mix rate) × (count ≡ length mix))
     → IsWholeFile mix rate bytes new
 written_by (Ok n) said count mix rate new bytes is written size whole = (
@@ -344,14 +323,14 @@ module _ {D V : Type 0} (disk : Ghosts D) (vaults : vault.Ghosts V) (start final
       }
 
   abbrev Goes : List (List ℕ) → Place → Type 0
-  Goes lines q = (answers : List Answer) (p : Place) (left : List Deed) → Session p lines answers q → p.seat ≡ 0
+  Goes lines q = (answers : List Answer) (p : Place) (left : List Deed) → AnswersLines p lines answers q → p.seat ≡ 0
       → p.rate ≡ start.rate → IsTrue p.tells → whole ≡ p.seen ++ left
       → ((later : List Deed) → q.seen ++ later ≡ whole → ByOthers actor_of (0 ∷ []) later
       → SoundsTo (entries_of left) (Parts lines answers p q))
 
   sounds_next : (b : Bool) (p q : Place) (line : List ℕ) (lines : List (List ℕ)) (answers : List Answer)
       (left : List Deed) → Goes lines q
-      → MatchBool b (Session p lines answers q) (Next p line answers (λ mid more. Session mid lines more q))
+      → MatchBool b (AnswersLines p lines answers q) (Next p line answers (λ mid more. AnswersLines mid lines more q))
       → p.seat ≡ 0 → p.rate ≡ start.rate → IsTrue p.tells → whole ≡ p.seen ++ left → (later : List Deed)
       → q.seen ++ later ≡ whole → ByOthers actor_of (0 ∷ []) later
       → SoundsTo (entries_of left)
@@ -359,8 +338,8 @@ module _ {D V : Type 0} (disk : Ghosts D) (vaults : vault.Ghosts V) (start final
   sounds_next true p q line lines answers left go h seat rate told is later end others =
       go answers p left h seat rate told is later end others
   sounds_next false p q line lines [] left go h seat rate told is later end others = absurd h
-  sounds_next false p q line lines (a ∷ answers) left go (t, (turn, commit), session) seat rate told is later end others =
-      let more = sessions_add lines answers t q session in
+  sounds_next false p q line lines (a ∷ answers) left go (t, (turn, commit), by_line) seat rate told is later end others =
+      let more = scripts_add lines answers t q by_line in
       let rest : List Deed = more.added ++ later in
       let whole_t : whole ≡ t.seen ++ rest =
       sym end ∙ ap (λ (l : List Deed). l ++ later) more.seen ∙ append_assoc t.seen more.added later in
@@ -369,7 +348,7 @@ module _ {D V : Type 0} (disk : Ghosts D) (vaults : vault.Ghosts V) (start final
       (sym is ∙ whole_t ∙ ap (λ (l : List Deed). l ++ rest) one.seen ∙ append_assoc p.seen one.part rest) in
       subst (λ (l : List Deed). SoundsTo (entries_of l) (NextParts (line_of line) lines (a ∷ answers) p q))
       (sym left_is) (sounds_both p t q (line_of line) lines a answers rest one
-      (go answers t rest session (one.seat ∙ seat) (one.rate ∙ rate)
+      (go answers t rest by_line (one.seat ∙ seat) (one.rate ∙ rate)
       (subst (λ (b : Bool). IsTrue b) (sym one.tells) told) whole_t later end others))
 
   pub sounds_to : (lines : List (List ℕ)) (q : Place) → Goes lines q

@@ -1,43 +1,33 @@
 -- A recording or a playback that found no turn left found so after as many as there are.
-use Rattle.std.proofs.Common.{◌≡◌, ◌⊎◌, inl, inr, ap, ◌∙◌, subst, ℕ, ℤ, Bool, true, false, List, [], ◌∷◌, ◌++◌, Option}
-use Rattle.std.proofs.Common.{Some, None}
+use Rattle.std.proofs.Common.{◌≡◌, ◌⊎◌, inl, inr, ap, ◌∙◌, subst, ℕ, ℤ, Bool, true, List, [], ◌∷◌, ◌++◌, Option, Some}
+use Rattle.std.proofs.Common.{None}
 use Rattle.std.specs.Prelude.{IsSomeAnd}
-use Rattle.pcm_base.specs.declared.answer.Reply.TheVariants as reply
-use Rattle.pcm_base.specs.declared.refusal.Refusal.{Refusal}
-use Rattle.pcm_base.specs.declared.refusal.Refusal.TheVariants.{NoMemory}
-use Rattle.pcm_base.specs.declared.sound.Frame.{Frame}
+use Rattle.pcm_base.specs.{declared.refusal.Refusal.Refusal, declared.refusal.Refusal.TheVariants.NoMemory}
+use Rattle.pcm_base.specs.{declared.sound.Frame.Frame}
 use Rattle.edit_ports.specs.Answers.{RefusedAt}
-use Rattle.edit_ports.specs.declared.sink.Sink as sink
-use Rattle.edit_ports.specs.declared.source.Source as source
 use Rattle.editor_state.specs.Applied.{reply_of}
-use Rattle.player_work.specs.Filled.{reads_to}
+use Rattle.player_threads.specs.Filled.{reads_to}
 use Rattle.pin_turn.specs.Counts.{Each}
 use Rattle.pin_turn.proofs.Sums.{Each-left, Each-right}
-use Rattle.recorder_work.specs.declared.microphone.MicEnd.{MicEnd}
-use Rattle.recorder_work.specs.declared.microphone.MicEnd.TheVariants as mic_end
+use Rattle.recorder_threads.specs.declared.microphone.MicEnd.{MicEnd}
+use Rattle.script_reader.specs.Change.{Change}
+use Rattle.studio_seats.specs.{declared.deed.Deed.Deed, Desks.spent, Leads.HadTurn, Merge.deeds_of}
+use Rattle.studio_seats.specs.{Recording.asks_piece, Onward.EndsBy, Reads.EndReads, Reads.ReadsTo}
+use Rattle.desk_session.specs.{declared.outcome.PlayOutcome.PlayOutcome, declared.outcome.RecordOutcome.RecordOutcome}
+use Rattle.desk_session.specs.{declared.side.Side.Side, Opening.PinDeed, Opening.TrackDeed, Sides.WhereMade}
+use Rattle.desk_session.specs.{Sounds.Played, Sounds.Recorded}
+use Rattle.session_run.specs.Last.{play_line, record_end, record_line}
+use Rattle.script_reader.proofs.BounceLemmas.{each_own}
+use Rattle.session_run.proofs.{PlayLemmas.play_refusal, SideEntries.pin_spent, SideEntries.track_spent}
+use Rattle.pcm_base.specs.declared.answer.Reply.TheVariants as reply
+use Rattle.edit_ports.specs.declared.sink.Sink as sink
+use Rattle.edit_ports.specs.declared.source.Source as source
+use Rattle.recorder_threads.specs.declared.microphone.MicEnd.TheVariants as mic_end
 use Rattle.script_text.specs.declared.last.PlayEnd.TheVariants as play
 use Rattle.script_text.specs.declared.last.RecordEnd.TheVariants as rec
-use Rattle.script_session.specs.Change.{Change}
-use Rattle.studio_seats.specs.declared.deed.Deed.{Deed}
-use Rattle.studio_seats.specs.Desks.{spent}
-use Rattle.studio_seats.specs.Leads.{HadTurn}
-use Rattle.studio_seats.specs.Merge.{deeds_of}
-use Rattle.studio_seats.specs.Recording.{asks_piece}
-use Rattle.studio_seats.specs.Onward.{EndsBy}
-use Rattle.studio_seats.specs.Reads.{EndReads, ReadsTo}
-use Rattle.desk_session.specs.declared.told.Heard.{Heard}
-use Rattle.desk_session.specs.declared.told.Kept.{Kept}
-use Rattle.desk_session.specs.declared.side.Side.{Side}
 use Rattle.desk_session.specs.declared.side.Side.TheVariants as side
-use Rattle.desk_session.specs.Opening.{PinDeed, TrackDeed}
-use Rattle.desk_session.specs.Sides.{WhereMade}
-use Rattle.desk_session.specs.Sounds.{Played, Recorded}
-use Rattle.session_run.specs.Last.{play_end, play_line, record_end, record_line}
-use Rattle.session_run.proofs.EntryLemmas.{each_of}
-use Rattle.session_run.proofs.PlayLemmas.{play_refusal}
-use Rattle.session_run.proofs.SideEntries.{pin_spent, track_spent}
 
-record_refusal : (refused : Option Refusal) (end : MicEnd) (why : Refusal) → record_end refused end ≡ rec.Refused why
+pub record_refusal : (refused : Option Refusal) (end : MicEnd) (why : Refusal) → record_end refused end ≡ rec.Refused why
     → refused ≡ Some why
 record_refusal (Some other) end why is = cc
 record_refusal None mic_end.End why is = cc
@@ -69,7 +59,7 @@ spent_memory is = cc
 
 pub recording_spent : {M : Type 0} (mics : source.Ghosts M) (mic : Change M)
     (pieces : ℕ → Change (List (List ℤ × ℕ))) (track : ℕ) (used : Bool) (made : Side)
-    (kept : Option Kept) (opening own : List Deed) (else_ : Type 0)
+    (kept : Option RecordOutcome) (opening own : List Deed) (else_ : Type 0)
     → WhereMade made (λ tag. IsSomeAnd kept (Recorded mics mic (pieces tag) used own)) else_
     → TrackDeed used 0 made opening → Each HadTurn opening → Each HadTurn own
     → IsSomeAnd (record_line track made kept) (λ line. line.end ≡ rec.Refused spent) → used ≡ true
@@ -86,12 +76,12 @@ recording_spent mics mic pieces track used (side.Made tag) (Some kept) opening o
     by : (h.told ≡ Some spent) ⊎ ((spent ≡ NoMemory) × (h.told ≡ None)) → used ≡ true
     by (inl told) = ends_spent used (deeds_of asks_piece own)
         (subst (λ (r : Option Refusal). EndsBy used r (deeds_of asks_piece own)) told h.own_are.ends)
-        (each_of HadTurn asks_piece own had)
+        (each_own HadTurn asks_piece own had)
     by (inr memory) = absurd (spent_memory memory.0)
 
 pub playback_spent : {P : Type 0} (speakers : sink.Ghosts P) (speaker : Change P)
     (shows : ℕ → List Frame → Type 0) (used : Bool) (player : ℕ) (made : Side)
-    (heard : Option Heard) (opening own : List Deed) (else_ : Type 0)
+    (heard : Option PlayOutcome) (opening own : List Deed) (else_ : Type 0)
     → WhereMade made (λ pin. IsSomeAnd heard (Played speakers speaker (shows pin) pin used player own)) else_
     → PinDeed used 0 made opening → Each HadTurn opening → Each HadTurn own
     → IsSomeAnd (play_line made heard) (λ line. line.end ≡ play.Refused spent) → used ≡ true

@@ -1,15 +1,14 @@
 -- The status 4 of a call of the word `run`, by the counts of faults of its devices.
 use Rattle.std.proofs.Common.{◌≡◌, ◌⊎◌, inl, inr, refl, ℕ, ◌<◌, if◌then◌else◌, Bool, true, false, ◌||◌, nat_lt, List}
-use Rattle.std.proofs.Common.{◌∷◌, [], Option, Some, arith, subst}
+use Rattle.std.proofs.Common.{◌∷◌, [], Option, Some, subst}
 use Rattle.std.proofs.lemmas.Bool.{lt-ltb}
 use Rattle.pcm_base.specs.Causes.{Rose}
 use Rattle.disk_model.specs.declared.store.Store.{Ghosts}
 use Rattle.call_words.specs.declared.asked.Words.{Words}
-use Rattle.call_words.specs.declared.asked.Words.TheVariants as words
-use Rattle.script_session.specs.Change.{Change, change}
-use Rattle.session_run.specs.declared.counts.FaultCounts.{FaultCounts}
+use Rattle.script_reader.specs.Change.{Change, change}
 use Rattle.session_run.specs.Call.{HasCause, IsTry, OneRose, any_rose}
-use Rattle.session_run.specs.Promise.{AnyOf, Met, fault_counts}
+use Rattle.session_run.specs.{declared.counts.FaultCounts.FaultCounts, Promise.AnyOf, Promise.Met, Promise.fault_counts}
+use Rattle.call_words.specs.declared.asked.Words.TheVariants as words
 
 -- what the promise says of the status
 pub record Counted {D : Type 0} (disk : Ghosts D) (m : Met D) : Type 0 where

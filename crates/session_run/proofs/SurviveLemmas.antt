@@ -1,31 +1,26 @@
 -- What a stop may leave of a script that ran.
 use Rattle.std.proofs.Common.{◌≡◌, ◌⊎◌, inl, inr, ⊎_elim, List, None, sym, subst}
 use Rattle.std.specs.Prelude.{IsSome}
-use Rattle.disk_model.specs.Disk.{Files}
-use Rattle.disk_model.specs.declared.store.Store.{Ghosts}
-use Rattle.edit_ports.specs.declared.vault.Vault as vault
+use Rattle.disk_model.specs.{Disk.Files, declared.store.Store.Ghosts}
 use Rattle.project_journal.specs.Gate.{EachNow, EachSince}
-use Rattle.record_body.specs.Kept as kept
-use Rattle.record_body.specs.Kept.{Keeps}
-use Rattle.editor_state.specs.Core.{Core}
-use Rattle.editor_state.specs.Events.{KeepsPrefix}
-use Rattle.editor_state.specs.Studios.{IsHeld, shown, studio_of}
+use Rattle.record_body.specs.Saved.{Keeps}
+use Rattle.editor_state.specs.{Core.Core, Events.KeepsPrefix, Studios.IsHeld, Studios.shown, Studios.studio_of}
 use Rattle.editor_recovery.specs.Honest.{IsHonest}
 use Rattle.editor_recovery.proofs.Assembled.{shows_found}
-use Rattle.studio_seats.specs.declared.deed.Deed.{Deed}
-use Rattle.studio_seats.specs.Deeds.{entries_of}
-use Rattle.studio_seats.specs.Leads.{DeedsAsk, Leads, StopsInFlight}
-use Rattle.studio_seats.specs.Stands.{AllTell, AreTold, StandsFor, origin}
+use Rattle.studio_seats.specs.{declared.deed.Deed.Deed, Deeds.entries_of, Leads.DeedsAsk, Leads.Leads}
+use Rattle.studio_seats.specs.{Leads.StopsInFlight, Stands.AllTell, Stands.AreTold, Stands.StandsFor, Stands.origin}
 use Rattle.studio_seats.proofs.Grown.{all_told, leads}
-use Rattle.script_session.specs.Change.{Change, change}
+use Rattle.script_reader.specs.Change.{Change, change}
 use Rattle.session_run.specs.Opening.{OpensTo}
+use Rattle.edit_ports.specs.declared.vault.Vault as vault
+use Rattle.record_body.specs.Saved as saved
 
 -- the disk keeps the project that was opened
 pub opened_keeps : {D : Type 0} (disk : Ghosts D) (store : D) (start : Core D) → OpensTo disk store start
     → IsHonest disk store → Keeps (disk.reads store) (shown (studio_of disk start))
 opened_keeps disk store start opens honest =
     let finds = opens.looks.honest honest in
-    subst (λ (z : kept.Opened). Keeps (disk.reads store) z)
+    subst (λ (z : saved.Opened). Keeps (disk.reads store) z)
     (shows_found disk start
     (disk.reads store) finds.form finds.log finds.kept finds.found opens.looks.reads) finds.keeps
 
@@ -42,8 +37,7 @@ pub record Survives {D : Type 0} (disk : Ghosts D) (store : D) (core : Change (C
       Keeps c (shown (studio_of disk core.now)) ⊎ StopsInFlight (studio_of disk core.before) (entries_of deeds) c)
 
 module _ {D V : Type 0} (disk : Ghosts D) (vaults : vault.Ghosts V) (ask : DeedsAsk disk vaults)
-    (store : D) (start final : Core D)
-    (deeds : List Deed)
+    (store : D) (start final : Core D) (deeds : List Deed)
     (opens : OpensTo disk store start) (stands : StandsFor (origin disk vaults start) final deeds)
     (honest : IsHonest disk store) (told : AllTell vaults) where
   held : IsHeld disk start

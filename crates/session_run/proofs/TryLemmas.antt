@@ -1,28 +1,19 @@
 -- What `try` leaves of a fresh project in memory.
 use Rattle.std.proofs.Common.{◌≡◌, ◌⊎◌, inl, inr, ⊎_elim, ℕ, List, nat_lt, if◌then◌else◌, ap, ◌∙◌, subst, arith}
-use Rattle.disk_model.specs.Frames.{asked}
-use Rattle.disk_model.specs.declared.store.Store.{Ghosts}
-use Rattle.editor_state.specs.Core.{Core}
-use Rattle.editor_state.specs.Left.{LeavesForeign}
-use Rattle.editor_state.specs.Studios.{studio_of}
-use Rattle.studio_seats.specs.declared.deed.Deed.{Deed}
-use Rattle.studio_seats.specs.Deeds.{entries_of}
-use Rattle.studio_seats.specs.Leads.{DeedsAsk, chain_asks}
-use Rattle.studio_seats.specs.Stands.{AreTold, Chain}
+use Rattle.disk_model.specs.{Frames.asked, declared.store.Store.Ghosts}
+use Rattle.editor_state.specs.{Core.Core, Left.LeavesForeign, Studios.studio_of}
+use Rattle.studio_seats.specs.{declared.deed.Deed.Deed, Deeds.entries_of, Leads.DeedsAsk, Leads.chain_asks}
+use Rattle.studio_seats.specs.{Stands.AreTold, Stands.Chain}
 use Rattle.desk_session.specs.Lent.{Kinds}
-use Rattle.memory_project.specs.Fresh.{IsFresh}
-use Rattle.memory_project.specs.declared.fresh.FreshProject.{FreshProject}
-use Rattle.script_session.specs.Change.{change}
-use Rattle.script_text.specs.declared.call_fault.CallFault.TheVariants as call
-use Rattle.session_run.specs.declared.ending.Done.{Done}
-use Rattle.session_run.specs.Outgrown.{Outgrows, nothing_needed, plus}
+use Rattle.memory_project.specs.{Fresh.IsFresh, declared.fresh.FreshProject.FreshProject}
+use Rattle.script_reader.specs.Change.{change}
 use Rattle.session_run.specs.Ports.{Idle, Ports, SameVault, job}
-use Rattle.session_run.specs.Refused.{IsRefused}
-use Rattle.session_run.specs.Runs.{RunsOpened, RunsTo, Wants}
-use Rattle.session_run.specs.Streams.{Unread}
 use Rattle.session_run.specs.Tries.{Tried, faults_of, nothing, tried_project}
+use Rattle.session_run.specs.{declared.ending.Done.Done, Outgrown.Outgrows, Outgrown.nothing_needed, Outgrown.plus}
+use Rattle.session_run.specs.{Refused.IsRefused, Runs.RunsOpened, Runs.RunsTo, Runs.Wants, Streams.Unread}
 use Rattle.session_run.proofs.OutgrownLemmas.{Grows, fits}
 use Rattle.session_run.proofs.RoomLemmas.{fresh_fine, much_more, spent_by}
+use Rattle.script_text.specs.declared.call_fault.CallFault.TheVariants as call
 
 -- the project that was made is that of a script that is tried
 pub tried_at : {D : Type 0} (disk : Ghosts D) (p : FreshProject) (start : Core D) → p ≡ tried_project

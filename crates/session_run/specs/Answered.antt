@@ -1,18 +1,15 @@
 -- How the lines of a script, their answers and the entries of a run belong together. The script is the actor 0.
 use Rattle.std.specs.Prelude.{◌≡◌, ◌⊎◌, ℕ, List, [], ◌∷◌, ◌++◌, MatchBool, Result, Ok, Err}
-use Rattle.pcm_base.specs.declared.answer.Answer.{Answer}
-use Rattle.pcm_base.specs.declared.answer.Reply.{Reply}
 use Rattle.pcm_base.specs.declared.answer.Reply.TheVariants.{Pinned, Refused}
-use Rattle.pcm_base.specs.declared.command.Call.{Call}
 use Rattle.pcm_base.specs.declared.command.Call.TheVariants.{Line, LoadPin, Pin, PinLen, Unpin}
-use Rattle.pcm_base.specs.declared.command.Command.{Command}
-use Rattle.pcm_base.specs.declared.command.Command.TheVariants as command
-use Rattle.pcm_base.specs.declared.entry.Entry.{Entry}
 use Rattle.pcm_base.specs.declared.refusal.Refusal.TheVariants.{BadLine, NoMemory}
+use Rattle.pcm_base.specs.{declared.answer.Answer.Answer, declared.answer.Reply.Reply, declared.command.Call.Call}
+use Rattle.pcm_base.specs.{declared.command.Command.Command, declared.entry.Entry.Entry}
 use Rattle.script_text.specs.Grammar.{is_silent, line_of}
 use Rattle.pin_turn.specs.Counts.{Each}
 use Rattle.studio_seats.specs.Desks.{spent}
 use Rattle.session_run.specs.Entries.{entries_by, last_number}
+use Rattle.pcm_base.specs.declared.command.Command.TheVariants as command
 
 -- A line without an entry is answered NoMemory, as memory was wanting before its turn. Otherwise it is out of the grammar
 -- and answered BadLine, or it found no turn left.

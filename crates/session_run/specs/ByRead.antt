@@ -5,21 +5,14 @@ use Rattle.pcm_base.specs.Run.{Run}
 use Rattle.disk_model.specs.declared.store.Store.{Ghosts}
 use Rattle.pin_turn.specs.Counts.{Each}
 use Rattle.project_journal.specs.Gate.{EachNow, EachSince}
-use Rattle.record_body.specs.Kept.{Keeps}
-use Rattle.editor_state.specs.Core.{Core}
-use Rattle.editor_state.specs.Events.{KeepsPrefix}
-use Rattle.editor_state.specs.Studios.{IsHeld, shown, studio_of}
+use Rattle.record_body.specs.Saved.{Keeps}
+use Rattle.editor_state.specs.{Core.Core, Events.KeepsPrefix, Studios.IsHeld, Studios.shown, Studios.studio_of}
 use Rattle.editor_recovery.specs.Honest.{IsHonest}
-use Rattle.studio_seats.specs.declared.deed.Deed.{Deed}
-use Rattle.studio_seats.specs.Deeds.{entries_of}
-use Rattle.studio_seats.specs.Imports.{AreReadAs, IsReadable}
-use Rattle.studio_seats.specs.Leads.{IsUnharmed, StopsInFlight}
-use Rattle.script_session.specs.Change.{Change, change}
+use Rattle.studio_seats.specs.{declared.deed.Deed.Deed, Deeds.entries_of, Imports.AreReadAs, Imports.IsReadable}
+use Rattle.studio_seats.specs.{Leads.IsUnharmed, Leads.StopsInFlight}
+use Rattle.script_reader.specs.Change.{Change, change}
 use Rattle.desk_session.specs.Lent.{Kinds}
-use Rattle.session_run.specs.Entries.{pieces_apart}
-use Rattle.session_run.specs.Opening.{OpensTo}
-use Rattle.session_run.specs.Ports.{Job}
-use Rattle.session_run.specs.Runs.{RunsOn}
+use Rattle.session_run.specs.{Entries.pieces_apart, Opening.OpensTo, Ports.Job, Runs.RunsOn}
 
 -- With the sounds that their imports read, the deeds are ONE RUN of the plain array editor, piece by piece too. And
 -- WHEREVER THE DISK STOPS, each image that it could not leave before has the project after some of the first of them,

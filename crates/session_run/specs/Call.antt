@@ -1,32 +1,22 @@
 -- What the call of the program does.
-use Rattle.std.specs.Prelude.{◌≡◌, ◌⊎◌, ℕ, ◌||◌, Bool, true, IsTrue, List, Option, Some, None, if◌then◌else◌}
-use Rattle.std.specs.Prelude.{nat_lt}
+use Rattle.std.specs.Prelude.{◌≡◌, ◌⊎◌, ℕ, ◌||◌, Bool, true, IsTrue, List, Option, Some, None, if◌then◌else◌, nat_lt}
 use Rattle.disk_model.specs.declared.store.Store.{Ghosts}
-use Rattle.edit_ports.specs.declared.sink.Sink as sink
-use Rattle.edit_ports.specs.declared.source.Source as source
-use Rattle.pcm_base.specs.Causes.{Rose}
-use Rattle.pcm_base.specs.Studio.{fault_sum}
-use Rattle.call_words.specs.declared.asked.Words.{Words}
-use Rattle.call_words.specs.declared.asked.Words.TheVariants as words
-use Rattle.call_words.specs.Words.{is_new, words_of}
-use Rattle.call_words.specs.Texts.{Text}
+use Rattle.pcm_base.specs.{Causes.Rose, Studio.fault_sum}
+use Rattle.call_words.specs.{declared.asked.Words.Words, Words.is_new, Words.words_of, Texts.Text}
 use Rattle.script_text.specs.declared.call_fault.CallFault.{CallFault}
-use Rattle.script_text.specs.declared.call_fault.CallFault.TheVariants as call
 use Rattle.editor_recovery.specs.Honest.{IsHonest}
-use Rattle.script_session.specs.Change.{change}
+use Rattle.script_reader.specs.Change.{change}
 use Rattle.studio_seats.specs.Stands.{AllTell}
 use Rattle.desk_session.specs.Lent.{Kinds, kinds}
-use Rattle.session_run.specs.declared.counts.FaultCounts.{FaultCounts}
-use Rattle.session_run.specs.declared.ending.Done.{Done}
-use Rattle.session_run.specs.declared.ending.Ending.{Ending}
-use Rattle.session_run.specs.Generates.{Generates}
 use Rattle.session_run.specs.Ports.{Handed, Idle, Ports, SameVault, job}
-use Rattle.session_run.specs.Projects.{Checks, Lists, Makes}
-use Rattle.session_run.specs.Refused.{IsRefused}
-use Rattle.session_run.specs.Runs.{Runs}
-use Rattle.session_run.specs.Promise.{Met, Promise}
 use Rattle.session_run.specs.Streams.{Streams, Unread, input, output}
-use Rattle.session_run.specs.Tries.{Tries}
+use Rattle.session_run.specs.{declared.counts.FaultCounts.FaultCounts, declared.ending.Done.Done}
+use Rattle.session_run.specs.{declared.ending.Ending.Ending, Generates.Generates, Projects.Checks, Projects.Lists}
+use Rattle.session_run.specs.{Projects.Makes, Refused.IsRefused, Runs.Runs, Promise.Met, Promise.Promise, Tries.Tries}
+use Rattle.edit_ports.specs.declared.sink.Sink as sink
+use Rattle.edit_ports.specs.declared.source.Source as source
+use Rattle.call_words.specs.declared.asked.Words.TheVariants as words
+use Rattle.script_text.specs.declared.call_fault.CallFault.TheVariants as call
 
 -- nothing was opened, and the store comes back as it was
 abbrev pub Turns : {D : Type 0} → CallFault → D → Streams → Done D → Type 0

@@ -1,13 +1,10 @@
 -- Entries of a run, by who made them, and the numbers of their commits.
 use Rattle.std.specs.Prelude.{ℕ, ◌+◌, ◌==◌, if◌then◌else◌, Bool, List, [], ◌∷◌, ◌++◌}
-use Rattle.pcm_base.specs.declared.command.Call.{Call}
-use Rattle.pcm_base.specs.declared.command.Call.TheVariants as call
-use Rattle.pcm_base.specs.declared.entry.Entry.{Entry}
-use Rattle.pcm_base.specs.Arithmetic.{counted_from}
-use Rattle.pcm_base.specs.Counters.{commits_of}
-use Rattle.pcm_base.specs.Recordings.{pieces_of}
+use Rattle.pcm_base.specs.{declared.command.Call.Call, declared.entry.Entry.Entry, Arithmetic.counted_from}
+use Rattle.pcm_base.specs.{Counters.commits_of, Recordings.pieces_of}
 use Rattle.model_laws.specs.Laws.{pieces_done}
-use Rattle.script_session.specs.Session.{is_refusal}
+use Rattle.script_reader.specs.Answering.{is_refusal}
+use Rattle.pcm_base.specs.declared.command.Call.TheVariants as call
 
 -- how many commits an entry made: none if it was refused, else those of its call
 abbrev pub commits_in : Entry → ℕ

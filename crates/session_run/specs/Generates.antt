@@ -2,12 +2,10 @@
 use Rattle.std.specs.Prelude.{◌⊎◌, ℕ}
 use Rattle.disk_model.specs.declared.store.Store.{Ghosts}
 use Rattle.memory_project.specs.Sums.{RanScript}
+use Rattle.script_text.specs.{declared.summary.Summary.Summary, Summary.summary_text}
+use Rattle.session_run.specs.{declared.ending.Done.Done, Refused.IsDone, Refused.IsRefused, Streams.Prints}
+use Rattle.session_run.specs.{Streams.Streams}
 use Rattle.script_text.specs.declared.call_fault.CallFault.TheVariants as call
-use Rattle.script_text.specs.declared.summary.Summary.{Summary}
-use Rattle.script_text.specs.Summary.{summary_text}
-use Rattle.session_run.specs.declared.ending.Done.{Done}
-use Rattle.session_run.specs.Refused.{IsDone, IsRefused}
-use Rattle.session_run.specs.Streams.{Prints, Streams}
 
 -- the number of a script, and how many lines it has
 pub record Numbered : Type 0 where

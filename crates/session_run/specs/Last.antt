@@ -1,21 +1,18 @@
 -- What is told of a session at its end.
 use Rattle.std.specs.Prelude.{◌≡◌, ℕ, if◌then◌else◌, Bool, true, false, List, length, Option, Some, None}
 use Rattle.pcm_base.specs.declared.refusal.Refusal.{Refusal}
-use Rattle.recorder_work.specs.declared.microphone.MicEnd.{MicEnd}
-use Rattle.recorder_work.specs.declared.microphone.MicEnd.TheVariants as mic
-use Rattle.script_session.specs.declared.stop.Stop.{Stop}
-use Rattle.script_session.specs.declared.stop.Stop.TheVariants as stop
-use Rattle.script_text.specs.declared.last.PlayEnd.{PlayEnd}
-use Rattle.script_text.specs.declared.last.PlayEnd.TheVariants as play
-use Rattle.script_text.specs.declared.last.PlayLine.{PlayLine}
-use Rattle.script_text.specs.declared.last.RecordEnd.{RecordEnd}
-use Rattle.script_text.specs.declared.last.RecordEnd.TheVariants as rec
-use Rattle.script_text.specs.declared.last.RecordLine.{RecordLine}
-use Rattle.desk_session.specs.declared.side.Side.{Side}
-use Rattle.desk_session.specs.declared.side.Side.TheVariants as side
-use Rattle.desk_session.specs.declared.told.Heard.{Heard}
-use Rattle.desk_session.specs.declared.told.Kept.{Kept}
+use Rattle.recorder_threads.specs.declared.microphone.MicEnd.{MicEnd}
+use Rattle.script_reader.specs.declared.stop.Stop.{Stop}
+use Rattle.script_text.specs.{declared.last.PlayEnd.PlayEnd, declared.last.PlayLine.PlayLine}
+use Rattle.script_text.specs.{declared.last.RecordEnd.RecordEnd, declared.last.RecordLine.RecordLine}
+use Rattle.desk_session.specs.{declared.side.Side.Side, declared.outcome.PlayOutcome.PlayOutcome}
+use Rattle.desk_session.specs.{declared.outcome.RecordOutcome.RecordOutcome}
 use Rattle.session_run.specs.Streams.{Output, PrintsFrom}
+use Rattle.recorder_threads.specs.declared.microphone.MicEnd.TheVariants as mic
+use Rattle.script_reader.specs.declared.stop.Stop.TheVariants as stop
+use Rattle.script_text.specs.declared.last.PlayEnd.TheVariants as play
+use Rattle.script_text.specs.declared.last.RecordEnd.TheVariants as rec
+use Rattle.desk_session.specs.declared.side.Side.TheVariants as side
 
 abbrev pub mic_end : MicEnd → RecordEnd
 mic_end mic.End = rec.Whole
@@ -31,9 +28,9 @@ abbrev pub play_end : Option Refusal → Bool → PlayEnd
 play_end (Some reason) fault = play.Refused reason
 play_end None fault = if fault then play.Fault else play.Whole
 
-abbrev pub kept_line : ℕ → Option Kept → Option RecordLine
-kept_line track None = None
-kept_line track (Some kept) = Some (record {
+abbrev pub record_line_of : ℕ → Option RecordOutcome → Option RecordLine
+record_line_of track None = None
+record_line_of track (Some kept) = Some (record {
   track = track;
   pieces = length kept.numbers;
   samples = kept.samples;
@@ -41,17 +38,17 @@ kept_line track (Some kept) = Some (record {
 })
 
 -- the line of a recording, where one was asked for: without its track it has none
-abbrev pub record_line : ℕ → Side → Option Kept → Option RecordLine
+abbrev pub record_line : ℕ → Side → Option RecordOutcome → Option RecordLine
 record_line track side.NotAsked kept = None
-record_line track (side.Made tag) kept = kept_line track kept
+record_line track (side.Made tag) kept = record_line_of track kept
 record_line track (side.Refused why) kept = Some (record { track = 0; pieces = 0; samples = 0; end = rec.Refused why })
 
-abbrev pub heard_line : Option Heard → Option PlayLine
+abbrev pub heard_line : Option PlayOutcome → Option PlayLine
 heard_line None = None
 heard_line (Some heard) = Some (record { frames = heard.frames; end = play_end heard.refused heard.fault })
 
 -- the line of a playback, where one was asked for
-abbrev pub play_line : Side → Option Heard → Option PlayLine
+abbrev pub play_line : Side → Option PlayOutcome → Option PlayLine
 play_line side.NotAsked heard = None
 play_line (side.Made pin) heard = heard_line heard
 play_line (side.Refused why) heard = Some (record { frames = 0; end = play.Refused why })
@@ -82,11 +79,11 @@ is_mic_fault mic.Fault = true
 is_mic_fault mic.Limit = false
 
 -- whether the microphone failed, and whether the speaker did
-abbrev pub mic_failed : Option Kept → Bool
+abbrev pub mic_failed : Option RecordOutcome → Bool
 mic_failed None = false
 mic_failed (Some kept) = is_mic_fault kept.end
 
-abbrev pub speaker_failed : Option Heard → Bool
+abbrev pub speaker_failed : Option PlayOutcome → Bool
 speaker_failed None = false
 speaker_failed (Some heard) = heard.fault
 

@@ -1,18 +1,11 @@
 -- A project that was opened, or was not.
-use Rattle.std.specs.Prelude.{◌≡◌, IsTrue, Ok}
-use Rattle.disk_model.specs.Disk.{StaysStep}
-use Rattle.disk_model.specs.Frames.{Changed}
-use Rattle.disk_model.specs.declared.store.Store.{Ghosts}
+use Rattle.std.specs.Prelude.{◌≡◌, IsTrue, Ok, Result}
+use Rattle.disk_model.specs.{Disk.StaysStep, Frames.Changed, declared.store.Store.Ghosts}
 use Rattle.project_journal.specs.Gate.{EachNow}
-use Rattle.record_body.specs.Kept.{Keeps}
-use Rattle.editor_state.specs.Core.{Core}
-use Rattle.editor_state.specs.Studios.{IsHeld, IsStudio, shown, studio_of}
-use Rattle.editor_recovery.specs.declared.fault.OpenFault.{OpenFault}
-use Rattle.editor_recovery.specs.Causes.{Causes}
-use Rattle.editor_recovery.specs.Found.{Found, IsNew, found_by}
-use Rattle.editor_recovery.specs.Honest.{IsHonest, OpensHonest}
-use Rattle.editor_recovery.specs.Opening.{Opens}
-use Rattle.std.specs.Prelude.{Result}
+use Rattle.record_body.specs.Saved.{Keeps}
+use Rattle.editor_state.specs.{Core.Core, Studios.IsHeld, Studios.IsStudio, Studios.shown, Studios.studio_of}
+use Rattle.editor_recovery.specs.{declared.fault.OpenFault.OpenFault, Causes.Causes, Found.Found, Found.IsNew}
+use Rattle.editor_recovery.specs.{Found.found_by, Honest.IsHonest, Honest.OpensHonest, Opening.Opens}
 
 -- What an opening does to a store, whatever it answers: it writes nothing, and each image at any moment of it is one
 -- that the store could already leave.

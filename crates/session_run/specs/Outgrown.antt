@@ -1,16 +1,10 @@
 -- What a run asks of a disk in memory, by the model's bounds, and where that is more than its room.
 use Rattle.std.specs.Prelude.{◌≡◌, ◌⊎◌, ℕ, ◌+◌, ◌*◌, ◌<◌, ◌≤◌, Bool, true, false, List, [], ◌∷◌, ◌++◌, Result, Ok, Err}
-use Rattle.pcm_base.specs.declared.answer.Reply.{Reply}
-use Rattle.pcm_base.specs.declared.command.Call.{Call}
-use Rattle.pcm_base.specs.declared.command.Call.TheVariants.{Line}
-use Rattle.pcm_base.specs.declared.command.Command.TheVariants.{Compact}
-use Rattle.pcm_base.specs.declared.entry.Entry.{Entry}
-use Rattle.pcm_base.specs.declared.refusal.Refusal.{Refusal}
-use Rattle.pcm_base.specs.Counters.{Needs, places_of}
-use Rattle.pcm_base.specs.Run.{Step, outside, result_of}
-use Rattle.pcm_base.specs.Studio.{Studio}
-use Rattle.editor_state.specs.Exchanges.{may_begin}
-use Rattle.editor_state.specs.Packing.{packed_most, packs}
+use Rattle.pcm_base.specs.{declared.answer.Reply.Reply, declared.command.Call.Call}
+use Rattle.pcm_base.specs.{declared.command.Call.TheVariants.Line, declared.command.Command.TheVariants.Compact}
+use Rattle.pcm_base.specs.{declared.entry.Entry.Entry, declared.refusal.Refusal.Refusal, Counters.Needs}
+use Rattle.pcm_base.specs.{Counters.places_of, Run.Step, Run.outside, Run.result_of, Studio.Studio}
+use Rattle.editor_state.specs.{Exchanges.may_begin, Packing.packed_most, Packing.packs}
 use Rattle.memory_project.specs.declared.fresh.FreshProject.{FreshProject}
 
 -- What calls need in all: how many they are, the ids of blocks with the journals that are put into one header, and the

@@ -1,11 +1,10 @@
 -- What a call is handed.
 use Rattle.std.specs.Prelude.{◌≡◌, ℕ, List, Option}
-use Rattle.script_session.specs.Change.{Change, change}
+use Rattle.script_reader.specs.Change.{Change, change}
+use Rattle.desk_session.specs.{declared.devices.Devices.Devices, declared.opening.Beside.Beside, Lent.Lent}
+use Rattle.session_run.specs.Streams.{Streams, streams}
 use Rattle.edit_ports.specs.declared.sink.Sink as sink
 use Rattle.edit_ports.specs.declared.source.Source as source
-use Rattle.desk_session.specs.declared.opening.Beside.{Beside}
-use Rattle.desk_session.specs.Lent.{Lent}
-use Rattle.session_run.specs.Streams.{Streams, streams}
 
 -- Besides its store, before and after: the vault, the microphone, the speaker and the streams.
 pub record Ports (V M P : Type 0) : Type 0 where
@@ -25,6 +24,17 @@ abbrev pub handed : {A O D V M P : Type 0} → source.Ghosts A → sink.Ghosts O
 handed sources sinks script out store sounds mic speaker = record {
   store = store;
   ports = record { vault = sounds; mic = mic; speaker = speaker; streams = streams sources sinks script out };
+}
+
+-- the ports of a call, by its devices
+abbrev pub ports_of : {V A O M P G : Type 0} → source.Ghosts A → sink.Ghosts O → Change (Devices V A O M P G)
+    → Ports V M P
+ports_of sources sinks d = record {
+  vault = change d.before.vault.now d.now.vault.now;
+  mic = change d.before.mic.now d.now.mic.now;
+  speaker = change d.before.speaker.now d.now.speaker.now;
+  streams = streams sources sinks (change d.before.streams.script.now d.now.streams.script.now)
+      (change d.before.streams.out.now d.now.streams.out.now);
 }
 
 -- with what a script is run, and what is asked for beside it

@@ -1,30 +1,19 @@
 -- Projects made, listed and checked.
 use Rattle.std.specs.Prelude.{◌≡◌, ◌⊎◌, ℕ, IsTrue, true, List, [], length, map, Result, Err, MatchResult, OnOk, None}
-use Rattle.pcm_base.specs.declared.sound.TrackLine.{TrackLine}
-use Rattle.pcm_base.specs.State.{current}
-use Rattle.pcm_base.specs.Step.{line_of_track}
-use Rattle.disk_model.specs.Disk.{SameElsewhere}
-use Rattle.disk_model.specs.Frames.{Changed}
-use Rattle.disk_model.specs.declared.store.Store.{Ghosts}
-use Rattle.project_journal.specs.Gate.{EachNow, EachSince, IsDurable}
-use Rattle.project_journal.specs.Rooms.{create_room}
-use Rattle.record_body.specs.Kept.{Keeps}
+use Rattle.pcm_base.specs.{declared.sound.TrackLine.TrackLine, State.current, Step.line_of_track}
+use Rattle.disk_model.specs.{Disk.SameElsewhere, Frames.Changed, declared.store.Store.Ghosts}
+use Rattle.project_journal.specs.{Gate.EachNow, Gate.EachSince, Gate.IsDurable, Rooms.create_room}
+use Rattle.record_body.specs.Saved.{Keeps}
 use Rattle.call_words.specs.declared.asked.NewProject.{NewProject}
-use Rattle.editor_state.specs.Core.{Core}
-use Rattle.editor_state.specs.Studios.{IsHeld, studio_of}
-use Rattle.editor_recovery.specs.declared.fault.OpenFault.{OpenFault}
-use Rattle.editor_recovery.specs.Causes.{Causes}
-use Rattle.editor_recovery.specs.Checking.{ChecksStudio}
+use Rattle.editor_state.specs.{Core.Core, Studios.IsHeld, Studios.studio_of}
 use Rattle.editor_recovery.specs.Creating.{Creates, LeavesRefused, new_opened}
-use Rattle.editor_recovery.specs.Honest.{IsHonest}
-use Rattle.editor_recovery.specs.Standing.{HasNone}
-use Rattle.script_text.specs.declared.call_fault.CallFault.TheVariants as call
+use Rattle.editor_recovery.specs.{declared.fault.OpenFault.OpenFault, Causes.Causes, Checking.ChecksStudio}
+use Rattle.editor_recovery.specs.{Honest.IsHonest, Standing.HasNone}
 use Rattle.script_text.specs.declared.project.ProjectLines.{ProjectLines}
 use Rattle.script_text.specs.Project.{checked_text, made_text, project_text}
-use Rattle.session_run.specs.declared.ending.Done.{Done}
-use Rattle.session_run.specs.Opening.{Looks, OpensTo}
-use Rattle.session_run.specs.Refused.{IsDone, IsRefused, call_fault_of}
-use Rattle.session_run.specs.Streams.{Prints, Streams}
+use Rattle.session_run.specs.{declared.ending.Done.Done, Opening.Looks, Opening.OpensTo, Refused.IsDone}
+use Rattle.session_run.specs.{Refused.IsRefused, Refused.call_fault_of, Streams.Prints, Streams.Streams}
+use Rattle.script_text.specs.declared.call_fault.CallFault.TheVariants as call
 
 -- What making a project does to a store.
 pub record Created {D : Type 0} (disk : Ghosts D) (project : NewProject) (old new : D)

@@ -11,52 +11,34 @@
 -- DiskFault. `preceded read left`: the bytes read, and then those that are left. `BreaksOff`: all answers but the last,
 -- and a part of that one. `Rose before now`: a count of faults rose, or stands at the end of its type (2^64 - 1), where
 -- it can't.
-use Rattle.std.specs.Prelude.{◌≡◌, ◌≢◌, ◌⊎◌, ℕ, ◌<◌, ◌||◌, Bool, true, List, [], ◌∷◌, ◌++◌, length, Option}
-use Rattle.std.specs.Prelude.{Some, None, false, IsSome, IsSomeAnd, IfErr, flat_map}
-use Rattle.pcm_base.specs.declared.limits.TheConstants.{COUNTER_LIMIT}
-use Rattle.pcm_base.specs.declared.answer.Answer.{Answer}
-use Rattle.pcm_base.specs.declared.answer.Reply.TheVariants as reply
-use Rattle.pcm_base.specs.declared.command.Call.TheVariants.{Line, Pin}
-use Rattle.pcm_base.specs.declared.command.Command.TheVariants.{Track}
-use Rattle.pcm_base.specs.declared.entry.Entry.{Entry}
-use Rattle.pcm_base.specs.Causes.{Rose}
-use Rattle.pcm_base.specs.Outside.{Sounds}
-use Rattle.pcm_base.specs.Run.{Run, result_of}
-use Rattle.pcm_base.specs.Studio.{Studio, fault_sum}
+use Rattle.std.specs.Prelude.{◌≡◌, ◌≢◌, ◌⊎◌, ℕ, ◌<◌, ◌||◌, Bool, true, List, [], ◌∷◌, ◌++◌, length, Option, Some, None}
+use Rattle.std.specs.Prelude.{false, IsSome, IsSomeAnd, IfErr, flat_map}
+use Rattle.pcm_base.specs.{declared.limits.TheConstants.COUNTER_LIMIT, declared.answer.Answer.Answer}
+use Rattle.pcm_base.specs.{declared.command.Call.TheVariants.Line, declared.command.Call.TheVariants.Pin}
+use Rattle.pcm_base.specs.{declared.command.Command.TheVariants.Track, declared.entry.Entry.Entry, Causes.Rose}
+use Rattle.pcm_base.specs.{Outside.Sounds, Run.Run, Run.result_of, Studio.Studio, Studio.fault_sum}
 use Rattle.disk_model.specs.declared.store.Store.{Ghosts}
 use Rattle.edit_ports.specs.Told.{preceded}
 use Rattle.pin_turn.specs.Counts.{Each}
 use Rattle.project_journal.specs.Gate.{EachNow, EachSince}
-use Rattle.record_body.specs.Kept.{Keeps}
-use Rattle.script_text.specs.declared.last.PlayEnd.TheVariants as play
-use Rattle.script_text.specs.declared.last.PlayLine.{PlayLine}
-use Rattle.script_text.specs.declared.last.RecordEnd.TheVariants as rec
-use Rattle.script_text.specs.declared.last.RecordLine.{RecordLine}
-use Rattle.script_text.specs.Last.{last_text}
-use Rattle.script_text.specs.Text.{text_of}
-use Rattle.editor_state.specs.Core.{Core}
-use Rattle.editor_state.specs.Events.{KeepsPrefix}
-use Rattle.editor_state.specs.Left.{LeavesForeign}
+use Rattle.record_body.specs.Saved.{Keeps}
+use Rattle.script_text.specs.{declared.last.PlayLine.PlayLine, declared.last.RecordLine.RecordLine, Last.last_text}
+use Rattle.script_text.specs.{Text.text_of}
 use Rattle.editor_state.specs.Studios.{IsHeld, shown, studio_of}
-use Rattle.studio_seats.specs.Desks.{spent}
-use Rattle.studio_seats.specs.Faults.{AreServed, IsCalm}
-use Rattle.studio_seats.specs.Leads.{IsUnharmed, StopsInFlight}
-use Rattle.studio_seats.specs.Pins.{pin_frames}
-use Rattle.script_session.specs.declared.stop.Stop.{Stop}
-use Rattle.script_session.specs.declared.stop.Stop.TheVariants as stop
-use Rattle.script_session.specs.Change.{Change, change}
-use Rattle.script_session.specs.Progress.{BreaksOff, IsCut}
-use Rattle.script_session.specs.Served.{IsOfNoDevice}
-use Rattle.script_session.specs.Session.{is_refusal}
-use Rattle.script_session.specs.Spent.{TellSpent}
-use Rattle.desk_session.specs.declared.side.Side.{Side}
-use Rattle.desk_session.specs.Sides.{is_asked, side_number}
-use Rattle.session_run.specs.Answered.{Answered}
+use Rattle.editor_state.specs.{Core.Core, Events.KeepsPrefix, Left.LeavesForeign}
+use Rattle.studio_seats.specs.{Desks.spent, Faults.AreServed, Faults.IsCalm, Leads.IsUnharmed, Leads.StopsInFlight}
+use Rattle.studio_seats.specs.{Pins.pin_frames}
+use Rattle.script_reader.specs.{declared.stop.Stop.Stop, Change.Change, Change.change, Progress.BreaksOff}
+use Rattle.script_reader.specs.{Progress.IsCut, Served.IsOfNoDevice, Answering.is_refusal, Spent.TellSpent}
+use Rattle.desk_session.specs.{declared.side.Side.Side, Sides.is_asked, Sides.side_number}
 use Rattle.session_run.specs.Entries.{entries_by, is_by, last_number, numbers_by, pieces_apart}
-use Rattle.session_run.specs.Opening.{OpensTo}
-use Rattle.session_run.specs.VaultSounds.{SoundsFollow}
 use Rattle.session_run.specs.Sides.{MakesSide, PlaysSide, RecordsSide}
 use Rattle.session_run.specs.Streams.{Input, Output, PrintsFrom, PrintsThen}
+use Rattle.session_run.specs.{Answered.Answered, Opening.OpensTo, VaultSounds.SoundsFollow}
+use Rattle.pcm_base.specs.declared.answer.Reply.TheVariants as reply
+use Rattle.script_text.specs.declared.last.PlayEnd.TheVariants as play
+use Rattle.script_text.specs.declared.last.RecordEnd.TheVariants as rec
+use Rattle.script_reader.specs.declared.stop.Stop.TheVariants as stop
 
 -- What a call met and what it left, as the types of its devices report them, whether a recording and a playback were
 -- asked for, and the exit status and the numbers of its Ending. Of a device `left` are the bytes that were not yet

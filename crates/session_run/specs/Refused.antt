@@ -1,12 +1,10 @@
 -- A call that is refused as a whole, and what is printed.
 use Rattle.std.specs.Prelude.{◌≡◌, ℕ, [], false, None}
 use Rattle.editor_recovery.specs.declared.fault.OpenFault.{OpenFault}
+use Rattle.script_text.specs.{declared.call_fault.CallFault.CallFault, CallFault.refused_text}
+use Rattle.session_run.specs.{declared.ending.Done.Done, Streams.Prints, Streams.Streams}
 use Rattle.editor_recovery.specs.declared.fault.OpenFault.TheVariants as fault
-use Rattle.script_text.specs.declared.call_fault.CallFault.{CallFault}
 use Rattle.script_text.specs.declared.call_fault.CallFault.TheVariants as call
-use Rattle.script_text.specs.CallFault.{refused_text}
-use Rattle.session_run.specs.declared.ending.Done.{Done}
-use Rattle.session_run.specs.Streams.{Prints, Streams}
 
 abbrev pub call_fault_of : OpenFault → CallFault
 call_fault_of fault.Absent = call.Absent

@@ -2,21 +2,15 @@
 use Rattle.std.specs.Prelude.{◌≡◌, ◌⊎◌, ℕ, ◌||◌, true, List, Option, Err}
 use Rattle.editor_state.specs.Core.{Core}
 use Rattle.editor_recovery.specs.declared.fault.OpenFault.{OpenFault}
-use Rattle.script_text.specs.declared.call_fault.CallFault.TheVariants as call
 use Rattle.script_text.specs.Last.{last_text}
-use Rattle.script_session.specs.Change.{Change, change}
-use Rattle.script_session.specs.Progress.{IsCauseOf}
-use Rattle.desk_session.specs.Lent.{Kinds, Outcome}
-use Rattle.desk_session.specs.Sessions.{IsSession}
-use Rattle.desk_session.specs.Sides.{is_asked, side_number}
-use Rattle.desk_session.specs.Sounds.{piece_numbers}
-use Rattle.session_run.specs.declared.ending.Done.{Done}
-use Rattle.session_run.specs.Last.{WritesEnd, mic_failed, play_line, play_refused, record_line}
-use Rattle.session_run.specs.Last.{record_refused, speaker_failed, status_of}
-use Rattle.session_run.specs.Opening.{Looks, OpensTo}
-use Rattle.session_run.specs.Ports.{Idle, Job, Ports, SameVault, lent_of}
-use Rattle.session_run.specs.Refused.{IsRefused, call_fault_of}
-use Rattle.session_run.specs.Streams.{Unread}
+use Rattle.script_reader.specs.{Change.Change, Change.change, Progress.IsCauseOf}
+use Rattle.desk_session.specs.{Lent.Kinds, Lent.Outcome, Sessions.IsSession, Sides.is_asked, Sides.side_number}
+use Rattle.desk_session.specs.{Sounds.piece_numbers}
+use Rattle.session_run.specs.{declared.ending.Done.Done, Last.WritesEnd, Last.mic_failed, Last.play_line}
+use Rattle.session_run.specs.{Last.play_refused, Last.record_line, Last.record_refused, Last.speaker_failed}
+use Rattle.session_run.specs.{Last.status_of, Opening.Looks, Opening.OpensTo, Ports.Idle, Ports.Job, Ports.Ports}
+use Rattle.session_run.specs.{Ports.SameVault, Ports.lent_of, Refused.IsRefused, Refused.call_fault_of, Streams.Unread}
+use Rattle.script_text.specs.declared.call_fault.CallFault.TheVariants as call
 
 -- A session took a studio from `start` to `final`: a script, and beside it what was asked for. Its answers and the last
 -- lines were written.

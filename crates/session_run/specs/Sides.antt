@@ -1,33 +1,25 @@
 -- What was made for a recording or a playback before the script, and how each ends.
-use Rattle.std.specs.Prelude.{◌≡◌, ◌⊎◌, ℕ, ◌+◌, ◌*◌, ◌<◌, ◌≤◌, ◌^◌, ◌/◌, ℤ, false, List, [], ◌∷◌, ◌++◌, length}
-use Rattle.std.specs.Prelude.{take, Option, Some, None, sum_by, true}
+use Rattle.std.specs.Prelude.{◌≡◌, ◌⊎◌, ℕ, ◌+◌, ◌*◌, ◌<◌, ◌≤◌, ◌^◌, ◌/◌, ℤ, false, List, [], ◌∷◌, ◌++◌, length, take}
+use Rattle.std.specs.Prelude.{Option, Some, None, sum_by, true}
 use Rattle.std.specs.Io.KnownBytes.{IsAtEnd}
-use Rattle.pcm_base.specs.declared.answer.Reply.{Reply}
-use Rattle.pcm_base.specs.declared.answer.Reply.TheVariants as reply
-use Rattle.pcm_base.specs.declared.command.Call.{Call}
 use Rattle.pcm_base.specs.declared.command.Call.TheVariants.{Piece, ReadPin, Unpin}
-use Rattle.pcm_base.specs.declared.entry.Entry.{Entry}
-use Rattle.pcm_base.specs.declared.refusal.Refusal.{Refusal}
-use Rattle.pcm_base.specs.declared.refusal.Refusal.TheVariants.{NoMemory}
-use Rattle.pcm_base.specs.declared.sound.Frame.{Frame}
-use Rattle.pcm_base.specs.Causes.{Rose}
-use Rattle.pcm_base.specs.Recordings as recordings
-use Rattle.pcm_base.specs.Recordings.{chunks_of, frame_bytes}
+use Rattle.pcm_base.specs.{declared.answer.Reply.Reply, declared.command.Call.Call, declared.entry.Entry.Entry}
+use Rattle.pcm_base.specs.{declared.refusal.Refusal.Refusal, declared.refusal.Refusal.TheVariants.NoMemory}
+use Rattle.pcm_base.specs.{declared.sound.Frame.Frame, Causes.Rose, Recordings.chunks_of, Recordings.frame_bytes}
 use Rattle.edit_ports.specs.Told.{grown, preceded}
 use Rattle.pin_turn.specs.Counts.{Each}
-use Rattle.script_session.specs.Session.{is_refusal}
-use Rattle.script_text.specs.declared.last.PlayEnd.{PlayEnd}
-use Rattle.script_text.specs.declared.last.PlayEnd.TheVariants as play
-use Rattle.script_text.specs.declared.last.PlayLine.{PlayLine}
-use Rattle.script_text.specs.declared.last.RecordEnd.{RecordEnd}
-use Rattle.script_text.specs.declared.last.RecordEnd.TheVariants as rec
-use Rattle.script_text.specs.declared.last.RecordLine.{RecordLine}
-use Rattle.studio_seats.specs.Desks.{spent}
+use Rattle.script_reader.specs.Answering.{is_refusal}
+use Rattle.script_text.specs.{declared.last.PlayEnd.PlayEnd, declared.last.PlayLine.PlayLine}
+use Rattle.script_text.specs.{declared.last.RecordEnd.RecordEnd, declared.last.RecordLine.RecordLine}
 use Rattle.studio_seats.specs.Freeing.{AreFreed, IsFullReclaim, makes_piece, pieces_of, unfreed}
-use Rattle.studio_seats.specs.Reads.{IsAsked}
+use Rattle.studio_seats.specs.{Desks.spent, Reads.IsAsked}
 use Rattle.desk_session.specs.declared.side.Side.{Side}
 use Rattle.desk_session.specs.declared.side.Side.TheVariants.{Made, NotAsked, Refused}
 use Rattle.session_run.specs.Streams.{Input, IsIdleInput, IsIdleOutput, Output}
+use Rattle.pcm_base.specs.declared.answer.Reply.TheVariants as reply
+use Rattle.pcm_base.specs.Recordings as recordings
+use Rattle.script_text.specs.declared.last.PlayEnd.TheVariants as play
+use Rattle.script_text.specs.declared.last.RecordEnd.TheVariants as rec
 
 -- ---- before the script
 

@@ -2,9 +2,9 @@
 use Rattle.std.specs.Prelude.{◌≡◌, ℕ, ◌≤◌, List, ◌++◌, length, take, Option}
 use Rattle.pcm_base.specs.Causes.{Rose}
 use Rattle.edit_ports.specs.Told.{Course, Open, grown}
+use Rattle.script_reader.specs.Change.{Change, change}
 use Rattle.edit_ports.specs.declared.sink.Sink as sink
 use Rattle.edit_ports.specs.declared.source.Source as source
-use Rattle.script_session.specs.Change.{Change, change}
 
 -- the bytes that a source has left, where it tells them, and its count of faults
 pub record Input : Type 0 where

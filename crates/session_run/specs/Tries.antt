@@ -1,25 +1,16 @@
 -- A script on a fresh project in memory.
 use Rattle.std.specs.Prelude.{◌≡◌, ◌⊎◌, ℕ, ◌<◌, if◌then◌else◌, nat_lt, false}
-use Rattle.disk_model.specs.Room.{Room, together}
-use Rattle.disk_model.specs.declared.store.Store.{Ghosts}
-use Rattle.desk_session.specs.declared.opening.Beside.{Beside}
-use Rattle.desk_session.specs.Lent.{Kinds}
-use Rattle.editor_state.specs.Core.{Core}
-use Rattle.editor_state.specs.Studios.{studio_of}
+use Rattle.disk_model.specs.{Room.Room, Room.together, declared.store.Store.Ghosts}
+use Rattle.desk_session.specs.{declared.opening.Beside.Beside, Lent.Kinds}
+use Rattle.editor_state.specs.{Core.Core, Studios.studio_of}
 use Rattle.memory_project.specs.declared.fresh.FreshProject.{FreshProject}
 use Rattle.memory_project.specs.Fresh.{IsFresh, made_room, room_of_project}
 use Rattle.pcm_base.specs.Studio.{fault_sum}
-use Rattle.studio_seats.specs.Deeds.{entries_of}
-use Rattle.studio_seats.specs.Leads.{chain_asks}
-use Rattle.studio_seats.specs.Stands.{AreTold}
-use Rattle.script_session.specs.Change.{change}
+use Rattle.studio_seats.specs.{Deeds.entries_of, Leads.chain_asks, Stands.AreTold}
+use Rattle.script_reader.specs.Change.{change}
+use Rattle.session_run.specs.{declared.ending.Done.Done, Outgrown.Outgrows, Ports.Idle, Ports.Ports, Ports.SameVault}
+use Rattle.session_run.specs.{Ports.job, Refused.IsRefused, Runs.RunsTo, Streams.Unread}
 use Rattle.script_text.specs.declared.call_fault.CallFault.TheVariants as call
-use Rattle.session_run.specs.declared.ending.Done.{Done}
-use Rattle.session_run.specs.Outgrown.{Outgrows}
-use Rattle.session_run.specs.Ports.{Idle, Ports, SameVault, job}
-use Rattle.session_run.specs.Refused.{IsRefused}
-use Rattle.session_run.specs.Runs.{RunsTo}
-use Rattle.session_run.specs.Streams.{Unread}
 
 -- the project of a script that is tried, with its room: 8,000 samples a second, blocks of at most 4 samples, 256 points
 abbrev pub tried_project : FreshProject

@@ -1,22 +1,13 @@
 -- What becomes of the sounds of a vault, line by line.
 use Rattle.std.specs.Prelude.{◌≡◌, ◌⊎◌, ℕ, List, [], ◌∷◌, ◌++◌, length, MatchBool, Option, Some, Result, Ok}
-use Rattle.pcm_base.specs.declared.answer.Answer.{Answer}
-use Rattle.pcm_base.specs.declared.answer.Reply.TheVariants.{Wrote}
-use Rattle.pcm_base.specs.declared.command.Call.TheVariants.{Pin}
-use Rattle.pcm_base.specs.declared.command.Command.{Command}
-use Rattle.pcm_base.specs.declared.command.Command.TheVariants as command
-use Rattle.pcm_base.specs.declared.entry.Entry.{Entry}
-use Rattle.pcm_base.specs.declared.sound.Frame.{Frame}
-use Rattle.pcm_base.specs.Mix.{mix_of}
-use Rattle.pcm_base.specs.Outside.{SameElsewhere, Sounds}
-use Rattle.pcm_base.specs.Run.{Follows, Run}
-use Rattle.pcm_base.specs.State.{current}
-use Rattle.pcm_base.specs.Studio.{Studio}
-use Rattle.pcm_base.specs.Wave.{wav_text}
+use Rattle.pcm_base.specs.{declared.answer.Answer.Answer, declared.answer.Reply.TheVariants.Wrote}
+use Rattle.pcm_base.specs.{declared.command.Call.TheVariants.Pin, declared.command.Command.Command}
+use Rattle.pcm_base.specs.{declared.entry.Entry.Entry, declared.sound.Frame.Frame, Mix.mix_of, Outside.SameElsewhere}
+use Rattle.pcm_base.specs.{Outside.Sounds, Run.Follows, Run.Run, State.current, Studio.Studio, Wave.wav_text}
 use Rattle.wav_pcm.specs.Written.{MayBegin}
 use Rattle.script_text.specs.Grammar.{is_silent, line_of}
-use Rattle.session_run.specs.Answered.{BounceEntries}
-use Rattle.session_run.specs.Entries.{entries_by}
+use Rattle.session_run.specs.{Answered.BounceEntries, Entries.entries_by}
+use Rattle.pcm_base.specs.declared.command.Command.TheVariants as command
 
 -- the sound is the file of these frames, which has this many bytes
 abbrev pub IsWholeFile : List Frame → (rate bytes : ℕ) → Option (List ℕ) → Type 0

@@ -1,6 +1,6 @@
 // The script of a number, run in memory.
 ghost use Rattle.std.specs.Prelude.{◌≡◌, ◌≤◌};
-ghost use Rattle.script_session.specs.Change.{change};
+ghost use Rattle.script_reader.specs.Change.{change};
 ghost use Rattle.session_run.specs.Generates.{Generates};
 ghost use Rattle.session_run.specs.Streams.{Streams, from_sink};
 

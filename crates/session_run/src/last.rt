@@ -1,7 +1,7 @@
 // What is told of a session at its end.
 ghost use Rattle.std.specs.Prelude.{◌≡◌, ◌||◌};
 ghost use Rattle.script_text.specs.Last.{last_text};
-ghost use Rattle.script_session.specs.Change.{change};
+ghost use Rattle.script_reader.specs.Change.{change};
 ghost use Rattle.session_run.specs.Streams.{PrintsFrom, output};
 ghost use Rattle.session_run.specs.Last.{
   WritesEnd,
@@ -17,11 +17,11 @@ ghost use Rattle.session_run.specs.Last.{
   status_of,
 };
 
-use desk_session::{Heard, Kept, Side};
+use desk_session::{PlayOutcome, RecordOutcome, Side};
 use edit_ports::Sink;
 use pcm_base::Refusal;
-use recorder_work::MicEnd;
-use script_session::Stop;
+use recorder_threads::MicEnd;
+use script_reader::Stop;
 use script_text::{PlayEnd, PlayLine, RecordEnd, RecordLine, write_last};
 
 fn mic_end(end: MicEnd) -> RecordEnd
@@ -61,7 +61,7 @@ fn play_end(refused: Option<Refusal>, fault: bool) -> PlayEnd
 }
 
 /// The line of a recording, where one was asked for.
-pub fn record_line(track: u64, recording: Side, kept: &Option<Kept>) -> Option<RecordLine>
+pub fn record_line(track: u64, recording: Side, kept: &Option<RecordOutcome>) -> Option<RecordLine>
     ensures { result ≡ record_line track recording kept.now }
 {
     match (recording, kept) {
@@ -82,7 +82,7 @@ pub fn record_line(track: u64, recording: Side, kept: &Option<Kept>) -> Option<R
 }
 
 /// The line of a playback, where one was asked for.
-pub fn play_line(pin: Side, heard: &Option<Heard>) -> Option<PlayLine>
+pub fn play_line(pin: Side, heard: &Option<PlayOutcome>) -> Option<PlayLine>
     ensures { result ≡ play_line pin heard.now }
 {
     match (pin, heard) {
@@ -99,7 +99,7 @@ pub fn play_line(pin: Side, heard: &Option<Heard>) -> Option<PlayLine>
 }
 
 /// Whether the microphone failed.
-pub fn mic_failed(kept: &Option<Kept>) -> bool
+pub fn mic_failed(kept: &Option<RecordOutcome>) -> bool
     ensures { result ≡ mic_failed kept.now }
 {
     match kept {
@@ -109,7 +109,7 @@ pub fn mic_failed(kept: &Option<Kept>) -> bool
 }
 
 /// Whether the speaker failed.
-pub fn speaker_failed(heard: &Option<Heard>) -> bool
+pub fn speaker_failed(heard: &Option<PlayOutcome>) -> bool
     ensures { result ≡ speaker_failed heard.now }
 {
     match heard {

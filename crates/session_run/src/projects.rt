@@ -3,7 +3,7 @@ ghost use Rattle.std.specs.Prelude.{◌≡◌, ◌⊎◌, None};
 ghost use Rattle.call_words.specs.Bounds.{IsNewProject};
 ghost use Rattle.editor_core.specs.Core.{core_of};
 ghost use Rattle.editor_state.specs.Studios.{IsStudio};
-ghost use Rattle.script_session.specs.Change.{change};
+ghost use Rattle.script_reader.specs.Change.{change};
 ghost use Rattle.script_text.specs.declared.call_fault.CallFault.TheVariants as call;
 ghost use Rattle.session_run.specs.Projects.{Checks, Listed, Lists, Makes};
 ghost use Rattle.session_run.specs.Refused.{IsRefused};

@@ -2,7 +2,7 @@
 ghost use Rattle.std.specs.Prelude.{◌≡◌};
 ghost use Rattle.script_text.specs.CallFault.{refused_text};
 ghost use Rattle.session_run.specs.Refused.{IsDone, call_fault_of, status_of_fault};
-ghost use Rattle.script_session.specs.Change.{change};
+ghost use Rattle.script_reader.specs.Change.{change};
 ghost use Rattle.session_run.specs.Streams.{PrintsFrom, output};
 
 use super::ending::Done;

@@ -2,8 +2,8 @@
 ghost use Rattle.std.specs.Prelude.{◌≡◌, ◌||◌, true};
 ghost use Rattle.editor_core.specs.Core.{core_of};
 ghost use Rattle.editor_state.specs.Studios.{IsStudio};
-ghost use Rattle.script_session.specs.Change.{change};
-ghost use Rattle.desk_session.specs.Lent.{kinds};
+ghost use Rattle.script_reader.specs.Change.{change};
+ghost use Rattle.desk_session.specs.Lent.{AreSame, kinds};
 ghost use Rattle.desk_session.specs.Sides.{side_number};
 ghost use Rattle.desk_session.specs.Sounds.{piece_numbers};
 ghost use Rattle.script_text.specs.Last.{last_text};
@@ -17,16 +17,16 @@ ghost use Rattle.session_run.specs.Last.{
   speaker_failed,
   status_of,
 };
-ghost use Rattle.session_run.specs.Ports.{job};
+ghost use Rattle.session_run.specs.Ports.{job, ports_of};
 ghost use Rattle.session_run.specs.Runs.{Runs, RunsOpened};
-ghost use Rattle.session_run.specs.Streams.{IsReadOn, output, streams};
+ghost use Rattle.session_run.specs.Streams.{IsReadOn, output};
 
 use super::ending::Done;
 use super::last::{
     any_refused, end_lines, mic_failed, play_line, record_line, speaker_failed, status_of,
 };
 use super::refusing::{call_fault, refuse};
-use desk_session::{Beside, Ended, Kept, Seated};
+use desk_session::{Beside, Devices, Ended, RecordOutcome, Report, Seated};
 use disk_model::Store;
 use edit_ports::{Gate, Sink, Source, Vault};
 use editor_core::Studio;
@@ -38,7 +38,7 @@ use std::sync::Wait;
 use std::thread::Threads;
 
 // The numbers of the pieces.
-fn piece_numbers(alloc: Global, kept: Option<Kept>) -> Numbers
+fn piece_numbers(alloc: Global, kept: Option<RecordOutcome>) -> Numbers
     ensures { result ≡ piece_numbers kept }
 {
     match kept {
@@ -54,26 +54,27 @@ fn finish<S: Store, O: Sink>(
     first_commit: u64,
     ended: Ended<S>,
 ) -> Done<S>
-    ensures ended { WritesEnd ended.told.stop (output O.Sink (change out.old out.new)) (last_text
-        (record_line ended.track ended.opened.recording ended.kept) (play_line ended.opened.pin ended.heard)
-        (core_of ended.studio).commit_number) }
-    ensures status { (result.status ≡ status_of ended.told.stop (mic_failed ended.kept || speaker_failed ended.heard)
-        (ended.told.refused || (record_refused (record_line ended.track ended.opened.recording ended.kept)
-        || play_refused (play_line ended.opened.pin ended.heard)))) × (result.opened ≡ true) }
+    ensures ended { WritesEnd ended.report.told.stop (output O.Sink (change out.old out.new)) (last_text
+        (record_line ended.track ended.opened.recording ended.report.kept)
+        (play_line ended.opened.pin ended.report.heard) (core_of ended.studio).commit_number) }
+    ensures status { (result.status ≡ status_of ended.report.told.stop
+        (mic_failed ended.report.kept || speaker_failed ended.report.heard)
+        (ended.report.told.refused
+        || (record_refused (record_line ended.track ended.opened.recording ended.report.kept)
+        || play_refused (play_line ended.opened.pin ended.report.heard)))) × (result.opened ≡ true) }
     ensures store { result.store ≡ (core_of ended.studio).store }
     ensures numbers { (result.first_commit ≡ first_commit)
         × (result.last_commit ≡ (core_of ended.studio).commit_number)
-        × (result.record_commit ≡ side_number ended.opened.recording) × (result.commits ≡ ended.told.commits)
-        × (result.pieces ≡ piece_numbers ended.kept) }
+        × (result.record_commit ≡ side_number ended.opened.recording) × (result.commits ≡ ended.report.told.commits)
+        × (result.pieces ≡ piece_numbers ended.report.kept) }
 {
     let Ended {
         studio,
         opened,
         track,
-        told,
-        kept,
-        heard,
+        report,
     } = ended;
+    let Report { told, kept, heard } = report;
     let record = record_line(track, opened.recording, &kept);
     let play = play_line(opened.pin, &heard);
     let fault = mic_failed(&kept) || speaker_failed(&heard);
@@ -93,19 +94,14 @@ fn finish<S: Store, O: Sink>(
 }
 
 /// Runs a script on a studio that was opened, and beside it what is asked for, or tells want of memory before its first
-/// line.
-pub fn run_opened<R, S, V, A, O, M, P, G>(
+/// line. The devices come back.
+pub fn run_opened<'v, 'a, 'o, 'm, 'p, 'g, R, S, V, A, O, M, P, G>(
     rt: &R,
     alloc: Global,
-    script: &mut A,
-    out: &mut O,
     studio: Studio<S>,
-    vault: &mut V,
-    mic: &mut M,
-    speaker: &mut P,
-    gate: &G,
+    devices: Devices<'v, 'a, 'o, 'm, 'p, 'g, V, A, O, M, P, G>,
     beside: Beside,
-) -> Done<S>
+) -> (Done<S>, Devices<'v, 'a, 'o, 'm, 'p, 'g, V, A, O, M, P, G>)
 where
     R: Threads + Wait + Sync,
     S: Store + Send,
@@ -117,37 +113,34 @@ where
     G: Gate + Sync,
     requires { IsStudio S.Store (core_of studio) }
     ensures runs { RunsOpened (kinds S.Store V.Vault M.Source P.Sink) (core_of studio)
-        (job (record {
-          vault = change vault.old vault.new;
-          mic = change mic.old mic.new;
-          speaker = change speaker.old speaker.new;
-          streams = streams A.Source O.Sink (change script.old script.new) (change out.old out.new);
-        }) beside) result }
-    ensures reads { IsReadOn A.Source (change script.old script.new) }
+        (job (ports_of A.Source O.Sink (change devices.entry result.1)) beside) result.0 }
+    ensures reads { IsReadOn A.Source (change devices.entry.streams.script.now result.1.streams.script.now) }
+    ensures same { AreSame devices.entry result.1 }
 {
     let first = studio.commit_number();
     match Seated::new(alloc, studio, beside) {
         Ok(seated) => {
-            let ended = seated.run(rt, alloc, vault, script, out, mic, speaker, gate);
-            finish(alloc, out, first, ended)
+            let (ended, devices) = seated.run(rt, alloc, devices);
+            (finish(alloc, devices.streams.out, first, ended), devices)
         }
-        Err(studio) => refuse(alloc, out, studio.into_store(), CallFault::NoMemory),
+        Err(studio) => {
+            let store = studio.into_store();
+            (
+                refuse(alloc, devices.streams.out, store, CallFault::NoMemory),
+                devices,
+            )
+        }
     }
 }
 
-/// Opens the project of a store and runs a script on it, and beside it what is asked for.
-pub fn run_project<R, S, V, A, O, M, P, G>(
+/// Opens the project of a store and runs a script on it, and beside it what is asked for. The devices come back.
+pub fn run_project<'v, 'a, 'o, 'm, 'p, 'g, R, S, V, A, O, M, P, G>(
     rt: &R,
     alloc: Global,
-    script: &mut A,
-    out: &mut O,
     store: S,
-    vault: &mut V,
-    mic: &mut M,
-    speaker: &mut P,
-    gate: &G,
+    devices: Devices<'v, 'a, 'o, 'm, 'p, 'g, V, A, O, M, P, G>,
     beside: Beside,
-) -> Done<S>
+) -> (Done<S>, Devices<'v, 'a, 'o, 'm, 'p, 'g, V, A, O, M, P, G>)
 where
     R: Threads + Wait + Sync,
     S: Store + Send,
@@ -158,18 +151,17 @@ where
     P: Sink + Send,
     G: Gate + Sync,
     ensures runs { Runs (kinds S.Store V.Vault M.Source P.Sink) store
-        (job (record {
-          vault = change vault.old vault.new;
-          mic = change mic.old mic.new;
-          speaker = change speaker.old speaker.new;
-          streams = streams A.Source O.Sink (change script.old script.new) (change out.old out.new);
-        }) beside) result }
-    ensures reads { IsReadOn A.Source (change script.old script.new) }
+        (job (ports_of A.Source O.Sink (change devices.entry result.1)) beside) result.0 }
+    ensures reads { IsReadOn A.Source (change devices.entry.streams.script.now result.1.streams.script.now) }
+    ensures same { AreSame devices.entry result.1 }
 {
     match open_store(alloc, store) {
-        Ok(studio) => run_opened(
-            rt, alloc, script, out, studio, vault, mic, speaker, gate, beside,
-        ),
-        Err((fault, store)) => refuse(alloc, out, store, call_fault(fault)),
+        Ok(studio) => run_opened(rt, alloc, studio, devices, beside),
+        Err((fault, store)) => {
+            (
+                refuse(alloc, devices.streams.out, store, call_fault(fault)),
+                devices,
+            )
+        }
     }
 }

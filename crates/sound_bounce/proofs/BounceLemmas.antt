@@ -1,38 +1,29 @@
 -- A bounce: its pin, what was written by it, and the pin let go.
-use Rattle.std.proofs.Common.{◌≡◌, ◌⊎◌, inl, inr, ⊎_elim, ℕ, ◌+◌, ◌*◌, ◌<◌, Bool, true, false, List, [], ◌∷◌, ◌++◌, append_assoc, refl}
-use Rattle.std.proofs.Common.{sym, ◌∙◌, ap, subst, Result, Ok, Err}
-use Rattle.std.specs.Prelude.{IfOk}
+use Rattle.std.proofs.Common.{◌≡◌, ◌⊎◌, inl, inr, ⊎_elim, ℕ, ◌+◌, ◌*◌, ◌<◌, Bool, true, false, List, [], ◌∷◌, ◌++◌}
+use Rattle.std.proofs.Common.{append_assoc, refl, sym, ◌∙◌, ap, subst, Result, Ok, Err}
 use Rattle.std.proofs.lemmas.Bool.{true≢false}
-use Rattle.pcm_base.specs.declared.answer.Reply.{Reply}
-use Rattle.pcm_base.specs.declared.answer.Reply.TheVariants as reply
-use Rattle.pcm_base.specs.declared.command.Call.{Call}
+use Rattle.std.specs.Prelude.{IfOk}
 use Rattle.pcm_base.specs.declared.command.Call.TheVariants.{LoadPin, Pin, PinLen, Unpin}
-use Rattle.pcm_base.specs.declared.refusal.Refusal.{Refusal}
-use Rattle.pcm_base.specs.declared.refusal.Refusal.TheVariants as refusal
-use Rattle.pcm_base.specs.declared.said.Said.{Said}
+use Rattle.pcm_base.specs.{declared.answer.Reply.Reply, declared.command.Call.Call, declared.refusal.Refusal.Refusal}
+use Rattle.pcm_base.specs.{declared.said.Said.Said}
 use Rattle.disk_model.specs.declared.store.Store.{Ghosts}
-use Rattle.edit_ports.specs.declared.vault.Vault as vault
-use Rattle.pin_turn.specs.declared.view.View.{View}
-use Rattle.editor_state.specs.Core.{Core}
-use Rattle.editor_state.specs.Took.{silent, told_by}
-use Rattle.studio_seats.specs.declared.deed.Deed.{Deed}
-use Rattle.studio_seats.specs.declared.held.Held.{Held}
-use Rattle.studio_seats.specs.Deeds.{deed}
-use Rattle.studio_seats.specs.Desks.{Says, asked, spent, views}
-use Rattle.studio_seats.specs.Merge.{by_seat, deeds_of}
-use Rattle.studio_seats.specs.Stands.{origin}
+use Rattle.pin_turn.specs.{declared.view.View.View, Counts.Each}
+use Rattle.editor_state.specs.{Core.Core, Took.silent, Took.as_reply}
+use Rattle.studio_seats.specs.{declared.deed.Deed.Deed, declared.held.Held.Held, Deeds.deed, Desks.Says, Desks.asked}
+use Rattle.studio_seats.specs.{Desks.spent, Desks.views, Merge.by_seat, Merge.deeds_of, Stands.origin}
 use Rattle.studio_seats.proofs.CallLemmas.{IsTaken, NoTurn, OneCall, call_idle, one_call, own_on, reason_or}
-use Rattle.studio_seats.proofs.OnwardLemmas.{onward_on, onward_self}
-use Rattle.studio_seats.proofs.WorkLemmas.{onward_as}
-use Rattle.sound_bounce.specs.Bounces.{BounceDeeds, Bounced, HasTold, Holds, IsAfterPin, IsDone, IsGone}
-use Rattle.pin_turn.specs.Counts.{Each}
+use Rattle.studio_seats.proofs.{OnwardLemmas.onward_on, OnwardLemmas.onward_self, WorkLemmas.onward_as}
+use Rattle.sound_bounce.specs.Bounces.{BounceDeeds, Bounced, WasRefused, Holds, IsAfterPin, IsDone, IsGone, IsOfBounce}
+use Rattle.sound_bounce.specs.Bounces.{IsUnread, IsReadIn, IsRefusedBy, IsWritten, LetsGo, LoadsAll, LoadsEnd, LoadsOf}
+use Rattle.sound_bounce.specs.Bounces.{Moved, ReadsPin, RefusedAs, Spares, TellsPin, Unasked, length_in, may_let_go}
+use Rattle.sound_bounce.specs.Bounces.{moved, own_in, text_by}
 use Rattle.pin_turn.proofs.Sums.{Each-left, Each-right}
-use Rattle.sound_bounce.specs.Bounces.{IsOfBounce, IsUnread, IsReadIn, IsRefusedBy, IsWritten, LetsGo, LoadsAll}
-use Rattle.sound_bounce.specs.Bounces.{LoadsEnd, LoadsOf, Moved, ReadsPin, RefusedAs, Spares, TellsPin, Unasked}
-use Rattle.sound_bounce.specs.Bounces.{length_in, may_let_go, moved, own_in, text_by}
 use Rattle.sound_bounce.proofs.FileLemmas.{spares_silent}
 use Rattle.sound_bounce.proofs.Sayings.{IsMute, faults_as, length_back, length_front, mute_gone, mute_pinned, text_back}
-use Rattle.sound_bounce.proofs.Sayings.{text_front, told_left, told_right}
+use Rattle.sound_bounce.proofs.Sayings.{text_front, refused_left, refused_right}
+use Rattle.pcm_base.specs.declared.answer.Reply.TheVariants as reply
+use Rattle.pcm_base.specs.declared.refusal.Refusal.TheVariants as refusal
+use Rattle.edit_ports.specs.declared.vault.Vault as vault
 
 -- ---- a seat that found that no turn is left still knows
 
@@ -96,7 +87,7 @@ Unread d = IsUnread d.what
 
 module _ {V : Type 0} (rate : ℕ) (what : Result ℕ Refusal) (m : Moved V) where
   spares_as : (own all : List Deed) → text_by rate all ≡ text_by rate own → length_in all ≡ length_in own
-      → (HasTold refusal.VaultFault own → HasTold refusal.VaultFault all)
+      → (WasRefused refusal.VaultFault own → WasRefused refusal.VaultFault all)
       → (Each Unread all → Each Unread own) → Spares rate what own m → Spares rate what all m
   spares_as own all text long told few h = record {
     holds = λ t. subst (λ (bytes : List ℕ). Holds m bytes what) (sym text) (h.holds t);
@@ -112,7 +103,7 @@ module _ {V : Type 0} (rate : ℕ) (what : Result ℕ Refusal) (m : Moved V) whe
   spares_front xs ys all is mute h =
       spares_as ys all (ap (text_by rate) is ∙ text_front rate xs ys mute)
       (ap length_in is ∙ length_front xs ys mute)
-      (λ told. subst (HasTold refusal.VaultFault) (sym is) (told_right refusal.VaultFault xs ys told))
+      (λ told. subst (WasRefused refusal.VaultFault) (sym is) (refused_right refusal.VaultFault xs ys told))
       (λ none. Each-right Unread xs ys (subst (λ (ds : List Deed). Each Unread ds) is none)) h
 
   pub spares_back : (xs ys all : List Deed) → all ≡ xs ++ ys → IsMute ys → Spares rate what xs m
@@ -120,17 +111,17 @@ module _ {V : Type 0} (rate : ℕ) (what : Result ℕ Refusal) (m : Moved V) whe
   spares_back xs ys all is mute h =
       spares_as xs all (ap (text_by rate) is ∙ text_back rate xs ys mute)
       (ap length_in is ∙ length_back xs ys mute)
-      (λ told. subst (HasTold refusal.VaultFault) (sym is) (told_left refusal.VaultFault xs ys told))
+      (λ told. subst (WasRefused refusal.VaultFault) (sym is) (refused_left refusal.VaultFault xs ys told))
       (λ none. Each-left Unread xs ys (subst (λ (ds : List Deed). Each Unread ds) is none)) h
 
 -- ---- the pin is let go
 
 module _ {D V A : Type 0} (disk : Ghosts D) (vaults : vault.Ghosts V) (start : Core D) (pin : ℕ)
     (v w : View (Held D V disk) Deed) (said : Said A)
-    (says : Says (origin disk vaults start) (asked (Unpin pin) (told_by (λ (_ : A). reply.Done) said.what) silent) said
+    (says : Says (origin disk vaults start) (asked (Unpin pin) (as_reply (λ (_ : A). reply.Done) said.what) silent) said
     (views v w)) where
   abbrev gone_of : Result A Refusal → Result Reply Refusal
-  gone_of r = told_by (λ (_ : A). reply.Done) r
+  gone_of r = as_reply (λ (_ : A). reply.Done) r
 
   done_or_not : (r : Result A Refusal)
       → (gone_of r ≡ Ok reply.Done) ⊎ ((why : Refusal) × (gone_of r ≡ Err why))
@@ -196,10 +187,10 @@ module _ {D V : Type 0} (disk : Ghosts D) (vaults : vault.Ghosts V) (start : Cor
   }
 
   module _ (v w : View (Held D V disk) Deed) (said : Said ℕ)
-      (says : Says (origin disk vaults start) (asked Pin (told_by reply.Pinned said.what) silent) said (views v w))
+      (says : Says (origin disk vaults start) (asked Pin (as_reply reply.Pinned said.what) silent) said (views v w))
     where
       abbrev pinned_of : Result ℕ Refusal → Result Reply Refusal
-      pinned_of r = told_by reply.Pinned r
+      pinned_of r = as_reply reply.Pinned r
 
       abbrev Done : Result ℕ Refusal → Type 0
       Done r = OneCall start.commit_number IsOfBounce v w Pin (pinned_of r) said.at r
@@ -237,9 +228,9 @@ module _ {D V : Type 0} (disk : Ghosts D) (vaults : vault.Ghosts V) (start : Cor
           subst (λ (ds : List Deed). TellsPin start.commit_number v.seen said.at one.onward.added ds)
           (sym (ap (deeds_of (by_seat v.number)) x.0)) x.1)
           one.how in
-          let told : why ≡ refusal.VaultFault → HasTold refusal.VaultFault own = λ lost. ⊎_elim
+          let told : why ≡ refusal.VaultFault → WasRefused refusal.VaultFault own = λ lost. ⊎_elim
           (λ (x : Taken (Err why) one.onward.added).
-          subst (HasTold refusal.VaultFault) (sym x.own) (inl (ap Err lost)))
+          subst (WasRefused refusal.VaultFault) (sym x.own) (inl (ap Err lost)))
           (λ (x : NoTurn w said.at (Err why) one.onward.added).
           let none : why ≡ spent = ap (reason_or spent) x.2 in
           let no : ⊥ = cc (sym none ∙ lost) in

@@ -1,44 +1,31 @@
 -- The file of a pin: its header, and the frames of the loads.
-use Rattle.std.proofs.Common.{◌≡◌, ◌⊎◌, inl, inr, ⊎_elim, ℕ, ◌+◌, ◌*◌, ◌≤◌, ◌<◌, List, [], ◌∷◌, ◌++◌, Option, Some, refl}
-use Rattle.std.proofs.Common.{sym, ◌∙◌, ap, subst, arith, Result, Ok, Err, MatchResult}
-use Rattle.std.specs.Prelude.{IsTrue, IfOk}
+use Rattle.std.proofs.Common.{◌≡◌, ◌⊎◌, inl, inr, ⊎_elim, ℕ, ◌+◌, ◌*◌, ◌≤◌, ◌<◌, List, [], ◌∷◌, ◌++◌, Option, Some}
+use Rattle.std.proofs.Common.{refl, sym, ◌∙◌, ap, subst, arith, Result, Ok, Err, MatchResult}
 use Rattle.std.proofs.lemmas.List.{append-nil}
-use Rattle.pcm_base.specs.declared.answer.Reply.{Reply}
-use Rattle.pcm_base.specs.declared.answer.Reply.TheVariants as reply
-use Rattle.pcm_base.specs.declared.command.Call.TheVariants.{PinLen}
-use Rattle.pcm_base.specs.declared.refusal.Refusal.{Refusal}
-use Rattle.pcm_base.specs.declared.refusal.Refusal.TheVariants as refusal
-use Rattle.pcm_base.specs.declared.said.Said.{Said}
-use Rattle.pcm_base.specs.Causes.{Rose}
-use Rattle.pcm_base.specs.Outside.{SameElsewhere}
-use Rattle.pcm_base.specs.Recordings.{frame_bytes}
+use Rattle.std.specs.Prelude.{IsTrue, IfOk}
+use Rattle.pcm_base.specs.{declared.answer.Reply.Reply, declared.command.Call.TheVariants.PinLen}
+use Rattle.pcm_base.specs.{declared.refusal.Refusal.Refusal, declared.said.Said.Said, Causes.Rose}
+use Rattle.pcm_base.specs.{Outside.SameElsewhere, Recordings.frame_bytes}
 use Rattle.disk_model.specs.declared.store.Store.{Ghosts}
-use Rattle.edit_ports.specs.declared.vault.Vault as vault
 use Rattle.edit_ports.specs.Sounds.{sound_bytes}
-use Rattle.pin_turn.specs.declared.view.View.{View}
-use Rattle.editor_state.specs.Core.{Core}
-use Rattle.editor_state.specs.Took.{silent, told_by}
-use Rattle.wav_pcm.specs.declared.fault.SoundFault.{SoundFault}
+use Rattle.pin_turn.specs.{declared.view.View.View, Counts.Each}
+use Rattle.editor_state.specs.{Core.Core, Took.silent, Took.as_reply}
 use Rattle.wav_pcm.specs.declared.fault.SoundFault.TheVariants.{BadWav, NoFile, TooLong, Vault}
-use Rattle.wav_pcm.specs.Parts.{IsFor, SoundCountedBy, sound_refusal}
-use Rattle.wav_pcm.specs.Wavs.{FitsFile, wav_head}
-use Rattle.wav_pcm.specs.Written.{IsNotStarted, MayBegin}
+use Rattle.wav_pcm.specs.{declared.fault.SoundFault.SoundFault, Parts.IsFor, Parts.SoundCountedBy, Parts.sound_refusal}
+use Rattle.wav_pcm.specs.{Wavs.FitsFile, Wavs.wav_head, Written.IsNotStarted, Written.MayBegin}
 use Rattle.wav_pcm.proofs.GrowLaws.{begun_front, begun_more}
-use Rattle.studio_seats.specs.declared.deed.Deed.{Deed}
-use Rattle.studio_seats.specs.declared.held.Held.{Held}
-use Rattle.studio_seats.specs.Deeds.{deed}
-use Rattle.studio_seats.specs.Desks.{Says, asked, spent, views}
-use Rattle.studio_seats.specs.Merge.{by_seat, deeds_of}
-use Rattle.studio_seats.specs.Stands.{origin}
+use Rattle.studio_seats.specs.{declared.deed.Deed.Deed, declared.held.Held.Held, Deeds.deed, Desks.Says, Desks.asked}
+use Rattle.studio_seats.specs.{Desks.spent, Desks.views, Merge.by_seat, Merge.deeds_of, Stands.origin}
 use Rattle.studio_seats.proofs.CallLemmas.{IsTaken, NoTurn, OneCall, one_call, own_on, reason_or}
-use Rattle.studio_seats.proofs.OnwardLemmas.{onward_on, onward_self}
-use Rattle.studio_seats.proofs.WorkLemmas.{onward_as}
-use Rattle.sound_bounce.specs.Bounces.{FaultsBy, Files, HasTold, Holds, IsLoadOf, IsReadIn, IsRefusedBy}
-use Rattle.pin_turn.specs.Counts.{Each}
-use Rattle.sound_bounce.specs.Bounces.{IsUnread, IsWritten, Keeps, LoadsAll, LoadsDone, Moved, ReadsPin, RefusedAs, Spares, Unasked}
-use Rattle.sound_bounce.specs.Bounces.{frames_in, header_in, length_in, moved, own_in, text_by}
-use Rattle.sound_bounce.proofs.Sayings.{faults_as, header_all, length_all, told_refused, told_right}
+use Rattle.studio_seats.proofs.{OnwardLemmas.onward_on, OnwardLemmas.onward_self, WorkLemmas.onward_as}
+use Rattle.sound_bounce.specs.Bounces.{FaultsBy, Files, WasRefused, Holds, IsLoadOf, IsReadIn, IsRefusedBy, IsUnread}
+use Rattle.sound_bounce.specs.Bounces.{IsWritten, Keeps, LoadsAll, LoadsDone, Moved, ReadsPin, RefusedAs, Spares}
+use Rattle.sound_bounce.specs.Bounces.{Unasked, frames_in, header_in, length_in, moved, own_in, text_by}
+use Rattle.sound_bounce.proofs.Sayings.{faults_as, header_all, length_all, was_refused, refused_right}
 use Rattle.sound_bounce.proofs.VaultLemmas.{keeps_on, keeps_self, still}
+use Rattle.pcm_base.specs.declared.answer.Reply.TheVariants as reply
+use Rattle.pcm_base.specs.declared.refusal.Refusal.TheVariants as refusal
+use Rattle.edit_ports.specs.declared.vault.Vault as vault
 
 -- ---- the header
 
@@ -158,7 +145,7 @@ module _ {D V : Type 0} {disk : Ghosts D} (ghosts : vault.Ghosts V) (name : List
 -- ---- a sound that was not touched
 
 pub spares_silent : {V : Type 0} (ghosts : vault.Ghosts V) (name : List ℕ) (rate : ℕ) (why : Refusal) (own : List Deed)
-    (a : V) → (why ≡ refusal.VaultFault → HasTold refusal.VaultFault own)
+    (a : V) → (why ≡ refusal.VaultFault → WasRefused refusal.VaultFault own)
     → Spares rate (Err why) own (moved ghosts name a a)
 spares_silent ghosts name rate why own a told = record {
   holds = λ t. record { written = tt; failed = inl refl };
@@ -173,10 +160,10 @@ spares_silent ghosts name rate why own a told = record {
 
 module _ {D V : Type 0} (disk : Ghosts D) (vaults : vault.Ghosts V) (start : Core D) (rate pin batch : ℕ)
     (v w : View (Held D V disk) Deed) (said : Said ℕ)
-    (says : Says (origin disk vaults start) (asked (PinLen pin) (told_by reply.Length said.what) silent) said
+    (says : Says (origin disk vaults start) (asked (PinLen pin) (as_reply reply.Length said.what) silent) said
     (views v w)) where
   abbrev what_of : Result ℕ Refusal → Result Reply Refusal
-  what_of r = told_by reply.Length r
+  what_of r = as_reply reply.Length r
 
   abbrev Done : Result ℕ Refusal → Type 0
   Done r = OneCall start.commit_number (IsReadIn pin) v w (PinLen pin) (what_of r) said.at r
@@ -206,7 +193,7 @@ module _ {D V : Type 0} (disk : Ghosts D) (vaults : vault.Ghosts V) (start : Cor
         onward = one.onward;
         reads = inr (inl refused);
         spares = spares_silent vaults name rate why (own_in (views v w) one.onward) a
-            (told_refused w.used_up (PinLen pin) why (own_in (views v w) one.onward) refused);
+            (was_refused w.used_up (PinLen pin) why (own_in (views v w) one.onward) refused);
       }
 
   -- or answered, and the file was written
@@ -262,8 +249,8 @@ module _ {D V : Type 0} (disk : Ghosts D) (vaults : vault.Ghosts V) (start : Cor
       unread = λ none. absurd ((subst (λ (ds : List Deed). Each (λ (d : Deed). IsUnread d.what) ds) own_is none).0);
       keeps = k.keeps;
       faults = faults_as what rest own (m.ghosts.fault_count m.old) (m.ghosts.fault_count m.new)
-          (λ h. subst (HasTold refusal.VaultFault) (sym own_is)
-          (told_right refusal.VaultFault (asked_deed ∷ []) rest h)) k.faults;
+          (λ h. subst (WasRefused refusal.VaultFault) (sym own_is)
+          (refused_right refusal.VaultFault (asked_deed ∷ []) rest h)) k.faults;
     }
 
     pub length_written : IsWritten rate pin batch what (views v x) m

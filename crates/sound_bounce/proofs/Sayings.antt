@@ -1,21 +1,17 @@
 -- What deeds one after another say of a file.
-use Rattle.std.proofs.Common.{◌≡◌, ◌⊎◌, inl, inr, ⊎_elim, ℕ, ◌+◌, Bool, true, false, List, [], ◌∷◌, ◌++◌, length}
-use Rattle.std.proofs.Common.{refl, sym, ◌∙◌, ap, ap₂, subst, arith, Result, Ok, Err}
-use Rattle.std.proofs.lemmas.List.{append-nil}
-use Rattle.std.proofs.lemmas.Grind.{flat_map-append}
-use Rattle.pcm_base.specs.declared.answer.Reply.{Reply}
-use Rattle.pcm_base.specs.declared.answer.Reply.TheVariants as reply
-use Rattle.pcm_base.specs.declared.command.Call.{Call}
+use Rattle.std.proofs.Common.{◌≡◌, ◌⊎◌, inl, inr, ⊎_elim, ℕ, ◌+◌, Bool, true, false, List, [], ◌∷◌, ◌++◌, length, refl}
+use Rattle.std.proofs.Common.{sym, ◌∙◌, ap, ap₂, subst, arith, Result, Ok, Err}
+use Rattle.std.proofs.{lemmas.List.append-nil, lemmas.Grind.flat_map-append}
 use Rattle.pcm_base.specs.declared.command.Call.TheVariants.{LoadPin, Unpin}
-use Rattle.pcm_base.specs.declared.refusal.Refusal.{Refusal}
-use Rattle.pcm_base.specs.declared.refusal.Refusal.TheVariants as refusal
-use Rattle.pcm_base.specs.declared.sound.Frame.{Frame}
 use Rattle.pcm_base.specs.Recordings.{bytes_of_frame, frame_bytes}
-use Rattle.studio_seats.specs.declared.deed.Deed.{Deed}
-use Rattle.studio_seats.specs.Desks.{spent}
-use Rattle.sound_bounce.specs.Bounces.{AreLoads, FaultsBy, FaultsOf, HasTold, IsRefusedBy, LetsGo, LoadsAll}
+use Rattle.pcm_base.specs.{declared.answer.Reply.Reply, declared.command.Call.Call, declared.refusal.Refusal.Refusal}
+use Rattle.pcm_base.specs.{declared.sound.Frame.Frame}
+use Rattle.studio_seats.specs.{declared.deed.Deed.Deed, Desks.spent}
+use Rattle.sound_bounce.specs.Bounces.{AreLoads, FaultsBy, FaultsOf, WasRefused, IsRefusedBy, LetsGo, LoadsAll}
 use Rattle.sound_bounce.specs.Bounces.{LoadsEnd, frames_by, frames_in, header_by, header_in, length_by, length_in}
 use Rattle.sound_bounce.specs.Bounces.{text_by}
+use Rattle.pcm_base.specs.declared.answer.Reply.TheVariants as reply
+use Rattle.pcm_base.specs.declared.refusal.Refusal.TheVariants as refusal
 
 -- deeds that say nothing of it
 pub record IsMute (ds : List Deed) : Type 0 where
@@ -179,32 +175,32 @@ length_all used_up pin batch len what ds h =
 
 -- ---- who was told that the vault failed
 
-pub told_right : (why : Refusal) (xs ys : List Deed) → HasTold why ys → HasTold why (xs ++ ys)
-told_right why [] ys h = h
-told_right why (x ∷ xs) ys h = inr (told_right why xs ys h)
+pub refused_right : (why : Refusal) (xs ys : List Deed) → WasRefused why ys → WasRefused why (xs ++ ys)
+refused_right why [] ys h = h
+refused_right why (x ∷ xs) ys h = inr (refused_right why xs ys h)
 
-pub told_left : (why : Refusal) (xs ys : List Deed) → HasTold why xs → HasTold why (xs ++ ys)
-told_left why [] ys h = absurd h
-told_left why (x ∷ xs) ys (inl h) = inl h
-told_left why (x ∷ xs) ys (inr h) = inr (told_left why xs ys h)
+pub refused_left : (why : Refusal) (xs ys : List Deed) → WasRefused why xs → WasRefused why (xs ++ ys)
+refused_left why [] ys h = absurd h
+refused_left why (x ∷ xs) ys (inl h) = inl h
+refused_left why (x ∷ xs) ys (inr h) = inr (refused_left why xs ys h)
 
 -- a call that was refused was told why
-pub told_refused : (used_up : Bool) (c : Call) (why : Refusal) (ds : List Deed) → IsRefusedBy used_up c why ds
-    → why ≡ refusal.VaultFault → HasTold refusal.VaultFault ds
-told_refused used_up c why ds h is = ⊎_elim
+pub was_refused : (used_up : Bool) (c : Call) (why : Refusal) (ds : List Deed) → IsRefusedBy used_up c why ds
+    → why ≡ refusal.VaultFault → WasRefused refusal.VaultFault ds
+was_refused used_up c why ds h is = ⊎_elim
     (λ (x : (d : Deed) × (ds ≡ d ∷ []) × (d.call ≡ c) × (d.what ≡ Err why)).
-    subst (HasTold refusal.VaultFault) (sym x.1) (inl (x.3 ∙ ap Err is)))
+    subst (WasRefused refusal.VaultFault) (sym x.1) (inl (x.3 ∙ ap Err is)))
     (λ (x : (ds ≡ []) × (why ≡ spent) × (used_up ≡ true)). let no : ⊥ = cc (sym x.1 ∙ is) in absurd no)
     h
 
 faults_by : (why : Refusal) (xs ys : List Deed) (old new : ℕ)
-    → (HasTold refusal.VaultFault xs → HasTold refusal.VaultFault ys) → FaultsBy why xs old new
+    → (WasRefused refusal.VaultFault xs → WasRefused refusal.VaultFault ys) → FaultsBy why xs old new
     → FaultsBy why ys old new
 faults_by why xs ys old new f (inl h) = inl h
 faults_by why xs ys old new f (inr h) = inr (h.0, λ is. f (h.1 is))
 
 pub faults_as : (what : Result ℕ Refusal) (xs ys : List Deed) (old new : ℕ)
-    → (HasTold refusal.VaultFault xs → HasTold refusal.VaultFault ys) → FaultsOf what xs old new
+    → (WasRefused refusal.VaultFault xs → WasRefused refusal.VaultFault ys) → FaultsOf what xs old new
     → FaultsOf what ys old new
 faults_as (Ok x) xs ys old new f h = h
 faults_as (Err why) xs ys old new f h = faults_by why xs ys old new f h

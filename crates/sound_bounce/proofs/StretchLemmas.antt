@@ -1,54 +1,41 @@
 -- The loads of a pin, one after another, and what is written of each.
-use Rattle.std.proofs.Common.{◌≡◌, ◌⊎◌, inl, inr, ⊎_elim, ℕ, ◌+◌, ◌≤◌, List, [], ◌∷◌, ◌++◌, length, refl, sym, ◌∙◌}
-use Rattle.std.proofs.Common.{ap, append_assoc, arith, subst, Result, Ok, Err, MatchResult}
+use Rattle.std.proofs.Common.{◌≡◌, ◌⊎◌, inl, inr, ⊎_elim, ℕ, ◌+◌, ◌≤◌, List, [], ◌∷◌, ◌++◌, length, refl, sym, ◌∙◌, ap}
+use Rattle.std.proofs.Common.{append_assoc, arith, subst, Result, Ok, Err, MatchResult}
+use Rattle.std.proofs.{lemmas.List.append-nil, lemmas.List.FromFn.length-map-range_with_len}
 use Rattle.std.specs.Prelude.{IsTrue}
-use Rattle.std.proofs.lemmas.List.{append-nil}
-use Rattle.std.proofs.lemmas.List.FromFn.{length-map-range_with_len}
-use Rattle.pcm_base.specs.declared.answer.Reply.{Reply}
-use Rattle.pcm_base.specs.declared.answer.Reply.TheVariants as reply
-use Rattle.pcm_base.specs.declared.command.Call.TheVariants.{LoadPin}
-use Rattle.pcm_base.specs.declared.refusal.Refusal.{Refusal}
-use Rattle.pcm_base.specs.declared.refusal.Refusal.TheVariants as refusal
-use Rattle.pcm_base.specs.declared.said.Said.{Said}
-use Rattle.pcm_base.specs.declared.sound.Frame.{Frame}
-use Rattle.pcm_base.specs.Causes.{Rose}
-use Rattle.pcm_base.specs.Mix.{frame_at}
-use Rattle.pcm_base.specs.Recordings.{frame_bytes}
+use Rattle.pcm_base.specs.{declared.answer.Reply.Reply, declared.command.Call.TheVariants.LoadPin}
+use Rattle.pcm_base.specs.{declared.refusal.Refusal.Refusal, declared.said.Said.Said, declared.sound.Frame.Frame}
+use Rattle.pcm_base.specs.{Causes.Rose, Mix.frame_at, Recordings.frame_bytes}
 use Rattle.disk_model.specs.declared.store.Store.{Ghosts}
-use Rattle.edit_ports.specs.declared.vault.Vault as vault
 use Rattle.edit_ports.specs.Sounds.{MayHaveGrown}
-use Rattle.mixdown.specs.declared.loaded.Loaded.{Loaded}
-use Rattle.mixdown.specs.Loads.{loaded_tracks, tracks_in}
+use Rattle.mixdown.specs.{declared.loaded.Loaded.Loaded, Loads.loaded_tracks, Loads.tracks_in}
 use Rattle.mixdown.proofs.LoadLaws.{full_mix}
 use Rattle.pin_turn.specs.declared.view.View.{View}
-use Rattle.editor_state.specs.Core.{Core}
+use Rattle.editor_state.specs.{Core.Core, Took.silent, Took.as_reply}
 use Rattle.editor_views.specs.Loads.{HasLoaded}
-use Rattle.editor_state.specs.Took.{silent, told_by}
 use Rattle.wav_pcm.specs.Written.{IsThere}
-use Rattle.studio_seats.specs.declared.deed.Deed.{Deed}
-use Rattle.studio_seats.specs.declared.held.Held.{Held}
-use Rattle.studio_seats.specs.Deeds.{deed}
-use Rattle.studio_seats.specs.Desks.{Says, asked, spent, views}
-use Rattle.studio_seats.specs.Merge.{by_seat, deeds_of}
-use Rattle.studio_seats.specs.Onward.{Onward}
-use Rattle.studio_seats.specs.Stands.{origin}
+use Rattle.studio_seats.specs.{declared.deed.Deed.Deed, declared.held.Held.Held, Deeds.deed, Desks.Says, Desks.asked}
+use Rattle.studio_seats.specs.{Desks.spent, Desks.views, Merge.by_seat, Merge.deeds_of, Onward.Onward, Stands.origin}
 use Rattle.studio_seats.proofs.CallLemmas.{IsTaken, NoTurn, OneCall, one_call, own_on, reason_or}
 use Rattle.studio_seats.proofs.OnwardLemmas.{onward_on, onward_self}
-use Rattle.sound_bounce.specs.Bounces.{AreLoads, GrowFails, Grows, GrowsBy, IsLoadOf, IsRefusedBy}
-use Rattle.sound_bounce.specs.Bounces.{LoadsAhead, LoadsDone, LoadsNext, LoadsTo, Moved, NextRefused, frames_by}
-use Rattle.sound_bounce.specs.Bounces.{frames_in, loaded_frames, moved, own_in}
-use Rattle.sound_bounce.proofs.Sayings.{bytes_on, bytes_one, mute_refused, told_refused, told_right}
+use Rattle.sound_bounce.specs.Bounces.{AreLoads, GrowFails, Grows, GrowsBy, IsLoadOf, IsRefusedBy, LoadsAhead}
+use Rattle.sound_bounce.specs.Bounces.{LoadsDone, LoadsNext, LoadsTo, Moved, NextRefused, frames_by, frames_in}
+use Rattle.sound_bounce.specs.Bounces.{loaded_frames, moved, own_in}
+use Rattle.sound_bounce.proofs.Sayings.{bytes_on, bytes_one, mute_refused, was_refused, refused_right}
 use Rattle.sound_bounce.proofs.VaultLemmas.{grown_less, grown_on, grown_so, grows_on, grows_self, keeps_on}
+use Rattle.pcm_base.specs.declared.answer.Reply.TheVariants as reply
+use Rattle.pcm_base.specs.declared.refusal.Refusal.TheVariants as refusal
+use Rattle.edit_ports.specs.declared.vault.Vault as vault
 
 -- ---- one load
 
 module _ {D V : Type 0} (disk : Ghosts D) (vaults : vault.Ghosts V) (start : Core D) (pin batch from : ℕ)
     (v w : View (Held D V disk) Deed) (said : Said ℕ) (l : Loaded)
     (says : Says (origin disk vaults start)
-    (asked (LoadPin pin from batch) (told_by (λ (_ : ℕ). reply.Loaded (tracks_in l)) said.what) silent) said
+    (asked (LoadPin pin from batch) (as_reply (λ (_ : ℕ). reply.Loaded (tracks_in l)) said.what) silent) said
     (views v w)) where
   abbrev what_of : Result ℕ Refusal → Result Reply Refusal
-  what_of r = told_by (λ (_ : ℕ). reply.Loaded (tracks_in l)) r
+  what_of r = as_reply (λ (_ : ℕ). reply.Loaded (tracks_in l)) r
 
   abbrev Done : Result ℕ Refusal → Type 0
   Done r = OneCall start.commit_number (IsLoadOf pin) v w (LoadPin pin from batch) (what_of r) said.at r
@@ -68,7 +55,7 @@ module _ {D V : Type 0} (disk : Ghosts D) (vaults : vault.Ghosts V) (start : Cor
 
   -- the frames of its answer are those that were mixed
   same_frames : (count : ℕ) → HasLoaded batch count l → frames_by (what_of (Ok count)) ≡ loaded_frames l
-  same_frames count has = full_mix l has.sound (λ none. has.len ∙ has.silent none)
+  same_frames count has = full_mix l has.valid (λ none. has.len ∙ has.silent none)
 
   long_frames : (count : ℕ) → HasLoaded batch count l → length (frames_by (what_of (Ok count))) ≡ l.len
   long_frames count has =
@@ -87,7 +74,7 @@ module _ {D V : Type 0} (disk : Ghosts D) (vaults : vault.Ghosts V) (start : Cor
         own = x.own;
         reads = (tracks_in l, refl, refl, ap (λ (n : ℕ). from + n) (sym (long_frames count has)));
         frames = same_frames count has;
-        sound = has.sound;
+        valid = has.valid;
         fits = subst (λ (n : ℕ). n ≤ batch) (sym has.len) has.few;
         longer = x.longer;
         few = x.few;
@@ -161,7 +148,7 @@ module _ {D V : Type 0} {disk : Ghosts D} (ghosts : vault.Ghosts V) (name : List
               ∙ ap (λ (ds : List Deed). xs ++ ds) k.own;
           reads = reads_append pin batch 0 to (to + l.len) xs (k.done ∷ []) h.reads k.reads;
           frames = k.frames;
-          sound = k.sound;
+          valid = k.valid;
           fits = k.fits;
           grows = h.grows;
         }
@@ -187,8 +174,8 @@ module _ {D V : Type 0} {disk : Ghosts D} (ghosts : vault.Ghosts V) (name : List
               (grown_so ghosts name a b (frame_bytes (frames_in xs)) h.grows told),
           inr (
             h.grows.faults,
-            λ is. told_right refusal.VaultFault xs ys
-                (told_refused w.used_up (LoadPin pin at batch) why ys refused is),
+            λ is. refused_right refusal.VaultFault xs ys
+                (was_refused w.used_up (LoadPin pin at batch) why ys refused is),
           ),
         ) in
         record {

@@ -1,35 +1,34 @@
 -- What becomes of a sound, call by call.
 use Rattle.std.proofs.Common.{◌≡◌, inl, inr, ℕ, ◌+◌, ◌≤◌, Bool, List, [], ◌++◌, length, take, Option, Some, refl, sym}
 use Rattle.std.proofs.Common.{◌∙◌, ap, subst, arith, append_assoc, length-append, Result, Ok, Err, MatchResult}
-use Rattle.std.specs.Prelude.{IsTrue, OnOk, OnErr}
 use Rattle.std.proofs.lemmas.List.{append-nil, take-append-le, take_all}
 use Rattle.std.proofs.Math.Seq.{take-add, take-append_seam, drop-append_seam}
-use Rattle.pcm_base.specs.Causes.{HasCause}
-use Rattle.pcm_base.specs.Outside.{SameElsewhere}
-use Rattle.edit_ports.specs.declared.vault.Vault as vault
+use Rattle.std.specs.Prelude.{IsTrue, OnOk, OnErr}
+use Rattle.pcm_base.specs.{Causes.HasCause, Outside.SameElsewhere}
 use Rattle.edit_ports.specs.Sounds.{MayHaveGrown, sound_bytes}
 use Rattle.wav_pcm.specs.Written.{IsThere}
 use Rattle.sound_bounce.specs.Bounces.{GrowFails, Grows, Keeps, moved}
+use Rattle.edit_ports.specs.declared.vault.Vault as vault
 
 take_past : (xs ys : List ℕ) (n : ℕ) → take (length xs + n) (xs ++ ys) ≡ xs ++ take n ys
 take_past xs ys n = take-add (length xs) n (xs ++ ys) ∙ rw (take-append_seam xs ys, drop-append_seam xs ys)
 
 -- a part more may have come, or the front of it
-grown_after : (old mid new : Option (List ℕ)) (done piece : List ℕ) → mid ≡ Some (sound_bytes old ++ done)
-    → MayHaveGrown piece mid new → MayHaveGrown (done ++ piece) old new
-grown_after old mid new done piece before (inl same) =
+grown_after : (old mid new : Option (List ℕ)) (done buffer : List ℕ) → mid ≡ Some (sound_bytes old ++ done)
+    → MayHaveGrown buffer mid new → MayHaveGrown (done ++ buffer) old new
+grown_after old mid new done buffer before (inl same) =
     inr (
       length done,
-      omega (arith, length-append done piece),
-      same ∙ before ∙ ap (λ xs. Some (sound_bytes old ++ xs)) (sym (take-append_seam done piece)),
+      omega (arith, length-append done buffer),
+      same ∙ before ∙ ap (λ xs. Some (sound_bytes old ++ xs)) (sym (take-append_seam done buffer)),
     )
-grown_after old mid new done piece before (inr (n, le, is)) =
+grown_after old mid new done buffer before (inr (n, le, is)) =
     inr (
       length done + n,
-      omega (arith, le, length-append done piece),
-      is ∙ ap (λ o. Some (sound_bytes o ++ take n piece)) before
-          ∙ ap Some (append_assoc (sound_bytes old) done (take n piece))
-          ∙ ap (λ xs. Some (sound_bytes old ++ xs)) (sym (take_past done piece n)),
+      omega (arith, le, length-append done buffer),
+      is ∙ ap (λ o. Some (sound_bytes o ++ take n buffer)) before
+          ∙ ap Some (append_assoc (sound_bytes old) done (take n buffer))
+          ∙ ap (λ xs. Some (sound_bytes old ++ xs)) (sym (take_past done buffer n)),
     )
 
 -- of what would have been a longer part

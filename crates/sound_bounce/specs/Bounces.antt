@@ -2,38 +2,24 @@
 use Rattle.std.specs.Prelude.{◌≡◌, ◌⊎◌, ℕ, ◌+◌, ◌*◌, ◌≤◌, ◌<◌, Bool, true, false, IsTrue, List, [], ◌∷◌, ◌++◌, length}
 use Rattle.std.specs.Prelude.{map, take, Some, Result, Ok, Err, OnOk, OnErr, IfOk}
 use Rattle.std.specs.List.{flat_map}
-use Rattle.pcm_base.specs.declared.answer.Reply.{Reply}
-use Rattle.pcm_base.specs.declared.answer.Reply.TheVariants as reply
-use Rattle.pcm_base.specs.declared.command.Call.{Call}
 use Rattle.pcm_base.specs.declared.command.Call.TheVariants.{LoadPin, Pin, PinLen, Unpin}
-use Rattle.pcm_base.specs.declared.limits.TheConstants.{COUNTER_LIMIT}
-use Rattle.pcm_base.specs.declared.lists.LoadedTrack.{LoadedTrack}
-use Rattle.pcm_base.specs.declared.refusal.Refusal.{Refusal}
-use Rattle.pcm_base.specs.declared.refusal.Refusal.TheVariants as refusal
-use Rattle.pcm_base.specs.declared.said.Said.{Said}
-use Rattle.pcm_base.specs.declared.sound.Frame.{Frame}
-use Rattle.pcm_base.specs.Arithmetic.{counted_from}
-use Rattle.pcm_base.specs.Causes.{Rose}
-use Rattle.pcm_base.specs.Mix.{frame_at, mix_of}
-use Rattle.pcm_base.specs.Outside.{SameElsewhere}
-use Rattle.pcm_base.specs.Recordings.{frame_bytes}
-use Rattle.pcm_base.specs.Wave.{wav_text}
+use Rattle.pcm_base.specs.{declared.answer.Reply.Reply, declared.command.Call.Call}
+use Rattle.pcm_base.specs.{declared.limits.TheConstants.COUNTER_LIMIT, declared.lists.LoadedTrack.LoadedTrack}
+use Rattle.pcm_base.specs.{declared.refusal.Refusal.Refusal, declared.said.Said.Said, declared.sound.Frame.Frame}
+use Rattle.pcm_base.specs.{Arithmetic.counted_from, Causes.Rose, Mix.frame_at, Mix.mix_of, Outside.SameElsewhere}
+use Rattle.pcm_base.specs.{Recordings.frame_bytes, Wave.wav_text}
 use Rattle.disk_model.specs.declared.store.Store.{Ghosts}
-use Rattle.edit_ports.specs.declared.vault.Vault as vault
 use Rattle.edit_ports.specs.Sounds.{MayHaveGrown, sound_bytes}
-use Rattle.mixdown.specs.declared.loaded.Loaded.{Loaded}
-use Rattle.mixdown.specs.Loads.{IsLoaded, heard_track, loaded_tracks}
+use Rattle.mixdown.specs.{declared.loaded.Loaded.Loaded, Loads.IsLoaded, Loads.heard_track, Loads.loaded_tracks}
 use Rattle.editor_state.specs.Core.{Core}
 use Rattle.pin_turn.specs.Counts.{Each}
-use Rattle.wav_pcm.specs.Wavs.{wav_head}
-use Rattle.wav_pcm.specs.Written.{MayBegin}
-use Rattle.studio_seats.specs.declared.deed.Deed.{Deed}
-use Rattle.studio_seats.specs.Deeds.{number_after}
-use Rattle.studio_seats.specs.Desks.{Views, spent}
-use Rattle.studio_seats.specs.Merge.{by_seat, deeds_of}
-use Rattle.studio_seats.specs.Onward.{Onward}
-use Rattle.studio_seats.specs.Shows.{IsMixOf}
+use Rattle.wav_pcm.specs.{Wavs.wav_head, Written.MayBegin}
 use Rattle.studio_seats.specs.Stands.{Origin, StandsFor, origin}
+use Rattle.studio_seats.specs.{declared.deed.Deed.Deed, Deeds.number_after, Desks.Views, Desks.spent, Merge.by_seat}
+use Rattle.studio_seats.specs.{Merge.deeds_of, Onward.Onward, Shows.IsMixOf}
+use Rattle.pcm_base.specs.declared.answer.Reply.TheVariants as reply
+use Rattle.pcm_base.specs.declared.refusal.Refusal.TheVariants as refusal
+use Rattle.edit_ports.specs.declared.vault.Vault as vault
 
 -- the frames of what is loaded
 abbrev pub loaded_frames : Loaded → List Frame
@@ -78,9 +64,9 @@ abbrev pub text_by : ℕ → List Deed → List ℕ
 text_by rate ds = header_in rate ds ++ frame_bytes (frames_in ds)
 
 -- one of the deeds was refused for this reason
-abbrev pub HasTold : Refusal → List Deed → Type 0
-HasTold why [] = ⊥
-HasTold why (d ∷ ds) = (d.what ≡ Err why) ⊎ HasTold why ds
+abbrev pub WasRefused : Refusal → List Deed → Type 0
+WasRefused why [] = ⊥
+WasRefused why (d ∷ ds) = (d.what ≡ Err why) ⊎ WasRefused why ds
 
 -- ---- the turns
 
@@ -242,7 +228,7 @@ pub record GrowFails {V : Type 0} (m : Moved V) (bytes : List ℕ) : Type 0 wher
 -- the answer is that the vault failed, a turn was answered so.
 abbrev pub FaultsBy : Refusal → List Deed → (old new : ℕ) → Type 0
 FaultsBy why own old new = ((why ≡ refusal.VaultFault) × Rose old new × (old ≤ new))
-    ⊎ ((new ≡ old) × (why ≡ refusal.VaultFault → HasTold refusal.VaultFault own))
+    ⊎ ((new ≡ old) × (why ≡ refusal.VaultFault → WasRefused refusal.VaultFault own))
 
 abbrev pub FaultsOf : {A : Type 0} → Result A Refusal → List Deed → (old new : ℕ) → Type 0
 FaultsOf (Ok x) own old new = new ≡ old
@@ -263,7 +249,7 @@ pub record LoadsNext {D V : Type 0} {disk : Ghosts D} (pin batch from : ℕ) (l 
   pub own : own_in seat onward ≡ done ∷ []
   pub reads : AreLoads pin batch from (from + l.len) (done ∷ [])
   pub frames : frames_by done.what ≡ loaded_frames l
-  pub sound : IsLoaded l
+  pub valid : IsLoaded l
   pub fits : l.len ≤ batch
   -- one turn more was taken
   pub longer : length seat.before.seen < length seat.after.seen
@@ -284,7 +270,7 @@ pub record LoadsAhead {D V : Type 0} {disk : Ghosts D} (pin batch to : ℕ) (l :
   pub own : own_in seat onward ≡ written ++ last ∷ []
   pub reads : AreLoads pin batch 0 to (written ++ last ∷ [])
   pub frames : frames_by last.what ≡ loaded_frames l
-  pub sound : IsLoaded l
+  pub valid : IsLoaded l
   pub fits : l.len ≤ batch
   pub grows : Grows m (frame_bytes (frames_in written))
 

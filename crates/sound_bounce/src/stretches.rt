@@ -28,7 +28,7 @@ use std::mem;
 use std::sync::Wait;
 use std::thread::Threads;
 use studio_seats::{Desk, DeskSeat};
-use wav_pcm::append_piece;
+use wav_pcm::append_buffer;
 
 /// Mixes what is loaded into the first frames of a buffer.
 pub(crate) fn mix_front(rt: &(impl Threads + Sync), loaded: &Loaded, frames: &mut [Frame])
@@ -54,7 +54,7 @@ pub(crate) fn append_mixed<V: Vault>(
         (λ _. Grows (moved V.Vault name.now vault.old vault.new) (frame_bytes (loaded_frames loaded.now)))
         (λ _. GrowFails (moved V.Vault name.now vault.old vault.new) (frame_bytes (loaded_frames loaded.now))) }
 {
-    append_piece(vault, name, &frames[..loaded.len], bytes)
+    append_buffer(vault, name, &frames[..loaded.len], bytes)
 }
 
 /// Mixes what is loaded into the first frames of a buffer, and appends them.

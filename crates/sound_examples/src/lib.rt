@@ -1,4 +1,4 @@
-//! Sounds that are recorded and played in threads: the tests of `sound_run`.
+//! Sounds that are recorded and played in threads: the tests of `session_threads`.
 #![tactic(auto)]
 
 #[cfg(test)]
@@ -6,4 +6,4 @@ mod gates;
 #[cfg(test)]
 mod memory;
 #[cfg(test)]
-mod sound_run_tests;
+mod threads_tests;

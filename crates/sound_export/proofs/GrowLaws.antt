@@ -1,31 +1,25 @@
 -- How long a mix is, its text, and what is at fault where it is not written.
-use Rattle.std.proofs.Common.{◌≡◌, ℕ, zero, suc, ◌+◌, List, ◌++◌, length, Option, Some, refl, sym, ap, subst, ◌∙◌}
-use Rattle.std.proofs.Common.{Ok, arith}
-use Rattle.std.specs.Prelude.{IfErr}
+use Rattle.std.proofs.Common.{◌≡◌, ℕ, zero, suc, ◌+◌, List, ◌++◌, length, Option, Some, refl, sym, ap, subst, ◌∙◌, Ok}
+use Rattle.std.proofs.Common.{arith}
 use Rattle.std.proofs.lemmas.List.{length-map}
+use Rattle.std.specs.Prelude.{IfErr}
 use Rattle.disk_model.specs.Disk.{Files}
-use Rattle.pcm_base.specs.declared.block.BlockRef.{BlockRef}
-use Rattle.pcm_base.specs.declared.sound.Frame.{Frame}
-use Rattle.pcm_base.specs.Arithmetic.{counted_from}
-use Rattle.pcm_base.specs.Cells.{Project}
 use Rattle.pcm_base.specs.Mix.{mix_of, mix_length, frame_at}
-use Rattle.pcm_base.specs.Wave.{wav_text}
-use Rattle.wav_pcm.specs.Wavs.{FitsFile, wav_head}
-use Rattle.pcm_base.specs.Recordings.{frame_bytes}
+use Rattle.pcm_base.specs.{declared.block.BlockRef.BlockRef, declared.sound.Frame.Frame, Arithmetic.counted_from}
+use Rattle.pcm_base.specs.{Cells.Project, Wave.wav_text, Recordings.frame_bytes, declared.refusal.Refusal.Refusal}
+use Rattle.wav_pcm.specs.declared.fault.SoundFault.TheVariants.{NoFile, Vault, BadWav}
+use Rattle.wav_pcm.specs.Parts.{IsFor, SoundCountedBy, sound_refusal}
+use Rattle.wav_pcm.specs.{Wavs.FitsFile, Wavs.wav_head, declared.fault.SoundFault.SoundFault, Written.IsNotStarted}
+use Rattle.wav_pcm.specs.{Written.IsThere}
 use Rattle.sample_block.specs.Sources.{AllWhole}
 use Rattle.block_store.specs.Reads.{IsFaultIn}
-use Rattle.cell_view.proofs.SeenLaws.{sound_in}
-use Rattle.pcm_base.specs.declared.refusal.Refusal.{Refusal}
-use Rattle.pcm_base.specs.declared.refusal.Refusal.TheVariants as refusal
-use Rattle.wav_pcm.specs.declared.fault.SoundFault.{SoundFault}
-use Rattle.wav_pcm.specs.declared.fault.SoundFault.TheVariants.{NoFile, Vault, BadWav}
-use Rattle.wav_pcm.specs.declared.fault.SoundFault.TheVariants as wav
-use Rattle.wav_pcm.specs.Parts.{IsFor, SoundCountedBy, sound_refusal}
-use Rattle.wav_pcm.specs.Written.{IsNotStarted, IsThere}
+use Rattle.cell_reader.proofs.SeenLaws.{valid_in}
 use Rattle.sound_export.specs.declared.fault.ExportFault.{ExportFault}
 use Rattle.sound_export.specs.declared.fault.ExportFault.TheVariants.{TooLong, Block, VaultFault}
-use Rattle.sound_export.specs.Written.{ExportCountedBy, IsLengthFault, IsNoDamage, IsOfDevice}
-use Rattle.sound_export.specs.Written.{fault_of_start, read_part}
+use Rattle.sound_export.specs.Written.{ExportCountedBy, IsLengthFault, IsNoDamage, IsOfDevice, fault_of_start}
+use Rattle.sound_export.specs.Written.{read_part}
+use Rattle.pcm_base.specs.declared.refusal.Refusal.TheVariants as refusal
+use Rattle.wav_pcm.specs.declared.fault.SoundFault.TheVariants as wav
 
 -- how many frames a mix has
 length_counted : (n k : ℕ) → length (counted_from n k) ≡ k
@@ -48,7 +42,7 @@ device_fits len VaultFault fits of = fits
 pub no_damage : (files : Files) (bs : List BlockRef) (why : ExportFault) → AllWhole files bs
     → IfErr (read_part why) (λ e. IsFaultIn files bs e) → IsNoDamage why
 no_damage files bs (TooLong frames) whole is = tt
-no_damage files bs (Block why) whole is = sound_in files bs why whole is
+no_damage files bs (Block why) whole is = valid_in files bs why whole is
 no_damage files bs VaultFault whole is = tt
 
 -- ---- the file is begun
@@ -75,14 +69,11 @@ counted_by : (old new len : ℕ) (why same : SoundFault) → IsNotStarted len wh
     → ExportCountedBy (fault_of_start (sound_refusal same)) old new
 counted_by old new len NoFile same not is counted = absurd not
 counted_by old new len (BadWav fault) same not is counted = absurd not
-counted_by old new len Vault NoFile not is counted = absurd cc
 counted_by old new len Vault Vault not is counted = counted
-counted_by old new len Vault (BadWav fault) not is counted = absurd cc
 counted_by old new len Vault (wav.TooLong count) not is counted = counted
-counted_by old new len (wav.TooLong frames) NoFile not is counted = absurd cc
 counted_by old new len (wav.TooLong frames) Vault not is counted = counted
-counted_by old new len (wav.TooLong frames) (BadWav fault) not is counted = absurd cc
 counted_by old new len (wav.TooLong frames) (wav.TooLong count) not is counted = counted
+counted_by old new len _ _ not is counted = absurd cc
 
 pub start_counted : (old new len : ℕ) (reason : Refusal) (why : ExportFault) → IsFor (IsNotStarted len) reason
     → IsFor (λ why. SoundCountedBy why old new) reason → why ≡ fault_of_start reason
@@ -99,8 +90,8 @@ start_read reason why is = ap read_part is ∙ by reason
     by (refusal.TooLong frames) = refl
     by reason = refl
 
-pub start_sound : (reason : Refusal) (why : ExportFault) → why ≡ fault_of_start reason → IsNoDamage why
-start_sound reason why is = subst IsNoDamage (sym is) (by reason)
+pub start_valid : (reason : Refusal) (why : ExportFault) → why ≡ fault_of_start reason → IsNoDamage why
+start_valid reason why is = subst IsNoDamage (sym is) (by reason)
   where
     by : (reason : Refusal) → IsNoDamage (fault_of_start reason)
     by (refusal.TooLong frames) = tt

@@ -1,14 +1,12 @@
 -- What is written of a mix.
 use Rattle.std.specs.Prelude.{◌≡◌, ◌<◌, ◌≤◌, ◌+◌, ◌*◌, ℕ, Result, Ok, Err, MatchResult}
-use Rattle.pcm_base.specs.Causes.{Rose}
-use Rattle.pcm_base.specs.declared.refusal.Refusal.{Refusal}
-use Rattle.pcm_base.specs.declared.refusal.Refusal.TheVariants as refusal
-use Rattle.block_store.specs.declared.fault.BlockFault.{BlockFault}
-use Rattle.block_store.specs.declared.fault.BlockFault.TheVariants as block
-use Rattle.block_store.specs.Reasons.{reason_of}
+use Rattle.pcm_base.specs.{Causes.Rose, declared.refusal.Refusal.Refusal}
+use Rattle.block_store.specs.{declared.fault.BlockFault.BlockFault, Reasons.reason_of}
 use Rattle.wav_pcm.specs.Wavs.{FitsFile}
 use Rattle.sound_export.specs.declared.fault.ExportFault.{ExportFault}
 use Rattle.sound_export.specs.declared.fault.ExportFault.TheVariants.{TooLong, Block, VaultFault}
+use Rattle.pcm_base.specs.declared.refusal.Refusal.TheVariants as refusal
+use Rattle.block_store.specs.declared.fault.BlockFault.TheVariants as block
 
 -- the disk or the vault was at fault
 abbrev pub IsOfDevice : ExportFault → Type 0

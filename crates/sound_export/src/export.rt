@@ -8,7 +8,7 @@ ghost use Rattle.project_state.specs.Meaning.{meant, point_blocks};
 ghost use Rattle.sample_block.specs.Sources.{sources_of, AllNamed, AllWhole};
 ghost use Rattle.wav_pcm.specs.Written.{MayBegin};
 ghost use Rattle.block_cache.specs.Readers.{Reads};
-ghost use Rattle.mix_view.specs.Tracks.{mix_length_of, stored_mix};
+ghost use Rattle.mix_reader.specs.Tracks.{mix_length_of, stored_mix};
 ghost use Rattle.sound_export.specs.declared.fault.ExportFault.TheVariants as fault;
 ghost use Rattle.sound_export.specs.Written.{ExportCounted, IsLengthFault, IsNoDamage, disk_part};
 
@@ -17,7 +17,7 @@ use super::stretch::append_mix;
 use block_cache::BlockReader;
 use disk_model::Store;
 use edit_ports::Vault;
-use mix_view::mix_len;
+use mix_reader::mix_len;
 use pcm_base::{Cell, Frame};
 use project_state::Point;
 use wav_pcm::start_wav;
@@ -53,7 +53,7 @@ pub fn write_mix<S: Store, V: Vault>(
     ensures whole { AllWhole (S.reads reader.old.store) (point_blocks point.now)
         → stored_mix (S.reads reader.old.store) point.now
         ≡ mix_of (meant (sources_of (S.reads reader.old.store)) point.now) }
-    ensures sound { IsTrue (S.tells reader.old.store) → AllWhole (S.reads reader.old.store) (point_blocks point.now)
+    ensures valid { IsTrue (S.tells reader.old.store) → AllWhole (S.reads reader.old.store) (point_blocks point.now)
         → IfErr result (λ e. IsNoDamage e) }
     ensures too_long { 4294967295 < 36 + 4 * mix_length_of point.now
         → (result ≡ Err (fault.TooLong (mix_length_of point.now))) × (vault.new ≡ vault.old)

@@ -1,17 +1,14 @@
 -- The channels of a sound are the samples that are brought, one stretch of its frames each.
-use Rattle.std.proofs.Common.{◌≡◌, ◌<◌, ◌+◌, ◌*◌, ℕ, ℤ, pos, List, length, map, get_or, drop}
-use Rattle.std.proofs.Common.{sym, ap, ap₂, ◌∙◌, arith}
-use Rattle.std.specs.List.{range_with_len}
+use Rattle.std.proofs.Common.{◌≡◌, ◌<◌, ◌+◌, ◌*◌, ℕ, ℤ, pos, List, length, map, get_or, drop, sym, ap, ap₂, ◌∙◌, arith}
 use Rattle.std.proofs.lemmas.Nat.{div-mul-add, mod-mul-add}
 use Rattle.std.proofs.lemmas.List.{length-drop, length-take-le, same_lists}
 use Rattle.std.proofs.lemmas.List.FromFn.{get_or-map-range_with_len, length-map-range_with_len}
-use Rattle.pcm_base.specs.Pieces.{stretch}
-use Rattle.pcm_base.specs.Wave.{channel_of}
+use Rattle.std.specs.List.{range_with_len}
+use Rattle.pcm_base.specs.{Pieces.stretch, Wave.channel_of}
 use Rattle.pcm_base.proofs.Pieces.{stretch_list}
-use Rattle.wav_pcm.specs.declared.heads.WavHead.{WavHead}
-use Rattle.wav_pcm.specs.Heads.{bytes_of, frames_in, sound_at}
+use Rattle.wav_pcm.specs.{declared.heads.WavHead.WavHead, Heads.bytes_of, Heads.frames_in, Heads.sound_at}
 use Rattle.wav_pcm.proofs.ChannelLaws.{channel_length}
-use Rattle.piece_store.proofs.BringLaws.{moved_stretch}
+use Rattle.block_writer.proofs.BringLaws.{moved_stretch}
 use Rattle.sound_import.specs.Reading.{AreThere, sample_at}
 
 one_channel : (head : WavHead) (bytes : List ℕ) (c : ℕ) → c < head.channels → AreThere head bytes

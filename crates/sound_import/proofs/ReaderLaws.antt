@@ -1,19 +1,15 @@
 -- The samples of a stretch of one channel, among those of all channels.
-use Rattle.std.proofs.Common.{◌≡◌, ◌≤◌, ◌<◌, ◌+◌, ◌*◌, ◌/◌, ◌%◌, ◌++◌, ℕ, zero, suc, ℤ, pos, List, length, take, drop, get_or}
-use Rattle.std.proofs.Common.{sym, ap, ap₂, ◌∙◌, arith}
+use Rattle.std.proofs.Common.{◌≡◌, ◌≤◌, ◌<◌, ◌+◌, ◌*◌, ◌/◌, ◌%◌, ◌++◌, ℕ, zero, suc, ℤ, pos, List, length, take, drop}
+use Rattle.std.proofs.Common.{get_or, sym, ap, ap₂, ◌∙◌, arith}
 use Rattle.std.proofs.lemmas.Nat.{div-add-mod', div-mul-add, mod-mul-add, mod_below}
-use Rattle.std.proofs.Math.Nat.{lt_of_mul-lt-mul_right}
-use Rattle.std.proofs.lemmas.List.{length-drop, length-take-le}
-use Rattle.pcm_base.specs.Pieces.{stretch}
-use Rattle.pcm_base.specs.Wave.{channel_of}
+use Rattle.std.proofs.{Math.Nat.lt_of_mul-lt-mul_right, lemmas.List.length-drop, lemmas.List.length-take-le}
+use Rattle.pcm_base.specs.{Pieces.stretch, Wave.channel_of}
 use Rattle.block_store.proofs.StretchLaws.{stretch_part}
-use Rattle.wav_pcm.specs.declared.heads.WavHead.{WavHead}
-use Rattle.wav_pcm.specs.declared.fault.SoundFault.{SoundFault}
 use Rattle.wav_pcm.specs.declared.fault.SoundFault.TheVariants.{NoFile, Vault, BadWav, TooLong}
-use Rattle.wav_pcm.specs.Parts.{IsVaultAlone}
 use Rattle.wav_pcm.specs.Heads.{IsChannelOf, IsCut, bytes_of, frames_in, place_of}
+use Rattle.wav_pcm.specs.{declared.heads.WavHead.WavHead, declared.fault.SoundFault.SoundFault, Parts.IsVaultAlone}
 use Rattle.wav_pcm.proofs.ChannelLaws.{bytes_le, channel_length, channel_part}
-use Rattle.piece_store.proofs.BringLaws.{moved_stretch, stretch_more}
+use Rattle.block_writer.proofs.BringLaws.{moved_stretch, stretch_more}
 use Rattle.sound_import.specs.Reading.{AreThere, sample_at}
 
 -- a stretch of one channel

@@ -2,19 +2,15 @@
 use Rattle.std.proofs.Common.{◌≡◌, ◌<◌, ◌≤◌, ◌^◌, ◌/◌, ◌%◌, ℕ, zero, suc, ◌+◌, ◌*◌, ℤ, pos, List, [], ◌∷◌, ◌++◌, length}
 use Rattle.std.proofs.Common.{map, subst, get_or, Bool, ◌==◌, Some, None, Ok, Err, FitsSigned, refl, sym, ap, ap₂, ◌∙◌}
 use Rattle.std.proofs.Common.{arith}
-use Rattle.std.specs.Prelude.{if◌then◌else◌, slice_index, codes, take, drop}
-use Rattle.std.specs.List.{range_with_len}
-use Rattle.std.specs.Int.{w16, byte_at, cast_signed, cast_unsigned}
-use Rattle.std.proofs.lemmas.Bool.{ne_eqb}
-use Rattle.std.proofs.lemmas.List.{same_lists}
-use Rattle.std.proofs.lemmas.List.FromFn.{get_or-map-range_with_len, length-map-range_with_len}
 use Rattle.std.proofs.lemmas.Nat.{div-mul-add, mod-mul-add, mul-add-lt}
-use Rattle.std.proofs.Math.Nat.{mul_comm, mul-div_cancel_left}
-use Rattle.pcm_base.specs.Pieces.{stretch}
+use Rattle.std.proofs.{lemmas.Bool.ne_eqb, lemmas.List.same_lists, lemmas.List.FromFn.get_or-map-range_with_len}
+use Rattle.std.proofs.{lemmas.List.FromFn.length-map-range_with_len, Math.Nat.mul_comm, Math.Nat.mul-div_cancel_left}
+use Rattle.std.specs.Prelude.{if◌then◌else◌, slice_index, codes, take, drop}
+use Rattle.std.specs.{List.range_with_len, Int.w16, Int.byte_at, Int.cast_signed, Int.cast_unsigned}
+use Rattle.pcm_base.specs.Wave.{Format, channel_of, i16_at, riff_header, seen_after, some_format, u32_bytes, u32_at}
+use Rattle.pcm_base.specs.Wave.{wav_of}
+use Rattle.pcm_base.specs.{Pieces.stretch, declared.wav.WavFault.TheVariants.BadRate}
 use Rattle.pcm_base.proofs.Pieces.{length-stretch}
-use Rattle.pcm_base.specs.declared.wav.WavFault.TheVariants.{BadRate}
-use Rattle.pcm_base.specs.Wave.{Format, channel_of, i16_at, riff_header, seen_after}
-use Rattle.pcm_base.specs.Wave.{some_format, u32_bytes, u32_at, wav_of}
 use Rattle.wav_pcm.proofs.ChunkLaws.{data_found, goes_on}
 use Rattle.wav_pcm.proofs.WrittenLaws.{four_back, riff_read, sample_back}
 

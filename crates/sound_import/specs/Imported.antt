@@ -1,14 +1,12 @@
 -- What looking for a sound of a vault answers.
 use Rattle.std.specs.Prelude.{◌≡◌, ℕ, List, Option, Some, Result, MatchResult}
-use Rattle.pcm_base.specs.State.{State}
-use Rattle.pcm_base.specs.Refusals.{import_tests}
-use Rattle.pcm_base.specs.declared.refusal.Refusal.{Refusal}
-use Rattle.pcm_base.specs.declared.refusal.Refusal.TheVariants as refusal
+use Rattle.pcm_base.specs.{State.State, Refusals.import_tests, declared.refusal.Refusal.Refusal}
 use Rattle.wav_pcm.specs.declared.fault.SoundFault.{SoundFault}
 use Rattle.wav_pcm.specs.declared.fault.SoundFault.TheVariants.{NoFile, Vault, BadWav, TooLong}
 use Rattle.wav_pcm.specs.Parts.{HasFewer, SoundCountedBy, sound_refusal}
 use Rattle.sound_import.specs.declared.fault.ImportFault.{ImportFault}
 use Rattle.sound_import.specs.declared.fault.ImportFault.TheVariants.{Sound, RateDiffers}
+use Rattle.pcm_base.specs.declared.refusal.Refusal.TheVariants as refusal
 
 -- the model refuses an import of this sound for this reason, whatever the project is
 abbrev pub Refuses : Option (List ℕ) → ℕ → Refusal → Type 0

@@ -1,17 +1,12 @@
 -- The samples of a sound of a vault, as they are brought: those of each channel after those of the one before.
 use Rattle.std.specs.Prelude.{◌≤◌, ℕ, ◌+◌, ◌*◌, ◌/◌, ◌%◌, ℤ, pos, Bool, true, ◌&&◌, nat_le, List, length}
 use Rattle.std.specs.Prelude.{slice_index_or}
-use Rattle.pcm_base.specs.Outside.{Sounds}
-use Rattle.pcm_base.specs.Wave.{channel_of}
-use Rattle.pcm_base.specs.declared.wav.WavFault.TheVariants.{Truncated}
+use Rattle.pcm_base.specs.{Outside.Sounds, Wave.channel_of, declared.wav.WavFault.TheVariants.Truncated}
 use Rattle.edit_ports.specs.Sounds.{sound_bytes}
-use Rattle.wav_pcm.specs.declared.heads.WavHead.{WavHead}
-use Rattle.wav_pcm.specs.declared.fault.SoundFault.{SoundFault}
-use Rattle.wav_pcm.specs.declared.fault.SoundFault.TheVariants.{BadWav}
-use Rattle.wav_pcm.specs.Heads.{bytes_of, frames_in}
-use Rattle.piece_store.specs.Brought.{Brought}
-use Rattle.piece_store.specs.declared.fault.BringFault.{BringFault}
-use Rattle.piece_store.specs.declared.fault.BringFault.TheVariants as bring
+use Rattle.wav_pcm.specs.{declared.heads.WavHead.WavHead, declared.fault.SoundFault.SoundFault}
+use Rattle.wav_pcm.specs.{declared.fault.SoundFault.TheVariants.BadWav, Heads.bytes_of, Heads.frames_in}
+use Rattle.block_writer.specs.{Brought.Brought, declared.fault.BringFault.BringFault}
+use Rattle.block_writer.specs.declared.fault.BringFault.TheVariants as bring
 
 -- all frames of a head are there
 abbrev pub are_there : WavHead → List ℕ → Bool

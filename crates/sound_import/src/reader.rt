@@ -1,4 +1,4 @@
-// The samples of a sound of a vault, brought a piece at a time.
+// The samples of a sound of a vault, brought a buffer at a time.
 ghost use Rattle.std.specs.Prelude.{◌≡◌, ◌≤◌, ◌<◌, ◌+◌, ◌*◌, length, IsTrue, OnOk, IfErr};
 ghost use Rattle.pcm_base.specs.Pieces.{stretch};
 ghost use Rattle.edit_ports.specs.Sounds.{sound_bytes};
@@ -6,10 +6,10 @@ ghost use Rattle.wav_pcm.specs.Parts.{IsShort, IsVaultAlone, SoundCounted};
 ghost use Rattle.wav_pcm.specs.Heads.{HasShape, FitSamples};
 ghost use Rattle.sound_import.specs.Reading.{AreThere, fault_from, sample_at};
 
+use block_writer::{BringFault, Brings};
 use edit_ports::Vault;
 use pcm_base::WavFault;
-use piece_store::{BringFault, Brings};
-use wav_pcm::{SoundFault, WavHead, read_channel};
+use wav_pcm::{ChannelOf, SoundFault, WavHead, read_channel};
 
 /// The samples of a sound of a vault: those of each channel after those of the one before. The head says where they
 /// are.
@@ -65,7 +65,11 @@ fn read_samples<V: Vault>(
         let at = place % head.frames;
         let count = (head.frames - at).min((all - done) as u64) as usize;
         let part = &mut out[done..done + count];
-        if let Err(why) = read_channel(vault, name, head, c as u16, at, buf, part) {
+        let of = ChannelOf {
+            head: *head,
+            c: c as u16,
+        };
+        if let Err(why) = read_channel(vault, name, of, at, buf, part) {
             return Err(why);
         }
         done += count;

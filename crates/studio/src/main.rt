@@ -13,6 +13,19 @@ use std::process::ExitCode;
 use std::{env, fs};
 use studio_devices::{Devices, StreamSink, StreamSource, devices_of};
 
+// The words, the program's name first. Words that are not text are no command.
+fn read_words(rt: &HostRuntime, alloc: Global) -> Result<Vec<String>, AllocError> {
+    match env::args(rt) {
+        Ok(arguments) => arguments.collect(alloc),
+        Err(error) => {
+            if error.kind() == ErrorKind::OutOfMemory {
+                return Err(AllocError);
+            }
+            Ok(Vec::new(alloc))
+        }
+    }
+}
+
 // The first word after the program's name, which is taken out.
 fn take_folder(alloc: Global, words: &mut Vec<String>) -> Result<String, AllocError> {
     if words.len() > 1 {
@@ -36,21 +49,8 @@ fn main(rt: HostRuntime) -> ExitCode {
     ];
     let mut script = StreamSource::new(rt.stdin());
     let mut out = StreamSink::new(rt.stdout());
-    let mut words = match env::args(&rt) {
-        Ok(arguments) => {
-            let collected: Result<Vec<String>, AllocError> = arguments.collect(alloc);
-            match collected {
-                Ok(words) => words,
-                Err(_) => return refuse_memory(&mut out),
-            }
-        }
-        Err(error) => {
-            if error.kind() == ErrorKind::OutOfMemory {
-                return refuse_memory(&mut out);
-            }
-            // Words that are not text are no command.
-            Vec::new(alloc)
-        }
+    let Ok(mut words) = read_words(&rt, alloc) else {
+        return refuse_memory(&mut out);
     };
     let Ok(folder) = take_folder(alloc, &mut words) else {
         return refuse_memory(&mut out);

@@ -1,18 +1,11 @@
 -- What deeds ask of the disk, one after another.
 use Rattle.std.proofs.Common.{sym, subst, List, [], ◌∷◌}
-use Rattle.disk_model.specs.Frames.{Changed}
-use Rattle.disk_model.specs.Room.{Room}
-use Rattle.disk_model.specs.declared.store.Store.{Ghosts}
-use Rattle.disk_model.proofs.Frames.{Fewer, changed_none, changed_turn}
-use Rattle.disk_model.proofs.Rooms.{within_refl}
-use Rattle.edit_ports.specs.declared.vault.Vault as vault
-use Rattle.editor_state.specs.Core.{Core}
-use Rattle.editor_state.specs.Left.{LeavesForeign}
-use Rattle.editor_state.specs.Studios.{IsStudio}
+use Rattle.disk_model.specs.{Frames.Changed, Room.Room, declared.store.Store.Ghosts}
+use Rattle.disk_model.proofs.{Frames.Fewer, Frames.changed_none, Frames.changed_turn, Rooms.within_refl}
+use Rattle.editor_state.specs.{Core.Core, Left.LeavesForeign, Studios.IsStudio}
 use Rattle.editor_state.proofs.Calls.OtherFiles.{foreign_of, foreign_same, foreign_then}
-use Rattle.studio_seats.specs.declared.deed.Deed.{Deed}
-use Rattle.studio_seats.specs.Leads.{DeedsAsk, chain_asks}
-use Rattle.studio_seats.specs.Stands.{Chain}
+use Rattle.studio_seats.specs.{declared.deed.Deed.Deed, Leads.DeedsAsk, Leads.chain_asks, Stands.Chain}
+use Rattle.edit_ports.specs.declared.vault.Vault as vault
 
 module _ {D V : Type 0} (disk : Ghosts D) (vaults : vault.Ghosts V) (fewer : (store : D) → Fewer disk store) where
   asked : (old : Core D) (ds : List Deed) (new : Core D) (chain : Chain disk vaults old ds new) → IsStudio disk old

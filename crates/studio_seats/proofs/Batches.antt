@@ -1,28 +1,15 @@
 -- The samples of several chunks, put together.
 use Rattle.std.proofs.Common.{◌≡◌, ◌⊎◌, inl, inr, ℕ, zero, suc, ◌+◌, ◌-◌, ◌*◌, ◌<◌, ◌≤◌, ℤ, List, [], ◌∷◌, ◌++◌, length}
 use Rattle.std.proofs.Common.{take, drop, get_or, map, Result, Ok, Err, refl, sym, ◌∙◌, ap, subst, arith}
-use Rattle.std.specs.Prelude.{IfErr, IfOk, MatchResult, OnOk, is_err}
-use Rattle.std.proofs.lemmas.List.{length-append, length-drop, length-map, length-take-le, take_all, take-append-le}
-use Rattle.std.proofs.lemmas.List.{drop-append-le}
-use Rattle.std.proofs.lemmas.List.{take-map, take-take, take_more, take-append-drop, map-append}
+use Rattle.std.proofs.lemmas.List.{length-append, length-drop, length-map, length-take-le, take_all, take-map}
+use Rattle.std.proofs.lemmas.List.{take-take, take_more, take-append-drop, map-append}
 use Rattle.std.proofs.lemmas.Slice.{drop-put_mid, take-put_mid}
-use borrow.Rule.Slice.PartMut.{put_mid}
-use Rattle.pcm_base.specs.Parts.{Part}
-use Rattle.pcm_base.specs.declared.refusal.Refusal.{Refusal}
+use Rattle.std.specs.Prelude.{IfErr, IfOk, MatchResult, OnOk, is_err}
 use Rattle.pcm_base.specs.Recordings.{parts_of, pieces_in, pieces_of}
-use Rattle.edit_ports.specs.Answers.{AreTaken, numbered_pieces, samples_of}
-use Rattle.edit_ports.specs.declared.pieces.Taken.{Taken}
-
-parts_append : {A : Type 0} (size k m n : ℕ) (xs ys : List A) → n ≡ k + m → length xs ≡ k * size
-    → parts_of size n (xs ++ ys) ≡ parts_of size k xs ++ parts_of size m ys
-parts_append size zero m n [] ys e h = let same : n ≡ m = omega arith in ap (λ c. parts_of size c ys) same
-parts_append size zero m n (x ∷ xs) ys e h = absurd (omega arith)
-parts_append size (suc k) m zero xs ys e h = absurd (omega arith)
-parts_append size (suc k) m (suc n) xs ys e h =
-    let long : size ≤ length xs = grind arith in
-    let rest : length (drop size xs) ≡ k * size = grind (arith, length-drop) in
-    rw (take-append-le size xs ys long, drop-append-le size xs ys long)
-    (ap (λ t. take size xs ∷ t) (parts_append size k m n (drop size xs) ys (omega arith) rest))
+use Rattle.pcm_base.specs.{Parts.Part, declared.refusal.Refusal.Refusal}
+use Rattle.edit_ports.specs.{Answers.AreTaken, Answers.numbered_pieces, Answers.samples_of, declared.pieces.Taken.Taken}
+use Rattle.pcm_base.proofs.ListFacts.{parts_append}
+use borrow.Rule.Slice.PartMut.{put_mid}
 
 -- one chunk more
 pub joined_more : (chunks : List Part) (d : Part) (done joined : List ℤ) (count : ℕ) → count < length chunks

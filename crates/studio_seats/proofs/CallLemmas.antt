@@ -1,29 +1,19 @@
 -- One call of a seat, and the own deed that it is.
 use Rattle.std.proofs.Common.{◌≡◌, ◌⊎◌, inl, inr, ⊎_elim, ℕ, ◌+◌, ◌<◌, true, false, List, [], ◌∷◌, ◌++◌, length}
 use Rattle.std.proofs.Common.{append_assoc, refl, sym, ◌∙◌, ap, arith, Result, Ok, Err}
-use Rattle.std.proofs.lemmas.Bool.{true≢false}
-use Rattle.std.proofs.lemmas.List.{length-append}
-use Rattle.pcm_base.specs.declared.answer.Reply.{Reply}
-use Rattle.pcm_base.specs.declared.command.Call.{Call}
-use Rattle.pcm_base.specs.declared.limits.TheConstants.{COUNTER_LIMIT}
-use Rattle.pcm_base.specs.declared.refusal.Refusal.{Refusal}
-use Rattle.pcm_base.specs.declared.said.Said.{Said}
+use Rattle.std.proofs.{lemmas.Bool.true≢false, lemmas.List.length-append}
+use Rattle.pcm_base.specs.{declared.answer.Reply.Reply, declared.command.Call.Call}
+use Rattle.pcm_base.specs.{declared.limits.TheConstants.COUNTER_LIMIT, declared.refusal.Refusal.Refusal}
+use Rattle.pcm_base.specs.{declared.said.Said.Said}
 use Rattle.disk_model.specs.declared.store.Store.{Ghosts}
-use Rattle.edit_ports.specs.declared.vault.Vault as vault
 use Rattle.pin_turn.specs.declared.view.View.{View}
-use Rattle.editor_state.specs.Core.{Core}
-use Rattle.editor_state.specs.Took.{silent}
-use Rattle.studio_seats.specs.declared.deed.Deed.{Deed}
-use Rattle.studio_seats.specs.declared.held.Held.{Held}
-use Rattle.studio_seats.specs.Deeds.{deed, number_after}
+use Rattle.editor_state.specs.{Core.Core, Took.silent}
 use Rattle.studio_seats.specs.Desks.{Says, Spends, Turned, asked, spent, views}
-use Rattle.studio_seats.specs.Merge.{by_seat, deeds_of}
-use Rattle.studio_seats.specs.Onward.{Onward}
-use Rattle.studio_seats.specs.Stands.{origin}
-use Rattle.studio_seats.proofs.MergeLemmas.{deeds_append}
+use Rattle.studio_seats.specs.{declared.deed.Deed.Deed, declared.held.Held.Held, Deeds.deed, Deeds.number_after}
+use Rattle.studio_seats.specs.{Merge.by_seat, Merge.deeds_of, Onward.Onward, Stands.origin}
 use Rattle.studio_seats.proofs.OnwardLemmas.{onward_self, onward_spent, onward_taken}
-use Rattle.studio_seats.proofs.Turns.{turned_number}
-use Rattle.studio_seats.proofs.WorkLemmas.{own_turn}
+use Rattle.studio_seats.proofs.{MergeLemmas.deeds_append, Turns.turned_number, WorkLemmas.own_turn}
+use Rattle.edit_ports.specs.declared.vault.Vault as vault
 
 -- a turn was taken: after deeds of others comes this one, which is the seat's own
 pub record IsTaken {D V : Type 0} {disk : Ghosts D} (first : ℕ) (v w : View (Held D V disk) Deed) (d : Deed) (at : ℕ)

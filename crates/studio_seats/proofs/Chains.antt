@@ -1,11 +1,10 @@
 -- Deeds one after another.
 use Rattle.std.proofs.Common.{refl, subst, List, [], ◌∷◌, ◌++◌}
 use Rattle.disk_model.specs.declared.store.Store.{Ghosts}
-use Rattle.edit_ports.specs.declared.vault.Vault as vault
-use Rattle.editor_state.specs.Core.{Core}
-use Rattle.editor_state.specs.Studios.{IsStudio}
+use Rattle.editor_state.specs.{Core.Core, Studios.IsStudio}
 use Rattle.studio_seats.specs.declared.deed.Deed.{Deed}
 use Rattle.studio_seats.specs.Stands.{AllTell, Chain, Does, Origin, StandsFor}
+use Rattle.edit_ports.specs.declared.vault.Vault as vault
 
 module _ {D V : Type 0} (disk : Ghosts D) (vaults : vault.Ghosts V) where
   -- one deed more

@@ -1,30 +1,20 @@
 -- Counts of faults along a run.
-use Rattle.std.proofs.Common.{◌≡◌, ◌⊎◌, inl, inr, sym, ap, ◌∙◌, subst, ℕ, ◌≤◌}
-use Rattle.std.proofs.Common.{IsTrue, None, List, [], ◌∷◌}
-use Rattle.std.proofs.Common.{Result, Ok, Err, arith}
+use Rattle.std.proofs.Common.{◌≡◌, ◌⊎◌, inl, inr, sym, ap, ◌∙◌, subst, ℕ, ◌≤◌, IsTrue, None, List, [], ◌∷◌, Result, Ok}
+use Rattle.std.proofs.Common.{Err, arith}
 use Rattle.std.specs.Prelude.{IfErr}
-use Rattle.pcm_base.specs.declared.answer.Reply.{Reply}
-use Rattle.pcm_base.specs.declared.command.Call.{Call}
-use Rattle.pcm_base.specs.declared.entry.Entry.{Entry}
-use Rattle.pcm_base.specs.declared.entry.SoundMove.{SoundMove}
-use Rattle.pcm_base.specs.declared.refusal.Refusal.{Refusal}
-use Rattle.pcm_base.specs.declared.refusal.Refusal.TheVariants as refusal
-use Rattle.pcm_base.specs.Causes.{Rose}
-use Rattle.pcm_base.specs.Run.{Answers, Breaks, ChangeFailed, ReadFailed, Run, may_change, outside}
-use Rattle.pcm_base.specs.Run.{result_of}
-use Rattle.pcm_base.specs.Studio as model
+use Rattle.pcm_base.specs.Run.{Answers, Breaks, ChangeFailed, ReadFailed, Run, may_change, outside, result_of}
+use Rattle.pcm_base.specs.{declared.answer.Reply.Reply, declared.command.Call.Call, declared.entry.Entry.Entry}
+use Rattle.pcm_base.specs.{declared.entry.SoundMove.SoundMove, declared.refusal.Refusal.Refusal, Causes.Rose}
 use Rattle.pin_turn.specs.Counts.{Each}
 use Rattle.disk_model.specs.declared.store.Store.{Ghosts}
-use Rattle.edit_ports.specs.declared.vault.Vault as vault
-use Rattle.editor_state.specs.Applied.{reply_of}
-use Rattle.editor_state.specs.Studios.{studio_of}
+use Rattle.editor_state.specs.{Applied.reply_of, Studios.studio_of}
 use Rattle.model_laws.proofs.Answered.{carried_is}
-use Rattle.studio_seats.specs.declared.deed.Deed.{Deed}
-use Rattle.studio_seats.specs.Deeds.{entries_of}
 use Rattle.studio_seats.specs.Faults.{AreServed, DesksServe, IsCalm, IsServed, Serves}
-use Rattle.studio_seats.specs.Stands.{origin}
-use Rattle.studio_seats.proofs.Grown.{leads}
-use Rattle.studio_seats.proofs.TestFaults.{Tells, served_test, tested}
+use Rattle.studio_seats.specs.{declared.deed.Deed.Deed, Deeds.entries_of, Stands.origin}
+use Rattle.studio_seats.proofs.{Grown.leads, TestFaults.Tells, TestFaults.served_test, TestFaults.tested}
+use Rattle.pcm_base.specs.declared.refusal.Refusal.TheVariants as refusal
+use Rattle.pcm_base.specs.Studio as model
+use Rattle.edit_ports.specs.declared.vault.Vault as vault
 
 -- ---- one step
 

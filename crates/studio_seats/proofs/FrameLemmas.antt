@@ -3,31 +3,22 @@ use Rattle.std.proofs.Common.{◌≡◌, ⊎_elim, ℕ, Bool, true, false, List,
 use Rattle.std.proofs.Common.{if◌then◌else◌, refl, sym, ◌∙◌, ap, subst, append_assoc, eq-eqb, rules, Result, Ok, Err}
 use Rattle.std.proofs.lemmas.List.{append-nil}
 use Rattle.std.specs.Prelude.{IfOk, IsTrue}
-use Rattle.pcm_base.specs.declared.answer.Reply.{Reply}
 use Rattle.pcm_base.specs.declared.answer.Reply.TheVariants.{Frames, Pinned}
 use Rattle.pcm_base.specs.declared.command.Call.TheVariants.{Pin, ReadPin}
-use Rattle.pcm_base.specs.declared.entry.Entry.{Entry}
-use Rattle.pcm_base.specs.declared.refusal.Refusal.{Refusal}
-use Rattle.pcm_base.specs.declared.said.Said.{Said}
-use Rattle.pcm_base.specs.declared.sound.Frame.{Frame}
-use Rattle.pcm_base.specs.Mix.{mix_of}
 use Rattle.pcm_base.specs.State.{State, current}
-use Rattle.pcm_base.specs.Studio as model
+use Rattle.pcm_base.specs.{declared.answer.Reply.Reply, declared.entry.Entry.Entry, declared.refusal.Refusal.Refusal}
+use Rattle.pcm_base.specs.{declared.said.Said.Said, declared.sound.Frame.Frame, Mix.mix_of}
 use Rattle.disk_model.specs.declared.store.Store.{Ghosts}
-use Rattle.edit_ports.specs.declared.vault.Vault as vault
 use Rattle.pin_turn.specs.declared.view.View.{View}
-use Rattle.editor_state.specs.Core.{Core}
-use Rattle.editor_state.specs.Studios.{studio_of}
-use Rattle.editor_state.specs.Took.{silent, told_by}
-use Rattle.studio_seats.specs.declared.deed.Deed.{Deed}
-use Rattle.studio_seats.specs.declared.held.Held.{Held}
+use Rattle.editor_state.specs.{Core.Core, Studios.studio_of, Took.silent, Took.as_reply}
 use Rattle.studio_seats.specs.Deeds.{deed, entries_of, entry_of}
 use Rattle.studio_seats.specs.Desks.{Says, Spends, Turned, asked, views}
 use Rattle.studio_seats.specs.Pins.{after_entry, is_made, makes_pin, pin_frames}
-use Rattle.studio_seats.specs.Shows.{IsMixOf}
-use Rattle.studio_seats.specs.Stands.{origin}
+use Rattle.studio_seats.specs.{declared.deed.Deed.Deed, declared.held.Held.Held, Shows.IsMixOf, Stands.origin}
 use Rattle.studio_seats.proofs.Grown.{all_told, entries_append, leads}
 use Rattle.studio_seats.proofs.PinLemmas.{frames_on, read_frames, run_shows}
+use Rattle.pcm_base.specs.Studio as model
+use Rattle.edit_ports.specs.declared.vault.Vault as vault
 
 none_made : IsTrue false → ⊥
 none_made x = search rules
@@ -70,17 +61,17 @@ made_last pin (x ∷ xs) e makes =
 -- a seat to which a pin was answered has seen how it was made
 pub pinned_made : {D V : Type 0} (disk : Ghosts D) (vaults : vault.Ghosts V) (start : Core D)
     (v w : View (Held D V disk) Deed) (said : Said ℕ)
-    → Says (origin disk vaults start) (asked Pin (told_by Pinned said.what) silent) said (views v w)
+    → Says (origin disk vaults start) (asked Pin (as_reply Pinned said.what) silent) said (views v w)
     → IfOk said.what (λ pin. IsTrue (is_made pin (entries_of w.seen)))
 pinned_made {D} {V} disk vaults start v w said h = ⊎_elim
-    (λ (x : Turned (origin disk vaults start) (asked Pin (told_by Pinned said.what) silent) said.at (views v w)).
+    (λ (x : Turned (origin disk vaults start) (asked Pin (as_reply Pinned said.what) silent) said.at (views v w)).
     in_turn said.what said.at x)
     (λ (x : Spends v said w). subst (λ (r : Result ℕ Refusal). IfOk r (λ pin. IsTrue (is_made pin (entries_of w.seen))))
     (sym x.what) tt)
     h
   where
     in_turn : (what : Result ℕ Refusal) (at : ℕ)
-        → Turned (origin disk vaults start) (asked Pin (told_by Pinned what) silent) at (views v w)
+        → Turned (origin disk vaults start) (asked Pin (as_reply Pinned what) silent) at (views v w)
         → IfOk what (λ pin. IsTrue (is_made pin (entries_of w.seen)))
     in_turn (Ok pin) at x =
         let d : Deed = deed v.number Pin (Ok (Pinned pin)) silent in
@@ -95,7 +86,7 @@ module _ {D V : Type 0} (disk : Ghosts D) (vaults : vault.Ghosts V) (start : Cor
   t = studio_of disk start
 
   abbrev what_of : Result ℕ Refusal → Result Reply Refusal
-  what_of what = told_by (λ (n : ℕ). Frames (take n new)) what
+  what_of what = as_reply (λ (n : ℕ). Frames (take n new)) what
 
   abbrev Reads : Result ℕ Refusal → ℕ → Type 0
   Reads what at =

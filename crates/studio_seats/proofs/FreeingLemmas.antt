@@ -1,18 +1,13 @@
 -- Pieces and the reclaims between them, list by list.
-use Rattle.std.proofs.Common.{◌≡◌, ◌⊎◌, inl, inr, ℕ, ◌==◌, ◌&&◌, if◌then◌else◌, ℤ, Bool, true, false, List, []}
-use Rattle.std.proofs.Common.{◌∷◌, ◌++◌}
-use Rattle.std.proofs.Common.{refl, sym, ◌∙◌, ap, arith}
+use Rattle.std.proofs.Common.{◌≡◌, ◌⊎◌, inl, inr, ℕ, ◌==◌, ◌&&◌, if◌then◌else◌, ℤ, Bool, true, false, List, [], ◌∷◌}
+use Rattle.std.proofs.Common.{◌++◌, refl, sym, ◌∙◌, ap, arith}
 use Rattle.std.proofs.lemmas.Bool.Decides.{nat_tests}
-use Rattle.pcm_base.specs.declared.command.Call.{Call}
-use Rattle.pcm_base.specs.declared.entry.Entry.{Entry}
+use Rattle.pcm_base.specs.{declared.command.Call.Call, declared.entry.Entry.Entry}
 use Rattle.pin_turn.specs.Counts.{Each}
-use Rattle.studio_seats.specs.declared.deed.Deed.{Deed}
 use Rattle.studio_seats.specs.Deeds.{entries_of, is_commit, raised_by}
 use Rattle.studio_seats.specs.Freeing.{AreFreed, IsDue, IsFullReclaim, makes_piece, unfreed, unfreed_by}
-use Rattle.studio_seats.specs.Merge.{by_seat, deeds_of}
-use Rattle.studio_seats.specs.Onward.{Asks}
-use Rattle.studio_seats.specs.Pieces.{piece_in, pieces_by}
-use Rattle.studio_seats.specs.Recording.{asks_piece}
+use Rattle.studio_seats.specs.{declared.deed.Deed.Deed, Merge.by_seat, Merge.deeds_of, Onward.Asks, Pieces.piece_in}
+use Rattle.studio_seats.specs.{Pieces.pieces_by, Recording.asks_piece}
 
 pub same_seat : (a b : ℕ) → (a == b) ≡ true → a ≡ b
 same_seat a b h = grind (arith, nat_tests)

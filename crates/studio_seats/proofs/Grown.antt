@@ -1,41 +1,30 @@
 -- A list of deeds that is one longer.
 use Rattle.std.proofs.Common.{◌≡◌, ◌⊎◌, inl, inr, ⊎_elim, refl, sym, ap, ◌∙◌, subst, ℕ, IsSome, Option, Some, None}
 use Rattle.std.proofs.Common.{List, [], ◌∷◌, ◌++◌, append_assoc, Result, Ok, Err}
+use Rattle.std.proofs.{lemmas.List.append-nil, lemmas.Option.none-some}
 use Rattle.std.specs.Prelude.{IfErr}
-use Rattle.std.proofs.lemmas.List.{append-nil}
-use Rattle.std.proofs.lemmas.Option.{none-some}
-use Rattle.pcm_base.specs.declared.answer.Reply.{Reply}
-use Rattle.pcm_base.specs.declared.answer.Reply.TheVariants.{Refused}
-use Rattle.pcm_base.specs.declared.command.Call.{Call}
-use Rattle.pcm_base.specs.declared.entry.Entry.{Entry}
-use Rattle.pcm_base.specs.declared.refusal.Refusal.{Refusal}
-use Rattle.pcm_base.specs.declared.refusal.Refusal.TheVariants as refusal
 use Rattle.pcm_base.specs.Run.{Run, Step, name_in}
-use Rattle.pcm_base.specs.Studio as model
-use Rattle.disk_model.specs.Disk.{Files}
-use Rattle.disk_model.specs.MomentLaws.{upto_refl, upto_trans}
-use Rattle.disk_model.specs.declared.store.Store.{Ghosts}
+use Rattle.pcm_base.specs.{declared.answer.Reply.Reply, declared.answer.Reply.TheVariants.Refused}
+use Rattle.pcm_base.specs.{declared.command.Call.Call, declared.entry.Entry.Entry, declared.refusal.Refusal.Refusal}
+use Rattle.disk_model.specs.{Disk.Files, MomentLaws.upto_refl, MomentLaws.upto_trans, declared.store.Store.Ghosts}
 use Rattle.disk_model.proofs.Moments.{each_on}
 use Rattle.project_journal.specs.Gate.{EachNow, EachSince}
-use Rattle.record_body.specs.Kept.{Keeps}
-use Rattle.editor_state.specs.Applied.{reply_of}
-use Rattle.editor_state.specs.Core.{Core}
-use Rattle.editor_state.specs.Events.{KeepsPrefix}
+use Rattle.record_body.specs.Saved.{Keeps}
 use Rattle.editor_state.specs.Studios.{IsHeld, IsStudio, shown, studio_of}
-use Rattle.editor_state.specs.Left.{Left, Stops}
 use Rattle.editor_state.specs.Took.{Took, exchange_of, freeing, silent}
-use Rattle.editor_state.proofs.Calls.VaultCalls.{lasts_took}
+use Rattle.editor_state.specs.{Applied.reply_of, Core.Core, Events.KeepsPrefix, Left.Left, Left.Stops}
 use Rattle.editor_state.proofs.Calls.RunEntries.{flies, prefix_more, run_more, step_of}
-use Rattle.editor_state.proofs.Images.ImageProjects.{keeps_now}
-use Rattle.editor_state.proofs.Refusals.IntactFiles.{held_undamaged}
-use Rattle.edit_ports.specs.declared.vault.Vault as vault
+use Rattle.editor_state.proofs.{Calls.VaultCalls.lasts_took, Images.ImageProjects.keeps_now}
+use Rattle.editor_state.proofs.{Refusals.IntactFiles.held_undamaged}
 use Rattle.pin_turn.proofs.Sums.{Each-append, Each-left, Each-right}
 use Rattle.studio_seats.specs.declared.deed.Deed.{Deed}
 use Rattle.studio_seats.specs.Deeds.{deed, entry_of, entries_of, number_after, raised_by}
 use Rattle.studio_seats.specs.Leads.{HadTurn, IsUnharmed, Leads, StopsInFlight}
 use Rattle.studio_seats.specs.Stands.{AllTell, AreTold, Chain, Does, Origin, StandsFor}
-use Rattle.studio_seats.proofs.Refused.{number_raised, stopped_not, stopped_shown}
-use Rattle.studio_seats.proofs.TestFaults.{had_turn}
+use Rattle.studio_seats.proofs.{Refused.number_raised, Refused.stopped_not, Refused.stopped_shown, TestFaults.had_turn}
+use Rattle.pcm_base.specs.declared.refusal.Refusal.TheVariants as refusal
+use Rattle.pcm_base.specs.Studio as model
+use Rattle.edit_ports.specs.declared.vault.Vault as vault
 
 -- ---- lists
 
@@ -102,14 +91,10 @@ failed disk old new what still some (inr stops) = ap reply_of stops.2
 
 module _ {D V : Type 0} (o : Origin D V) (old new : Core D) (deeds : List Deed) (was : Leads o old deeds) (d : Deed)
     (does : Does o.disk (AllTell o.vaults) old d new) where
-  abbrev disk : Ghosts D
-  disk = o.disk
+  open o use {disk, start}
 
   abbrev told : Type 0
   told = AreTold o.vaults (deeds ++ d ∷ [])
-
-  abbrev start : Core D
-  start = o.start
 
   abbrev t : model.Studio
   t = studio_of disk start
@@ -218,8 +203,7 @@ module _ {D V : Type 0} (o : Origin D V) (old new : Core D) (deeds : List Deed) 
         (run_more t (studio_of disk old) (studio_of disk new) (entries_of deeds) (entry_of d)
         (was.run (before tell) held) (step tell held));
     whole = λ tell held. Each-append (λ (z : Deed). IfErr z.what IsUnharmed) deeds (d ∷ [])
-        (was.whole (before tell) held)
-        (unharmed disk old new d.what (was.held (before tell) held) does.lasts.left, tt);
+        (was.whole (before tell) held) (unharmed disk old new d.what (was.held (before tell) held) does.lasts.left, tt);
     turns = λ tell held. Each-append HadTurn deeds (d ∷ []) (was.turns (before tell) held) (
       had_turn (studio_of disk old) (studio_of disk new) d.call d.sound d.what
           ((took tell).step (was.held (before tell) held)),

@@ -1,25 +1,19 @@
 -- Deeds over vaults that do not report their bytes, as deeds over vaults that do.
-use Rattle.std.proofs.Common.{◌≡◌, inl, inr, ⊎_elim, ◌∙◌, refl, sym, ap, ℕ, true, is_some, IsSome, Option, Some, None, List}
-use Rattle.std.proofs.Common.{[], ◌∷◌, Result, Ok, Err, IfErr, IfOk, ◌⊎◌, subst}
+use Rattle.std.proofs.Common.{◌≡◌, inl, inr, ⊎_elim, ◌∙◌, refl, sym, ap, ℕ, true, is_some, IsSome, Option, Some, None}
+use Rattle.std.proofs.Common.{List, [], ◌∷◌, Result, Ok, Err, IfErr, IfOk, ◌⊎◌, subst}
 use Rattle.std.proofs.lemmas.Bool.{true≢false}
-use Rattle.pcm_base.specs.declared.answer.Reply.{Reply}
-use Rattle.pcm_base.specs.declared.command.Call.{Call}
-use Rattle.pcm_base.specs.declared.command.Call.TheVariants.{Line}
-use Rattle.pcm_base.specs.declared.command.Command.TheVariants.{Import}
-use Rattle.pcm_base.specs.declared.refusal.Refusal.{Refusal}
-use Rattle.pcm_base.specs.Run.{name_in}
+use Rattle.pcm_base.specs.{declared.answer.Reply.Reply, declared.command.Call.Call}
+use Rattle.pcm_base.specs.{declared.command.Call.TheVariants.Line, declared.command.Command.TheVariants.Import}
+use Rattle.pcm_base.specs.{declared.refusal.Refusal.Refusal, Run.name_in}
 use Rattle.disk_model.specs.declared.store.Store.{Ghosts}
-use Rattle.edit_ports.specs.declared.vault.Vault as vault
 use Rattle.pin_turn.specs.Counts.{Each}
-use Rattle.editor_state.specs.Core.{Core}
-use Rattle.editor_state.specs.Exchanges.{reads_sound}
 use Rattle.editor_state.specs.Vaults.{IfCutShort, IsCutShort, left_as}
-use Rattle.editor_state.specs.Took.{Took, with_sound}
+use Rattle.editor_state.specs.{Core.Core, Exchanges.reads_sound, Took.Took, Took.with_sound}
 use Rattle.editor_state.proofs.Calls.VaultCalls.{lasts_took}
-use Rattle.studio_seats.specs.declared.deed.Deed.{Deed}
 use Rattle.studio_seats.specs.Imports.{AreReadAs, ImportsLead, IsReadAs, IsReadable, telling}
-use Rattle.studio_seats.specs.Stands.{AllTell, Chain, Does, origin}
+use Rattle.studio_seats.specs.{declared.deed.Deed.Deed, Stands.AllTell, Stands.Chain, Stands.Does, Stands.origin}
 use Rattle.studio_seats.proofs.Grown.{all_told, leads}
+use Rattle.edit_ports.specs.declared.vault.Vault as vault
 
 -- a call that reads a sound is an import
 import_of : (c : Call) → reads_sound c ≡ true → (name : List ℕ) × (c ≡ Line (Import name))

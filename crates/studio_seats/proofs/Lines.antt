@@ -1,25 +1,19 @@
 -- What a line did, over a vault.
-use Rattle.std.proofs.Common.{◌≡◌, ◌∙◌, refl, sym, ap, subst, ℕ, IsTrue, List, Option, Some, None, Result, Ok}
-use Rattle.std.proofs.Common.{Err}
+use Rattle.std.proofs.Common.{◌≡◌, ◌∙◌, refl, sym, ap, subst, ℕ, IsTrue, List, Option, Some, None, Result, Ok, Err}
 use Rattle.std.specs.Prelude.{IfErr}
-use Rattle.pcm_base.specs.declared.answer.Answer.{Answer}
-use Rattle.pcm_base.specs.declared.answer.Reply.{Reply}
-use Rattle.pcm_base.specs.declared.answer.Reply.TheVariants.{Refused}
-use Rattle.pcm_base.specs.declared.command.Call.TheVariants.{Line}
-use Rattle.pcm_base.specs.declared.command.Command.{Command}
-use Rattle.pcm_base.specs.declared.refusal.Refusal.{Refusal}
-use Rattle.pcm_base.specs.Outside.{Sounds}
 use Rattle.pcm_base.specs.Run.{Heard, name_in_line}
+use Rattle.pcm_base.specs.{declared.answer.Answer.Answer, declared.answer.Reply.Reply}
+use Rattle.pcm_base.specs.{declared.answer.Reply.TheVariants.Refused, declared.command.Call.TheVariants.Line}
+use Rattle.pcm_base.specs.{declared.command.Command.Command, declared.refusal.Refusal.Refusal, Outside.Sounds}
 use Rattle.disk_model.specs.declared.store.Store.{Ghosts}
 use Rattle.editor_state.specs.Applied.{Applies, EndsAlike, move_of, reply_of, Span, sound_moved}
-use Rattle.editor_state.specs.Took.{told_by}
-use Rattle.studio_seats.specs.Deeds.{deed}
-use Rattle.studio_seats.specs.Stands.{Does}
+use Rattle.editor_state.specs.Took.{as_reply}
+use Rattle.studio_seats.specs.{Deeds.deed, Stands.Does}
 
 module _ {R : Type 0} where
   -- the answer and the result tell what the line was told
   told_is : (told : Result Reply Refusal) (result : Result R Refusal) (reply : Reply) → reply ≡ reply_of told
-      → EndsAlike told result → told ≡ told_by (λ _. reply) result
+      → EndsAlike told result → told ≡ as_reply (λ _. reply) result
   told_is (Ok r) (Ok x) reply is ends = ap Ok (sym is)
   told_is (Ok r) (Err why) reply is ends = absurd ends
   told_is (Err why) (Ok x) reply is ends = absurd ends
@@ -29,7 +23,7 @@ module _ {R : Type 0} where
       (result : Result R Refusal) (answer : Answer) → (told → IsTrue span.tells)
       → Applies disk span (Line c) result answer
       → Does disk told span.old
-      (deed actor (Line c) (told_by (λ _. answer.reply) result) (sound_moved span (name_in_line c))) span.new
+      (deed actor (Line c) (as_reply (λ _. answer.reply) result) (sound_moved span (name_in_line c))) span.new
   does_line {actor = actor} disk told span c result answer tell a =
       subst (λ (z : Result Reply Refusal).
       Does disk told span.old (deed actor (Line c) z (sound_moved span (name_in_line c))) span.new)

@@ -1,27 +1,18 @@
 -- What is answered of a pin at one of the deeds of a desk.
 use Rattle.std.proofs.Common.{◌≡◌, ◌⊎◌, ℕ, List, ◌∷◌, ◌++◌, length, Some, None, subst, Result, Ok}
-use Rattle.pcm_base.specs.declared.answer.Reply.{Reply}
-use Rattle.pcm_base.specs.declared.answer.Reply.TheVariants.{Length, Loaded}
-use Rattle.pcm_base.specs.declared.command.Call.{Call}
-use Rattle.pcm_base.specs.declared.command.Call.TheVariants.{LoadPin, PinLen}
-use Rattle.pcm_base.specs.declared.lists.LoadedTrack.{LoadedTrack}
-use Rattle.pcm_base.specs.declared.refusal.Refusal.{Refusal}
-use Rattle.pcm_base.specs.declared.sound.Frame.{Frame}
-use Rattle.pcm_base.specs.Cells.{Project}
-use Rattle.pcm_base.specs.Mix.{loaded_of, mix_of}
-use Rattle.pcm_base.specs.Run.{Answers}
-use Rattle.pcm_base.specs.Studio as model
+use Rattle.pcm_base.specs.{declared.answer.Reply.Reply, declared.answer.Reply.TheVariants.Length}
+use Rattle.pcm_base.specs.{declared.answer.Reply.TheVariants.Loaded, declared.command.Call.Call}
+use Rattle.pcm_base.specs.{declared.command.Call.TheVariants.LoadPin, declared.command.Call.TheVariants.PinLen}
+use Rattle.pcm_base.specs.{declared.lists.LoadedTrack.LoadedTrack, declared.refusal.Refusal.Refusal}
+use Rattle.pcm_base.specs.{declared.sound.Frame.Frame, Cells.Project, Mix.loaded_of, Mix.mix_of, Run.Answers}
 use Rattle.disk_model.specs.declared.store.Store.{Ghosts}
-use Rattle.edit_ports.specs.declared.vault.Vault as vault
-use Rattle.editor_state.specs.Core.{Core}
-use Rattle.editor_state.specs.Studios.{IsHeld, studio_of}
-use Rattle.studio_seats.specs.declared.deed.Deed.{Deed}
-use Rattle.studio_seats.specs.Deeds.{entries_of}
-use Rattle.studio_seats.specs.Pins.{ShowsPin, pin_frames}
+use Rattle.editor_state.specs.{Core.Core, Studios.IsHeld, Studios.studio_of}
 use Rattle.studio_seats.specs.Stands.{AllTell, StandsFor, origin}
-use Rattle.studio_seats.proofs.Chains.{chain_cut}
-use Rattle.studio_seats.proofs.Grown.{all_told, leads}
+use Rattle.studio_seats.specs.{declared.deed.Deed.Deed, Deeds.entries_of, Pins.ShowsPin, Pins.pin_frames}
 use Rattle.studio_seats.proofs.PinLemmas.{load_tracks, pin_length, run_shows}
+use Rattle.studio_seats.proofs.{Chains.chain_cut, Grown.all_told, Grown.leads}
+use Rattle.pcm_base.specs.Studio as model
+use Rattle.edit_ports.specs.declared.vault.Vault as vault
 
 -- What a pin of these frames shows at a deed, or that it is gone, and the step that the deed is.
 record AtDeed (pin : ℕ) (all : List Frame) (d : Deed) : Type 0 where

@@ -1,31 +1,22 @@
 -- One list of deeds, by their makers: what follows.
 use Rattle.std.proofs.Common.{◌≡◌, ℕ, zero, suc, ◌+◌, ◌<◌, ◌≤◌, nat_lt, ◌&&◌, if◌then◌else◌, ℤ, Bool, true, false, List}
-use Rattle.std.proofs.Common.{[], ◌∷◌, ◌++◌}
-use Rattle.std.proofs.Common.{length, take, drop, Result, Ok, Err, refl, sym, ◌∙◌, ap, subst, arith, append_assoc}
-use Rattle.std.proofs.Common.{eq-eqb}
-use Rattle.std.proofs.lemmas.Bool.{lt-ltb}
-use Rattle.std.proofs.lemmas.List.{append-nil}
+use Rattle.std.proofs.Common.{[], ◌∷◌, ◌++◌, length, take, drop, Result, Ok, Err, refl, sym, ◌∙◌, ap, subst, arith}
+use Rattle.std.proofs.Common.{append_assoc, eq-eqb}
+use Rattle.std.proofs.{lemmas.Bool.lt-ltb, lemmas.List.append-nil}
 use Rattle.std.specs.List.{zip}
-use Rattle.pin_turn.specs.Counts.{Each, times, once_below}
-use Rattle.pin_turn.specs.Rule.{ByOthers}
+use Rattle.pin_turn.specs.{Counts.Each, Counts.times, Counts.once_below, Rule.ByOthers}
 use Rattle.pin_turn.proofs.Sums.{times-append, times_else, once_more}
-use Rattle.pcm_base.specs.Arithmetic.{counted_from}
-use Rattle.pcm_base.specs.Counters.{commits_of}
 use Rattle.pcm_base.specs.Recordings.{parts_of, pieces_in, pieces_of}
-use Rattle.pcm_base.specs.declared.chunk.TheConstants.{CHUNK_SAMPLES}
-use Rattle.pcm_base.specs.declared.answer.Reply.{Reply}
-use Rattle.pcm_base.specs.declared.refusal.Refusal.{Refusal}
-use Rattle.pcm_base.specs.declared.command.Call.{Call}
-use Rattle.pcm_base.specs.declared.command.Call.TheVariants as call
+use Rattle.pcm_base.specs.{Arithmetic.counted_from, Counters.commits_of, declared.chunk.TheConstants.CHUNK_SAMPLES}
+use Rattle.pcm_base.specs.{declared.answer.Reply.Reply, declared.refusal.Refusal.Refusal, declared.command.Call.Call}
 use Rattle.edit_ports.specs.Answers.{numbered_pieces}
-use Rattle.studio_seats.specs.declared.deed.Deed.{Deed}
 use Rattle.studio_seats.specs.Deeds.{actor_of, commits, made, number_after, raised_by}
-use Rattle.studio_seats.specs.Pieces.{piece_in, piece_by, pieces_by}
 use Rattle.studio_seats.specs.Merge.{by_seat, any_seat, numbers_if, numbers_of, deeds_of, Rises, one_if, SplitsIn}
 use Rattle.studio_seats.specs.Merge.{MergedNumbers, is_piece, OnlyPieces, numbers_in, PieceNumbers, OwnOrder}
-use Rattle.studio_seats.proofs.Grown.{number_append}
-use Rattle.studio_seats.proofs.Turns.{number_grows}
+use Rattle.studio_seats.specs.{declared.deed.Deed.Deed, Pieces.piece_in, Pieces.piece_by, Pieces.pieces_by}
 use Rattle.studio_seats.proofs.PieceLemmas.{pieces_append, pieces_others}
+use Rattle.studio_seats.proofs.{Grown.number_append, Turns.number_grows}
+use Rattle.pcm_base.specs.declared.command.Call.TheVariants as call
 
 -- the numbers of some commits are those that come next
 counted_next : (k n m : ℕ) → once_below k (n + 1) + times k (counted_from (n + 1) m) ≡ once_below k (n + m + 1)
@@ -118,7 +109,7 @@ merged_numbers first log seats commits h =
     }
 
 -- deeds of seats with lower numbers are by others
-lower_others : (seat : ℕ) (es : List Deed) → Each (λ e. e.actor < seat) es → ByOthers actor_of (seat ∷ []) es
+pub lower_others : (seat : ℕ) (es : List Deed) → Each (λ e. e.actor < seat) es → ByOthers actor_of (seat ∷ []) es
 lower_others seat [] h = tt
 lower_others seat (e ∷ es) h =
     let low = h.0 in
@@ -139,16 +130,11 @@ parts_many size (suc count) xs = ap suc (parts_many size count (drop size xs))
 
 piece_number : (to by : ℕ) (asked : Call) (n : ℕ) → is_piece to by asked ≡ true
     → numbers_in (piece_in to by asked n) ≡ counted_from (n + 1) (commits_of asked)
-piece_number to by (call.Line c) n h = let e : false ≡ true = h in absurd (cc)
 piece_number to by (call.Piece track tag samples) n h =
     ap (λ (b : Bool). numbers_in (if b then numbered_pieces n (pieces_of samples) else [])) h
     ∙ (numbers_counted n (pieces_of samples)
     ∙ ap (counted_from (n + 1)) (parts_many CHUNK_SAMPLES (pieces_in (length samples)) samples))
-piece_number to by call.Pin n h = let e : false ≡ true = h in absurd (cc)
-piece_number to by (call.PinLen pin) n h = let e : false ≡ true = h in absurd (cc)
-piece_number to by (call.ReadPin pin from count) n h = let e : false ≡ true = h in absurd (cc)
-piece_number to by (call.LoadPin pin from count) n h = let e : false ≡ true = h in absurd (cc)
-piece_number to by (call.Unpin pin) n h = let e : false ≡ true = h in absurd (cc)
+piece_number to by _ n h = let e : false ≡ true = h in absurd (cc)
 
 -- of a deed that made commits they are those of its call, and of another there are none
 one_number : (to by : ℕ) (mine : Bool) (what : Result Reply Refusal) (asked : Call) (n : ℕ)
@@ -222,8 +208,7 @@ pub numbers_others : (seat n : ℕ) (more : List Deed) → ByOthers actor_of (se
     → numbers_of (by_seat seat) n more ≡ []
 numbers_others seat n [] h = refl
 numbers_others seat n (e ∷ es) h =
-    ap (λ (l : List ℕ). l ++ numbers_of (by_seat seat) (raised_by e n) es)
-    (no_number (by_seat seat e) (made e) n h.0)
+    ap (λ (l : List ℕ). l ++ numbers_of (by_seat seat) (raised_by e n) es) (no_number (by_seat seat e) (made e) n h.0)
     ∙ numbers_others seat (raised_by e n) es h.1
 
 pub own_order : OwnOrder

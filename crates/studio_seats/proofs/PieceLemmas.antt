@@ -1,31 +1,22 @@
 -- The pieces of a seat, turn by turn.
 use Rattle.std.proofs.Common.{◌≡◌, ⊎_elim, ℕ, ◌+◌, ◌-◌, ◌≤◌, ◌==◌, ◌&&◌, nat_lt, if◌then◌else◌, ℤ, Bool, true, false}
-use Rattle.std.proofs.Common.{List, []}
-use Rattle.std.proofs.Common.{◌∷◌, ◌++◌, length, refl, sym, ◌∙◌, ap, subst, arith, append_assoc, eq-eqb, Result, Ok}
-use Rattle.std.proofs.Common.{Err}
+use Rattle.std.proofs.Common.{List, [], ◌∷◌, ◌++◌, length, refl, sym, ◌∙◌, ap, subst, arith, append_assoc, eq-eqb}
+use Rattle.std.proofs.Common.{Result, Ok, Err}
+use Rattle.std.proofs.{lemmas.Bool.lt-ltb, lemmas.List.append-nil}
 use Rattle.std.specs.Prelude.{MatchResult, IfOk, IfErr}
-use Rattle.std.proofs.lemmas.Bool.{lt-ltb}
-use Rattle.std.proofs.lemmas.List.{append-nil}
-use Rattle.pcm_base.specs.declared.answer.Reply.TheVariants.{Done}
-use Rattle.pcm_base.specs.declared.command.Call.TheVariants.{Piece}
-use Rattle.pcm_base.specs.declared.refusal.Refusal.{Refusal}
-use Rattle.pcm_base.specs.declared.said.Said.{Said}
-use Rattle.disk_model.specs.declared.store.Store.{Ghosts}
-use Rattle.edit_ports.specs.declared.vault.Vault as vault
-use Rattle.pin_turn.specs.declared.view.View.{View}
-use Rattle.pin_turn.specs.Rule.{ByOthers}
-use Rattle.editor_state.specs.Core.{Core}
-use Rattle.editor_state.specs.Took.{silent, told_by}
-use Rattle.edit_ports.specs.Answers.{numbered_pieces}
 use Rattle.pcm_base.specs.Recordings.{pieces_in, pieces_of}
-use Rattle.studio_seats.specs.declared.deed.Deed.{Deed}
-use Rattle.studio_seats.specs.declared.held.Held.{Held}
+use Rattle.pcm_base.specs.{declared.answer.Reply.TheVariants.Done, declared.command.Call.TheVariants.Piece}
+use Rattle.pcm_base.specs.{declared.refusal.Refusal.Refusal, declared.said.Said.Said}
+use Rattle.disk_model.specs.declared.store.Store.{Ghosts}
+use Rattle.pin_turn.specs.{declared.view.View.View, Rule.ByOthers}
+use Rattle.editor_state.specs.{Core.Core, Took.silent, Took.as_reply}
+use Rattle.edit_ports.specs.Answers.{numbered_pieces}
 use Rattle.studio_seats.specs.Deeds.{actor_of, deed, is_commit, number_after, raised_by}
 use Rattle.studio_seats.specs.Desks.{Says, Spends, Turned, asked, views}
 use Rattle.studio_seats.specs.Pieces.{piece_by, piece_in, pieces_by}
-use Rattle.studio_seats.specs.Stands.{origin}
-use Rattle.studio_seats.proofs.Grown.{number_append}
-use Rattle.studio_seats.proofs.Turns.{number_on, turned_number}
+use Rattle.studio_seats.specs.{declared.deed.Deed.Deed, declared.held.Held.Held, Stands.origin}
+use Rattle.studio_seats.proofs.{Grown.number_append, Turns.number_on, Turns.turned_number}
+use Rattle.edit_ports.specs.declared.vault.Vault as vault
 
 ok_of : {A B : Type 0} (P : A → Type 0) (Q : B → Type 0) (r : Result A B) → MatchResult r P Q → IfOk r P
 ok_of P Q (Ok x) h = h
@@ -39,8 +30,7 @@ pub pieces_append : (to by seat n : ℕ) (xs ys : List Deed)
     → pieces_by to by seat n (xs ++ ys) ≡ pieces_by to by seat n xs ++ pieces_by to by seat (number_after n xs) ys
 pieces_append to by seat n [] ys = refl
 pieces_append to by seat n (d ∷ ds) ys =
-    ap (λ (l : List (List ℤ × ℕ)). piece_by to by seat d n ++ l)
-    (pieces_append to by seat (raised_by d n) ds ys)
+    ap (λ (l : List (List ℤ × ℕ)). piece_by to by seat d n ++ l) (pieces_append to by seat (raised_by d n) ds ys)
     ∙ sym (append_assoc (piece_by to by seat d n) (pieces_by to by seat
     (raised_by d n) ds) (pieces_by to by seat (number_after (raised_by d n) ds) ys))
 
@@ -100,12 +90,12 @@ module _ {D V : Type 0} (disk : Ghosts D) (vaults : vault.Ghosts V) (start : Cor
 
   abbrev Took : Result ℕ Refusal → ℕ → Type 0
   Took what at =
-      Turned (origin disk vaults start) (asked (Piece track tag samples) (told_by (λ _. Done) what) silent) at
+      Turned (origin disk vaults start) (asked (Piece track tag samples) (as_reply (λ _. Done) what) silent) at
       (views v w)
 
   abbrev SaysPiece : Said ℕ → Type 0
   SaysPiece said =
-      Says (origin disk vaults start) (asked (Piece track tag samples) (told_by (λ _. Done) said.what) silent) said
+      Says (origin disk vaults start) (asked (Piece track tag samples) (as_reply (λ _. Done) said.what) silent) said
       (views v w)
 
   taken : (what : Result ℕ Refusal) (at : ℕ) → Took what at → IfOk what (λ (number : ℕ). number ≡ at) → Then what
@@ -148,7 +138,7 @@ module _ {D V : Type 0} (disk : Ghosts D) (vaults : vault.Ghosts V) (start : Cor
       → least ≤ number_after start.commit_number w.seen
   tagged said least h low = ⊎_elim
       (λ (x : Took said.what said.at).
-      let d : Deed = deed v.number (Piece track tag samples) (told_by (λ _. Done) said.what) silent in
+      let d : Deed = deed v.number (Piece track tag samples) (as_reply (λ _. Done) said.what) silent in
       let one = number_on start.commit_number v.seen x.between in
       let two = number_on start.commit_number (v.seen ++ x.between) (d ∷ []) in
       let same : number_after start.commit_number w.seen

@@ -1,27 +1,20 @@
 -- What a pin shows stays, as long as nobody lets it go.
-use Rattle.std.proofs.Common.{◌≡◌, ◌⊎◌, inl, inr, ⊎_elim, ℕ, ◌+◌, ◌<◌, Bool, true, false, List, [], ◌∷◌, ◌++◌}
-use Rattle.std.proofs.Common.{take, drop, length, Option, Some, None, if◌then◌else◌, refl, sym, ◌∙◌, ap, arith}
-use Rattle.std.proofs.Common.{zero, suc, Result, Ok}
+use Rattle.std.proofs.Common.{◌≡◌, ◌⊎◌, inl, inr, ⊎_elim, ℕ, ◌+◌, ◌<◌, Bool, true, false, List, [], ◌∷◌, ◌++◌, take}
+use Rattle.std.proofs.Common.{drop, length, Option, Some, None, if◌then◌else◌, refl, sym, ◌∙◌, ap, arith, Result, Ok}
 use Rattle.std.proofs.lemmas.List.{length-map}
-use Rattle.pcm_base.specs.declared.answer.Reply.{Reply}
-use Rattle.pcm_base.specs.declared.answer.Reply.TheVariants as reply
-use Rattle.pcm_base.specs.declared.command.Call.{Call}
-use Rattle.pcm_base.specs.declared.command.Call.TheVariants as call
-use Rattle.pcm_base.specs.declared.entry.Entry.{Entry}
-use Rattle.pcm_base.specs.declared.entry.SoundMove.{SoundMove}
-use Rattle.pcm_base.specs.declared.refusal.Refusal.{Refusal}
-use Rattle.pcm_base.specs.declared.sound.Frame.{Frame}
-use Rattle.pcm_base.specs.Arithmetic.{counted_from}
-use Rattle.pcm_base.specs.Cells.{Project}
-use Rattle.pcm_base.specs.declared.lists.LoadedTrack.{LoadedTrack}
-use Rattle.pcm_base.specs.Mix.{frame_at, loaded_of, mix_length, mix_of}
-use Rattle.pcm_base.specs.Run.{Answers, Run, Step, result_of}
-use Rattle.pcm_base.specs.State.{State, current}
-use Rattle.pcm_base.specs.Studio as model
+use Rattle.pcm_base.specs.{declared.answer.Reply.Reply, declared.command.Call.Call, declared.entry.Entry.Entry}
+use Rattle.pcm_base.specs.{declared.entry.SoundMove.SoundMove, declared.refusal.Refusal.Refusal}
+use Rattle.pcm_base.specs.{declared.sound.Frame.Frame, Arithmetic.counted_from, Cells.Project}
+use Rattle.pcm_base.specs.{declared.lists.LoadedTrack.LoadedTrack, Mix.frame_at, Mix.loaded_of, Mix.mix_length}
+use Rattle.pcm_base.specs.{Mix.mix_of, Run.Answers, Run.Run, Run.Step, Run.result_of, State.State, State.current}
 use Rattle.studio_seats.specs.PinLaws.{PinsStay}
-use Rattle.studio_seats.specs.Pins.{IsKept, ShowsPin, after_entry, after_what, makes_pin, pin_frames}
+use Rattle.studio_seats.specs.Pins.{StaysHeld, ShowsPin, after_entry, after_what, makes_pin, pin_frames}
 use Rattle.studio_seats.proofs.PinSteps.{Leads, either_bool, leads_of, made, made_number, next_grows, stays}
 use Rattle.studio_seats.proofs.PinSteps.{stays_or_goes}
+use Rattle.pcm_base.proofs.ListFacts.{length-counted_from}
+use Rattle.pcm_base.specs.declared.answer.Reply.TheVariants as reply
+use Rattle.pcm_base.specs.declared.command.Call.TheVariants as call
+use Rattle.pcm_base.specs.Studio as model
 
 -- ---- a run
 
@@ -50,7 +43,7 @@ module _ (p : ℕ) where
   leads t u e step = leads_of t u e.call e.sound (result_of e.reply) step
 
   -- along a run a pin stays, where nobody lets it go
-  run_stays : (t u : model.Studio) (es : List Entry) → Run t es u → p < t.state.next_pin → IsKept p es → At u ≡ At t
+  run_stays : (t u : model.Studio) (es : List Entry) → Run t es u → p < t.state.next_pin → StaysHeld p es → At u ≡ At t
   run_stays t u [] run low kept = ap At run
   run_stays t u (e ∷ es) run low kept =
       let first = leads t run.0 e run.1 in
@@ -110,7 +103,7 @@ module _ (p : ℕ) where
 
   -- and where nobody lets it go, it shows them
   pub run_holds : (t u : model.Studio) (es : List Entry) (frames : List Frame) → Run t es u
-      → pin_frames t.rate t.state es p ≡ Some frames → IsKept p es → ShowsPin u.state p frames
+      → pin_frames t.rate t.state es p ≡ Some frames → StaysHeld p es → ShowsPin u.state p frames
   run_holds t u [] frames run is kept = absurd (none_or_some frames None refl is)
   run_holds t u (e ∷ es) frames run is kept = ⊎_elim
       (λ (makes : makes_pin e.call e.reply p ≡ true).
@@ -176,20 +169,8 @@ frames_on rate s (e ∷ es) more p frames h =
     (frames_on rate (after_entry rate s e) es more p frames) h
 
 abbrev frames_in : Reply → List Frame
-frames_in reply.Done = []
-frames_in reply.Copied = []
-frames_in (reply.Cells cells) = []
 frames_in (reply.Frames frames) = frames
-frames_in (reply.Columns columns) = []
-frames_in (reply.Tracks tracks) = []
-frames_in (reply.Freed count) = []
-frames_in (reply.Packed bytes) = []
-frames_in (reply.Purged n) = []
-frames_in (reply.Wrote bytes) = []
-frames_in (reply.Pinned number) = []
-frames_in (reply.Length frames) = []
-frames_in (reply.Loaded tracks) = []
-frames_in (reply.Refused why) = []
+frames_in _ = []
 
 abbrev project_or : Option Project → Project
 project_or None = []
@@ -228,12 +209,8 @@ load_tracks t u p from count sound tracks frames h shows =
 
 -- ---- the law
 
-counted_length : (from n : ℕ) → length (counted_from from n) ≡ n
-counted_length from zero = refl
-counted_length from (suc n) = omega (arith, counted_length (from + 1) n)
-
 frames_count : (p : Project) → mix_length p ≡ length (mix_of p)
-frames_count p = sym (length-map (counted_from 0 (mix_length p)) (frame_at p) ∙ counted_length 0 (mix_length p))
+frames_count p = sym (length-map (counted_from 0 (mix_length p)) (frame_at p) ∙ length-counted_from 0 (mix_length p))
 
 abbrev length_in : Reply → ℕ
 length_in (reply.Length n) = n

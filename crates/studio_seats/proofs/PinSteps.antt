@@ -1,22 +1,16 @@
 -- What one step leaves of a pin.
-use Rattle.std.proofs.Common.{◌≡◌, ◌⊎◌, inl, inr, ⊎_elim, ℕ, ◌+◌, ◌<◌, ◌≤◌, Bool, true, false}
-use Rattle.std.proofs.Common.{Some, None, if◌then◌else◌, refl, sym, ◌∙◌, ap, subst, arith}
-use Rattle.std.proofs.Common.{eq-eqb, ne_eqb, Result, Ok, Err}
+use Rattle.std.proofs.Common.{◌≡◌, ◌⊎◌, inl, inr, ⊎_elim, ℕ, ◌+◌, ◌<◌, ◌≤◌, Bool, true, false, Some, None}
+use Rattle.std.proofs.Common.{if◌then◌else◌, refl, sym, ◌∙◌, ap, subst, arith, eq-eqb, ne_eqb, Result, Ok, Err}
 use Rattle.std.proofs.lemmas.Bool.{true≢false, eqb-true, eqb-false}
-use Rattle.pcm_base.specs.declared.answer.Reply.{Reply}
-use Rattle.pcm_base.specs.declared.answer.Reply.TheVariants as reply
-use Rattle.pcm_base.specs.declared.command.Call.{Call}
-use Rattle.pcm_base.specs.declared.command.Call.TheVariants as call
-use Rattle.pcm_base.specs.declared.entry.SoundMove.{SoundMove}
-use Rattle.pcm_base.specs.declared.refusal.Refusal.{Refusal}
 use Rattle.pcm_base.specs.Run.{Answers, followed, outside, result_of}
-use Rattle.pcm_base.specs.State.{State, current}
-use Rattle.pcm_base.specs.Step.{MayAnswer, after}
-use Rattle.pcm_base.specs.Studio as model
-use Rattle.model_laws.proofs.Answered.{answered_told, carried_is}
-use Rattle.studio_seats.specs.Pins.{after_what, drops_pin, makes_pin}
-use Rattle.studio_seats.specs.Pins.{tells_pin}
+use Rattle.pcm_base.specs.{declared.answer.Reply.Reply, declared.command.Call.Call, declared.entry.SoundMove.SoundMove}
+use Rattle.pcm_base.specs.{declared.refusal.Refusal.Refusal, State.State, State.current, Step.MayAnswer, Step.after}
+use Rattle.model_laws.proofs.Answered.{answered_replied, carried_is}
+use Rattle.studio_seats.specs.Pins.{after_what, drops_pin, makes_pin, tells_pin}
 use Rattle.studio_seats.proofs.Refused.{refused_same}
+use Rattle.pcm_base.specs.declared.answer.Reply.TheVariants as reply
+use Rattle.pcm_base.specs.declared.command.Call.TheVariants as call
+use Rattle.pcm_base.specs.Studio as model
 
 pub either_bool : (b : Bool) → (b ≡ true) ⊎ (b ≡ false)
 either_bool true = inl refl
@@ -31,29 +25,23 @@ module _ (rate : ℕ) (s : State) (p : ℕ) where
   -- it stays, unless the call lets it go
   pub stays : (c : Call) (what : Result Reply Refusal) (sound : SoundMove) → p < s.next_pin → drops_pin c what p ≡ false
       → Same (after_what rate s c what sound)
+  stays call.Pin (Ok r) sound low h =
+      ap (λ (z : Bool). if z then Some (current s) else s.pins p) (ne_eqb p s.next_pin (λ e. omega arith))
+  stays (call.Unpin q) (Ok r) sound low h =
+      ap (λ (z : Bool). if z then None else s.pins p) (ne_eqb p q (λ e. eqb-false q p h (sym e)))
   stays c (Err why) sound low h = refl
   stays (call.Line c) (Ok r) sound low h = refl
   stays (call.Piece track tag samples) (Ok r) sound low h = refl
-  stays call.Pin (Ok r) sound low h =
-      ap (λ (z : Bool). if z then Some (current s) else s.pins p) (ne_eqb p s.next_pin (λ e. omega arith))
   stays (call.PinLen q) (Ok r) sound low h = refl
   stays (call.ReadPin q from count) (Ok r) sound low h = refl
   stays (call.LoadPin q from count) (Ok r) sound low h = refl
-  stays (call.Unpin q) (Ok r) sound low h =
-      ap (λ (z : Bool). if z then None else s.pins p) (ne_eqb p q (λ e. eqb-false q p h (sym e)))
 
   -- it is gone after a call that lets it go
   goes : (c : Call) (what : Result Reply Refusal) (sound : SoundMove) → drops_pin c what p ≡ true
       → (after_what rate s c what sound).pins p ≡ None
-  goes (call.Line c) what sound h = absurd (true≢false (sym h))
-  goes (call.Piece track tag samples) what sound h = absurd (true≢false (sym h))
-  goes call.Pin what sound h = absurd (true≢false (sym h))
-  goes (call.PinLen q) what sound h = absurd (true≢false (sym h))
-  goes (call.ReadPin q from count) what sound h = absurd (true≢false (sym h))
-  goes (call.LoadPin q from count) what sound h = absurd (true≢false (sym h))
   goes (call.Unpin q) (Ok r) sound h =
       ap (λ (z : Bool). if z then None else s.pins p) (eq-eqb p q (sym (eqb-true q p h)))
-  goes (call.Unpin q) (Err why) sound h = absurd (true≢false (sym h))
+  goes _ _ sound h = absurd (true≢false (sym h))
 
   pub stays_or_goes : (c : Call) (what : Result Reply Refusal) (sound : SoundMove) → p < s.next_pin
       → Same (after_what rate s c what sound) ⊎ ((after_what rate s c what sound).pins p ≡ None)
@@ -94,7 +82,7 @@ pub leads_of : (t u : model.Studio) (c : Call) (sound : SoundMove) (what : Resul
     → Answers t c sound what u → Leads t c what sound u
 leads_of t u c sound (Ok r) h = record {
   state = ap (λ (z : model.Studio). z.state) (carried_is t u c sound r h)
-      ∙ answered_told r (followed (outside t sound) t c h.blocks h.len h.layout);
+      ∙ answered_replied r (followed (outside t sound) t c h.blocks h.len h.layout);
   rate = ap (λ (z : model.Studio). z.rate) (carried_is t u c sound r h);
   tells = λ said same. subst (MayAnswer (outside t sound) t.state c) (ap reply_or same) h.answers;
 }
@@ -103,37 +91,13 @@ leads_of t u c sound (Err why) h =
     record { state = same.state; rate = same.rate; tells = λ said e. absurd (err_ok why said e) }
 
 abbrev number_in : Reply → ℕ
-number_in reply.Done = 0
-number_in reply.Copied = 0
-number_in (reply.Cells cells) = 0
-number_in (reply.Frames frames) = 0
-number_in (reply.Columns columns) = 0
-number_in (reply.Tracks tracks) = 0
-number_in (reply.Freed count) = 0
-number_in (reply.Packed bytes) = 0
-number_in (reply.Purged n) = 0
-number_in (reply.Wrote bytes) = 0
 number_in (reply.Pinned number) = number
-number_in (reply.Length frames) = 0
-number_in (reply.Loaded tracks) = 0
-number_in (reply.Refused why) = 0
+number_in _ = 0
 
 -- a reply that tells of a pin is a pin's number
 told_pin : (r : Reply) (p : ℕ) → tells_pin r p ≡ true → r ≡ reply.Pinned p
-told_pin reply.Done p h = absurd (true≢false (sym h))
-told_pin reply.Copied p h = absurd (true≢false (sym h))
-told_pin (reply.Cells cells) p h = absurd (true≢false (sym h))
-told_pin (reply.Frames frames) p h = absurd (true≢false (sym h))
-told_pin (reply.Columns columns) p h = absurd (true≢false (sym h))
-told_pin (reply.Tracks tracks) p h = absurd (true≢false (sym h))
-told_pin (reply.Freed count) p h = absurd (true≢false (sym h))
-told_pin (reply.Packed bytes) p h = absurd (true≢false (sym h))
-told_pin (reply.Purged n) p h = absurd (true≢false (sym h))
-told_pin (reply.Wrote bytes) p h = absurd (true≢false (sym h))
 told_pin (reply.Pinned q) p h = ap reply.Pinned (eqb-true q p h)
-told_pin (reply.Length frames) p h = absurd (true≢false (sym h))
-told_pin (reply.Loaded tracks) p h = absurd (true≢false (sym h))
-told_pin (reply.Refused why) p h = absurd (true≢false (sym h))
+told_pin _ p h = absurd (true≢false (sym h))
 
 -- a new pin shows the current project
 made_at : (t u : model.Studio) (r : Reply) (sound : SoundMove) (p : ℕ) → r ≡ reply.Pinned p
@@ -153,23 +117,13 @@ made_at t u r sound p is leads =
 pub made : (t u : model.Studio) (c : Call) (r : Reply) (sound : SoundMove) (p : ℕ) → makes_pin c r p ≡ true
     → Leads t c (result_of r) sound u
     → (u.state.pins p ≡ Some (current t.state)) × (p < u.state.next_pin)
-made t u (call.Line c) r sound p h leads = absurd (true≢false (sym h))
-made t u (call.Piece track tag samples) r sound p h leads = absurd (true≢false (sym h))
 made t u call.Pin r sound p h leads = made_at t u r sound p (told_pin r p h) leads
-made t u (call.PinLen q) r sound p h leads = absurd (true≢false (sym h))
-made t u (call.ReadPin q from count) r sound p h leads = absurd (true≢false (sym h))
-made t u (call.LoadPin q from count) r sound p h leads = absurd (true≢false (sym h))
-made t u (call.Unpin q) r sound p h leads = absurd (true≢false (sym h))
+made t u _ r sound p h leads = absurd (true≢false (sym h))
 
 -- its number is the next one
 pub made_number : (t u : model.Studio) (c : Call) (r : Reply) (sound : SoundMove) (p : ℕ) → makes_pin c r p ≡ true
     → Leads t c (result_of r) sound u → p ≡ t.state.next_pin
-made_number t u (call.Line c) r sound p h leads = absurd (true≢false (sym h))
-made_number t u (call.Piece track tag samples) r sound p h leads = absurd (true≢false (sym h))
 made_number t u call.Pin r sound p h leads =
     let ok : result_of r ≡ Ok (reply.Pinned p) = ap result_of (told_pin r p h) in
     ap number_in (leads.tells (reply.Pinned p) ok)
-made_number t u (call.PinLen q) r sound p h leads = absurd (true≢false (sym h))
-made_number t u (call.ReadPin q from count) r sound p h leads = absurd (true≢false (sym h))
-made_number t u (call.LoadPin q from count) r sound p h leads = absurd (true≢false (sym h))
-made_number t u (call.Unpin q) r sound p h leads = absurd (true≢false (sym h))
+made_number t u _ r sound p h leads = absurd (true≢false (sym h))

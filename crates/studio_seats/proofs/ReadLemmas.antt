@@ -1,33 +1,23 @@
 -- A seat reads a pin on, call by call.
 use Rattle.std.proofs.Common.{◌≡◌, ⊎_elim, inl, inr, ℕ, ◌+◌, ◌<◌, ◌≤◌, nat_lt, if◌then◌else◌, Bool, true, false, List}
-use Rattle.std.proofs.Common.{[], ◌∷◌, ◌++◌, length, take, Option, refl, sym, ◌∙◌, ap, subst, arith}
-use Rattle.std.proofs.Common.{Result, Ok, Err, IfErr}
+use Rattle.std.proofs.Common.{[], ◌∷◌, ◌++◌, length, take, Option, refl, sym, ◌∙◌, ap, subst, arith, Result, Ok, Err}
+use Rattle.std.proofs.Common.{IfErr}
+use Rattle.std.proofs.{lemmas.Bool.Decides.nat_tests, lemmas.List.append-nil, lemmas.List.length-take-le}
 use Rattle.std.specs.Prelude.{IfOk, OnOk}
-use Rattle.std.proofs.lemmas.Bool.Decides.{nat_tests}
-use Rattle.std.proofs.lemmas.List.{append-nil, length-take-le}
-use Rattle.pcm_base.specs.declared.answer.Reply.{Reply}
-use Rattle.pcm_base.specs.declared.answer.Reply.TheVariants.{Frames}
-use Rattle.pcm_base.specs.declared.command.Call.{Call}
-use Rattle.pcm_base.specs.declared.command.Call.TheVariants.{ReadPin}
-use Rattle.pcm_base.specs.declared.refusal.Refusal.{Refusal}
-use Rattle.pcm_base.specs.declared.said.Said.{Said}
-use Rattle.pcm_base.specs.declared.sound.Frame.{Frame}
+use Rattle.pcm_base.specs.{declared.answer.Reply.Reply, declared.answer.Reply.TheVariants.Frames}
+use Rattle.pcm_base.specs.{declared.command.Call.Call, declared.command.Call.TheVariants.ReadPin}
+use Rattle.pcm_base.specs.{declared.refusal.Refusal.Refusal, declared.said.Said.Said, declared.sound.Frame.Frame}
 use Rattle.disk_model.specs.declared.store.Store.{Ghosts}
 use Rattle.edit_ports.specs.Answers.{AtEnd, NextAt, RefusedAt, after_read, first_refusal}
-use Rattle.edit_ports.specs.declared.vault.Vault as vault
 use Rattle.pin_turn.specs.declared.view.View.{View}
-use Rattle.editor_state.specs.Core.{Core}
-use Rattle.editor_state.specs.Took.{silent, told_by}
-use Rattle.studio_seats.specs.declared.held.Held.{Held}
-use Rattle.studio_seats.specs.declared.deed.Deed.{Deed}
-use Rattle.studio_seats.specs.Deeds.{deed}
+use Rattle.editor_state.specs.{Core.Core, Took.silent, Took.as_reply}
 use Rattle.studio_seats.specs.Desks.{Says, Spends, Turned, asked, spent, views}
-use Rattle.studio_seats.specs.Merge.{by_seat, deeds_of}
-use Rattle.studio_seats.specs.Onward.{IsReadOf, Onward, Worker, worker}
-use Rattle.studio_seats.specs.Reads.{AreFullReads, IsAsked, ReadsOn, ReadsTo}
-use Rattle.studio_seats.specs.Stands.{origin}
+use Rattle.studio_seats.specs.{declared.held.Held.Held, declared.deed.Deed.Deed, Deeds.deed, Merge.by_seat}
+use Rattle.studio_seats.specs.{Merge.deeds_of, Onward.IsReadOf, Onward.Onward, Onward.Worker, Onward.worker}
+use Rattle.studio_seats.specs.{Reads.AreFullReads, Reads.IsAsked, Reads.ReadsOn, Reads.ReadsTo, Stands.origin}
 use Rattle.studio_seats.proofs.OnwardLemmas.{onward_on, onward_self, onward_spent, onward_taken}
 use Rattle.studio_seats.proofs.WorkLemmas.{own_turn}
+use Rattle.edit_ports.specs.declared.vault.Vault as vault
 
 -- one full read more
 full_more : (pin from to : ℕ) (ds : List Deed) (d : Deed) (frames : List Frame) → AreFullReads pin from to ds
@@ -63,7 +53,7 @@ module _ {D V : Type 0} (pin from : ℕ) (disk : Ghosts D) (vaults : vault.Ghost
   c = ReadPin pin from (length out)
 
   abbrev what_of : Result ℕ Refusal → Result Reply Refusal
-  what_of r = told_by (λ (n : ℕ). Frames (take n out')) r
+  what_of r = as_reply (λ (n : ℕ). Frames (take n out')) r
 
   abbrev Taken : Result ℕ Refusal → ℕ → Type 0
   Taken r at = Turned (origin disk vaults start) (asked c (what_of r) silent) at (views v w)

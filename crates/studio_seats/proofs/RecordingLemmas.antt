@@ -1,46 +1,30 @@
 -- A recorder goes on, call by call.
 use Rattle.std.proofs.Common.{◌≡◌, ◌⊎◌, ⊎_elim, inl, inr, ℕ, ◌+◌, ◌≤◌, ℤ, Bool, true, false, List, [], ◌∷◌, ◌++◌}
 use Rattle.std.proofs.Common.{length, Option, None, refl, sym, ◌∙◌, ap, subst, arith, Result, Ok, Err, IfErr}
+use Rattle.std.proofs.{lemmas.Bool.true≢false, lemmas.List.append-nil}
 use Rattle.std.specs.Prelude.{is_err, IsOk, OnOk}
-use Rattle.std.proofs.lemmas.Bool.{true≢false}
-use Rattle.std.proofs.lemmas.List.{append-nil}
-use Rattle.pcm_base.specs.Recordings.{pieces_in}
-use Rattle.pcm_base.specs.declared.answer.Reply.{Reply}
-use Rattle.pcm_base.specs.declared.answer.Reply.TheVariants.{Done}
-use Rattle.pcm_base.specs.declared.command.Call.{Call}
 use Rattle.pcm_base.specs.declared.command.Call.TheVariants.{Line, Piece}
-use Rattle.pcm_base.specs.declared.command.Command.TheVariants.{Reclaim}
-use Rattle.pcm_base.specs.declared.entry.Entry.{Entry}
-use Rattle.pcm_base.specs.declared.refusal.Refusal.{Refusal}
-use Rattle.pcm_base.specs.declared.said.Said.{Said}
+use Rattle.pcm_base.specs.{Recordings.pieces_in, declared.answer.Reply.Reply, declared.answer.Reply.TheVariants.Done}
+use Rattle.pcm_base.specs.{declared.command.Call.Call, declared.command.Command.TheVariants.Reclaim}
+use Rattle.pcm_base.specs.{declared.entry.Entry.Entry, declared.refusal.Refusal.Refusal, declared.said.Said.Said}
 use Rattle.disk_model.specs.declared.store.Store.{Ghosts}
 use Rattle.edit_ports.specs.Answers.{first_refusal}
-use Rattle.edit_ports.specs.declared.vault.Vault as vault
-use Rattle.pin_turn.specs.declared.view.View.{View}
-use Rattle.pin_turn.specs.Counts.{Each}
+use Rattle.pin_turn.specs.{declared.view.View.View, Counts.Each}
 use Rattle.pin_turn.proofs.Sums.{Each-append}
-use Rattle.editor_state.specs.Core.{Core}
-use Rattle.editor_state.specs.Took.{silent, told_by}
-use Rattle.studio_seats.specs.declared.held.Held.{Held}
-use Rattle.studio_seats.specs.declared.deed.Deed.{Deed}
-use Rattle.studio_seats.specs.Deeds.{deed, entries_of, entry_of, number_after}
+use Rattle.editor_state.specs.{Core.Core, Took.silent, Took.as_reply}
 use Rattle.studio_seats.specs.Desks.{Says, Spends, Turned, asked, spent, views}
-use Rattle.studio_seats.specs.Freeing.{AreFreed, IsDue, IsFullReclaim, unfreed}
-use Rattle.studio_seats.specs.Merge.{by_seat, deeds_of}
-use Rattle.studio_seats.specs.Onward.{AreDone, Asks, EndsBy, Onward}
-use Rattle.studio_seats.specs.Pieces.{pieces_by}
 use Rattle.studio_seats.specs.Recording.{Frees, FreesOnce, FreesTo, Recorder, RecorderAsks, RecordsOn, asks_piece}
 use Rattle.studio_seats.specs.Recording.{recorder}
-use Rattle.studio_seats.specs.Stands.{origin}
+use Rattle.studio_seats.specs.{declared.held.Held.Held, declared.deed.Deed.Deed, Deeds.deed, Deeds.entries_of}
+use Rattle.studio_seats.specs.{Deeds.entry_of, Deeds.number_after, Freeing.AreFreed, Freeing.IsDue}
+use Rattle.studio_seats.specs.{Freeing.IsFullReclaim, Freeing.unfreed, Merge.by_seat, Merge.deeds_of, Onward.AreDone}
+use Rattle.studio_seats.specs.{Onward.Asks, Onward.EndsBy, Onward.Onward, Pieces.pieces_by, Stands.origin}
 use Rattle.studio_seats.proofs.FreeingLemmas.{asked_own, freed_append, freed_ended, no_piece_among, no_pieces_by}
-use Rattle.studio_seats.proofs.FreeingLemmas.{none_by}
-use Rattle.studio_seats.proofs.FreeingLemmas.{reclaim_frees, unfreed_append}
-use Rattle.studio_seats.proofs.Grown.{entries_append}
-use Rattle.studio_seats.proofs.MergeLemmas.{deeds_append}
+use Rattle.studio_seats.proofs.FreeingLemmas.{none_by, reclaim_frees, unfreed_append}
 use Rattle.studio_seats.proofs.OnwardLemmas.{onward_on, onward_self, onward_spent, onward_taken}
-use Rattle.studio_seats.proofs.PieceLemmas.{pieces_append}
-use Rattle.studio_seats.proofs.Turns.{number_on}
-use Rattle.studio_seats.proofs.WorkLemmas.{ends_later, onward_as, own_turn}
+use Rattle.studio_seats.proofs.{Grown.entries_append, MergeLemmas.deeds_append, PieceLemmas.pieces_append}
+use Rattle.studio_seats.proofs.{Turns.number_on, WorkLemmas.ends_later, WorkLemmas.onward_as, WorkLemmas.own_turn}
+use Rattle.edit_ports.specs.declared.vault.Vault as vault
 
 -- a recorder that was asked nothing
 pub records_self : {D V : Type 0} {disk : Ghosts D} (track tag : ℕ) (v : Recorder D V disk)
@@ -66,7 +50,7 @@ module _ {D V : Type 0} (track tag : ℕ) (disk : Ghosts D) (vaults : vault.Ghos
   c = Piece track tag samples
 
   abbrev what_of : Result ℕ Refusal → Result Reply Refusal
-  what_of r = told_by (λ (n : ℕ). Done) r
+  what_of r = as_reply (λ (n : ℕ). Done) r
 
   abbrev Taken : Result ℕ Refusal → ℕ → Type 0
   Taken r at = Turned (origin disk vaults start) (asked c (what_of r) silent) at (views v w)

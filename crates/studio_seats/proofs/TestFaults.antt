@@ -1,37 +1,31 @@
 -- What a test may tell: of no device, and of no turn.
-use Rattle.std.proofs.Common.{◌≡◌, inl, inr, refl, sym, ap, ◌∙◌, subst, ℕ, ◌+◌, ◌-◌, ◌==◌, nat_lt, nat_le}
-use Rattle.std.proofs.Common.{◌&&◌, ◌||◌, not, Bool, true, false, Option, Some, None, is_none, List, [], ◌∷◌}
-use Rattle.std.proofs.Common.{IsSome, length, map, take, Result, Ok, Err}
-use Rattle.pcm_base.specs.declared.answer.Reply.{Reply}
-use Rattle.pcm_base.specs.declared.answer.Reply.TheVariants.{Refused}
-use Rattle.pcm_base.specs.declared.command.Call.{Call}
-use Rattle.pcm_base.specs.declared.command.Call.TheVariants as call
-use Rattle.pcm_base.specs.declared.entry.SoundMove.{SoundMove}
+use Rattle.std.proofs.Common.{◌≡◌, inl, inr, refl, sym, ap, ◌∙◌, subst, ℕ, ◌+◌, ◌-◌, ◌==◌, nat_lt, nat_le, ◌&&◌, ◌||◌}
+use Rattle.std.proofs.Common.{not, Bool, true, false, Option, Some, None, is_none, List, [], ◌∷◌, IsSome, length, map}
+use Rattle.std.proofs.Common.{take, Result, Ok, Err}
 use Rattle.pcm_base.specs.declared.limits.TheConstants.{COUNTER_LIMIT, MAX_CELLS, MAX_TRACKS, MAX_VIEW}
-use Rattle.pcm_base.specs.declared.refusal.Refusal.{Refusal}
-use Rattle.pcm_base.specs.declared.refusal.Refusal.TheVariants as refusal
-use Rattle.pcm_base.specs.declared.wav.WavFault.{WavFault}
-use Rattle.pcm_base.specs.Cells.{cells_at, longest, tracks_from}
 use Rattle.pcm_base.specs.Counters.{commits_of, counter_tests, generations_of, no_room, pins_of, places_of, record_test}
 use Rattle.pcm_base.specs.Counters.{layouts_of, tracks_of}
-use Rattle.pcm_base.specs.Edits.{source_count}
-use Rattle.pcm_base.specs.Outside.{Outside}
 use Rattle.pcm_base.specs.Refusals.{◌otherwise◌, bad_columns, bad_range, bad_view, call_tests, channel_tests}
 use Rattle.pcm_base.specs.Refusals.{empty_clipboard, file_tests, import_tests, insert_tests, inserted_length}
 use Rattle.pcm_base.specs.Refusals.{length_limit, no_pin, no_track, paste_tests, pasted_lengths, placed_length}
-use Rattle.pcm_base.specs.Refusals.{range_tests, refused_if, run_tests, shape_tests, too_narrow, track_limit, view_tests}
+use Rattle.pcm_base.specs.Refusals.{range_tests, refused_if, run_tests, shape_tests, too_narrow, track_limit}
+use Rattle.pcm_base.specs.Refusals.{view_tests}
 use Rattle.pcm_base.specs.Run.{Answers, outside, refusal_of, result_of, stop_test}
 use Rattle.pcm_base.specs.Shape.{Shape, NewTrack, DropTrack, SetTrack, PutIn, EditRange, CutRun, CopyRun, PasteRun}
-use Rattle.pcm_base.specs.Shape.{MoveTo, Purge, PurgeTo, Look, Reclaim, Compact, Import, Export, Bounce, Back, Forward}
-use Rattle.pcm_base.specs.Shape.{View, Cells, Frames, Columns, Tracks, shape_of}
-use Rattle.pcm_base.specs.State.{State, clip_of, current}
-use Rattle.pcm_base.specs.Studio as model
-use Rattle.pcm_base.specs.Wave.{Sound, wav_of}
+use Rattle.pcm_base.specs.Shape.{MoveTo, Purge, Look, Import, Export, Back, Forward, View, Cells, Frames, Columns}
+use Rattle.pcm_base.specs.Shape.{Tracks, shape_of}
+use Rattle.pcm_base.specs.{declared.answer.Reply.Reply, declared.answer.Reply.TheVariants.Refused}
+use Rattle.pcm_base.specs.{declared.command.Call.Call, declared.entry.SoundMove.SoundMove}
+use Rattle.pcm_base.specs.{declared.refusal.Refusal.Refusal, declared.wav.WavFault.WavFault, Cells.cells_at}
+use Rattle.pcm_base.specs.{Cells.longest, Cells.tracks_from, Edits.source_count, Outside.Outside, State.State}
+use Rattle.pcm_base.specs.{State.clip_of, State.current, Wave.Sound, Wave.wav_of}
 use Rattle.editor_state.specs.Applied.{reply_of}
 use Rattle.editor_state.proofs.Calls.RunEntries.{plain, plain_result}
-use Rattle.studio_seats.specs.Desks.{spent}
-use Rattle.studio_seats.specs.Faults.{IsServed}
+use Rattle.studio_seats.specs.{Desks.spent, Faults.IsServed}
 use Rattle.studio_seats.proofs.Refused.{stopped_not}
+use Rattle.pcm_base.specs.declared.command.Call.TheVariants as call
+use Rattle.pcm_base.specs.declared.refusal.Refusal.TheVariants as refusal
+use Rattle.pcm_base.specs.Studio as model
 
 -- ---- what a test may tell
 
@@ -136,13 +130,10 @@ module _ (stopped : Option ℕ) where
     line (MoveTo Back) = one _ _ tt
     line (MoveTo Forward) = one _ _ tt
     line (Purge n) = range 0 n s.history.cursor
-    line (PurgeTo bytes) = tt
     line (Look v) = view v
-    line (Reclaim limit) = tt
-    line Compact = tt
     line (Import name) = imported out.sound
     line (Export name) = one _ _ tt
-    line (Bounce name) = tt
+    line _ = tt
 
     pin : (n : ℕ) → Tells stopped (no_pin s n)
     pin n = one (is_none (s.pins n)) (refusal.NoPin n) tt
@@ -168,6 +159,12 @@ module _ (stopped : Option ℕ) where
       (room t.next_layout (layouts_of out t.state c)))))))
 
 pub going : (stopped : Option ℕ) (c : Call) → Tells stopped (stop_test stopped c)
+going (Some n) (call.Line c) = refl
+going (Some n) (call.Piece track tag samples) = refl
+going (Some n) call.Pin = refl
+going (Some n) (call.PinLen pin) = refl
+going (Some n) (call.ReadPin pin from count) = refl
+going (Some n) (call.LoadPin pin from count) = refl
 going None (call.Line c) = tt
 going None (call.Piece track tag samples) = tt
 going None call.Pin = tt
@@ -175,12 +172,6 @@ going None (call.PinLen n) = tt
 going None (call.ReadPin n from count) = tt
 going None (call.LoadPin n from count) = tt
 going None (call.Unpin n) = tt
-going (Some n) (call.Line c) = refl
-going (Some n) (call.Piece track tag samples) = refl
-going (Some n) call.Pin = refl
-going (Some n) (call.PinLen pin) = refl
-going (Some n) (call.ReadPin pin from count) = refl
-going (Some n) (call.LoadPin pin from count) = refl
 going (Some n) (call.Unpin pin) = tt
 
 pub tested : (out : Outside) (t : model.Studio) (c : Call) (blocks len : ℕ)

@@ -1,31 +1,22 @@
 -- One turn of a seat, put together.
-use Rattle.std.proofs.Common.{◌≡◌, inl, inr, ⊎_elim, refl, sym, ap, ◌∙◌, subst, ℕ, ◌≤◌, false, true, List, []}
-use Rattle.std.proofs.Common.{◌∷◌, ◌++◌, Result, Ok, Err, MatchResult, arith}
+use Rattle.std.proofs.Common.{◌≡◌, inl, inr, ⊎_elim, refl, sym, ap, ◌∙◌, subst, ℕ, ◌≤◌, false, true, List, [], ◌∷◌}
+use Rattle.std.proofs.Common.{◌++◌, Result, Ok, Err, MatchResult, arith}
 use Rattle.std.proofs.lemmas.Bool.{true≢false}
 use Rattle.std.specs.Fn.{Mut, CalledAtMut}
-use denote.Ref.{MutBor}
-use Rattle.pcm_base.specs.declared.answer.Reply.{Reply}
-use Rattle.pcm_base.specs.declared.command.Call.{Call}
-use Rattle.pcm_base.specs.declared.entry.SoundMove.{SoundMove}
-use Rattle.pcm_base.specs.declared.refusal.Refusal.{Refusal}
-use Rattle.pcm_base.specs.declared.said.Said.{Said}
+use Rattle.pcm_base.specs.{declared.answer.Reply.Reply, declared.command.Call.Call, declared.entry.SoundMove.SoundMove}
+use Rattle.pcm_base.specs.{declared.refusal.Refusal.Refusal, declared.said.Said.Said}
 use Rattle.disk_model.specs.declared.store.Store.{Ghosts}
-use Rattle.edit_ports.specs.declared.vault.Vault as vault
-use Rattle.pin_turn.specs.declared.view.Spent.{Spent}
-use Rattle.pin_turn.specs.declared.view.View.{View}
 use Rattle.pin_turn.specs.Calls.{TakesAtMut, FitsTurn, TookTurn, addition, called_as, meaning}
-use Rattle.pin_turn.specs.Rule.{ByOthers}
-use Rattle.editor_state.specs.Core.{Core}
+use Rattle.pin_turn.specs.{declared.view.Spent.Spent, declared.view.View.View, Rule.ByOthers}
+use Rattle.editor_state.specs.{Core.Core, Studios.IsStudio}
 use Rattle.editor_core.specs.Core.{core_of}
-use Rattle.editor_state.specs.Studios.{IsStudio}
-use Rattle.studio_seats.specs.declared.deed.Deed.{Deed}
-use Rattle.studio_seats.specs.declared.held.Held.{Held}
 use Rattle.studio_seats.specs.Deeds.{actor_of, deed, number_after, raised_by}
 use Rattle.studio_seats.specs.Desks.{Asked, Says, Spends, Turned, Views, asked, deed_of, spent, views}
-use Rattle.studio_seats.specs.Holding.{HeldFor}
 use Rattle.studio_seats.specs.Stands.{AllTell, Does, Origin, origin}
-use Rattle.studio_seats.proofs.Chains.{extends}
-use Rattle.studio_seats.proofs.Grown.{leads}
+use Rattle.studio_seats.specs.{declared.deed.Deed.Deed, declared.held.Held.Held, Holding.HeldFor}
+use Rattle.studio_seats.proofs.{Chains.extends, Grown.leads}
+use denote.Ref.{MutBor}
+use Rattle.edit_ports.specs.declared.vault.Vault as vault
 
 module _ {D V : Type 0} (disk : Ghosts D) (vaults : vault.Ghosts V) where
   -- the studio of a turn
@@ -103,8 +94,7 @@ module _ {D V : Type 0} (disk : Ghosts D) (vaults : vault.Ghosts V) where
 
     -- what the seat then says
     pub says : (f' : F) (said_what : Said A → Result Reply Refusal) (said_sound : SoundMove)
-        (w : View (Held D V disk) Deed)
-        (result : Result (Said A) Spent) (said : Said A)
+        (w : View (Held D V disk) Deed) (result : Result (Said A) Spent) (said : Said A)
         → MatchResult result (λ s. TookTurn (meaning (HeldFor disk vaults) actor_of start) g (called_as f s f')
         (addition v (done s f' ∷ []) w))
         (λ _. (w ≡ record v { used_up = true }) × (f' ≡ f))
@@ -130,17 +120,6 @@ module _ {D V : Type 0} (disk : Ghosts D) (vaults : vault.Ghosts V) where
     if_taken f' w (Ok s) said P took same met unspent = subst P (sym same) (met s took.value took.value' took.called)
     if_taken f' w (Err y) said P h none met unspent =
         absurd (true≢false (sym (ap (λ (z : View (Held D V disk) Deed). z.used_up) h.0) ∙ unspent))
-
-    -- and where there was none, the closure is as it was
-    pub if_spent : (f' : F) (w : View (Held D V disk) Deed) (result : Result (Said A) Spent) (said : Said A)
-        → MatchResult result (λ s. TookTurn (meaning (HeldFor disk vaults) actor_of start) g (called_as f s f')
-        (addition v (done s f' ∷ []) w))
-        (λ _. (w ≡ record v { used_up = true }) × (f' ≡ f))
-        → MatchResult result (λ s. said ≡ s) (λ _. (said.at ≡ 0) × (said.what ≡ Err spent))
-        → w.used_up ≡ true → f' ≡ f
-    if_spent f' w (Ok s) said took same used =
-        absurd (true≢false (sym used ∙ ap (λ (z : View (Held D V disk) Deed). z.used_up) took.view ∙ took.unspent))
-    if_spent f' w (Err y) said h none used = h.1
 
     -- taken or not
     pub either_way : (f' : F) (w : View (Held D V disk) Deed) (result : Result (Said A) Spent) (P : Type 0)

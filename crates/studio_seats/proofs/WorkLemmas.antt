@@ -1,16 +1,11 @@
 -- The own deeds of a seat that goes on, and how they end.
 use Rattle.std.proofs.Common.{◌≡◌, inl, inr, ℕ, Bool, true, List, [], ◌∷◌, ◌++◌, Option, Some, None, sym, ◌∙◌, ap}
 use Rattle.std.proofs.Common.{subst, append_assoc}
-use Rattle.pcm_base.specs.declared.command.Call.{Call}
-use Rattle.pcm_base.specs.declared.refusal.Refusal.{Refusal}
+use Rattle.pcm_base.specs.{declared.command.Call.Call, declared.refusal.Refusal.Refusal}
 use Rattle.disk_model.specs.declared.store.Store.{Ghosts}
-use Rattle.pin_turn.specs.declared.view.View.{View}
-use Rattle.pin_turn.specs.Rule.{ByOthers}
-use Rattle.studio_seats.specs.declared.held.Held.{Held}
-use Rattle.studio_seats.specs.declared.deed.Deed.{Deed}
-use Rattle.studio_seats.specs.Deeds.{actor_of}
-use Rattle.studio_seats.specs.Merge.{by_seat, deeds_of}
-use Rattle.studio_seats.specs.Onward.{Asks, EndsBy, Onward}
+use Rattle.pin_turn.specs.{declared.view.View.View, Rule.ByOthers}
+use Rattle.studio_seats.specs.{declared.held.Held.Held, declared.deed.Deed.Deed, Deeds.actor_of, Merge.by_seat}
+use Rattle.studio_seats.specs.{Merge.deeds_of, Onward.Asks, Onward.EndsBy, Onward.Onward}
 use Rattle.studio_seats.proofs.MergeLemmas.{own_order}
 
 -- after one turn more

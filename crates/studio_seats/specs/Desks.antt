@@ -1,24 +1,15 @@
 -- What the calls of a seat say.
 use Rattle.std.specs.Prelude.{◌≡◌, ◌⊎◌, ℕ, ◌<◌, true, false, List, [], ◌∷◌, ◌++◌, length, Result, Err}
-use Rattle.pcm_base.specs.declared.limits.TheConstants.{COUNTER_LIMIT}
-use Rattle.pcm_base.specs.declared.answer.Reply.{Reply}
-use Rattle.pcm_base.specs.declared.command.Call.{Call}
-use Rattle.pcm_base.specs.declared.entry.SoundMove.{SoundMove}
-use Rattle.pcm_base.specs.declared.refusal.Refusal.{Refusal}
-use Rattle.pcm_base.specs.declared.refusal.Refusal.TheVariants.{Spent}
-use Rattle.pcm_base.specs.declared.said.Said.{Said}
+use Rattle.pcm_base.specs.{declared.limits.TheConstants.COUNTER_LIMIT, declared.answer.Reply.Reply}
+use Rattle.pcm_base.specs.{declared.command.Call.Call, declared.entry.SoundMove.SoundMove}
+use Rattle.pcm_base.specs.{declared.refusal.Refusal.Refusal, declared.refusal.Refusal.TheVariants.Spent}
+use Rattle.pcm_base.specs.{declared.said.Said.Said}
 use Rattle.disk_model.specs.declared.store.Store.{Ghosts}
-use Rattle.pin_turn.specs.declared.view.Seat.{Seat}
-use Rattle.pin_turn.specs.declared.view.View.{View}
-use Rattle.pin_turn.specs.Calls.{IsOf, start_of}
-use Rattle.pin_turn.specs.Rule.{ByOthers}
+use Rattle.pin_turn.specs.{declared.view.Seat.Seat, declared.view.View.View, Calls.IsOf, Calls.start_of, Rule.ByOthers}
 use Rattle.editor_state.specs.Core.{Core}
 use Rattle.editor_core.specs.Core.{core_of}
-use Rattle.studio_seats.specs.declared.deed.Deed.{Deed}
-use Rattle.studio_seats.specs.declared.desk.Desk.{Desk}
-use Rattle.studio_seats.specs.declared.held.Held.{Held}
-use Rattle.studio_seats.specs.Deeds.{actor_of, deed}
-use Rattle.studio_seats.specs.Stands.{AllTell, Does, Origin, StandsFor}
+use Rattle.studio_seats.specs.{declared.deed.Deed.Deed, declared.desk.Desk.Desk, declared.held.Held.Held}
+use Rattle.studio_seats.specs.{Deeds.actor_of, Deeds.deed, Stands.AllTell, Stands.Does, Stands.Origin, Stands.StandsFor}
 
 -- no turn is left
 abbrev pub spent : Refusal

@@ -1,20 +1,15 @@
 -- What is answered where no count of faults of the store rises.
 use Rattle.std.specs.Prelude.{◌≡◌, IsSome, None, List, IfErr}
-use Rattle.pcm_base.specs.declared.command.Call.{Call}
-use Rattle.pcm_base.specs.declared.entry.Entry.{Entry}
-use Rattle.pcm_base.specs.declared.refusal.Refusal.{Refusal}
-use Rattle.pcm_base.specs.declared.refusal.Refusal.TheVariants as refusal
-use Rattle.pcm_base.specs.Causes.{Rose}
-use Rattle.pcm_base.specs.Run.{Run, name_in, result_of}
-use Rattle.pcm_base.specs.Studio as model
+use Rattle.pcm_base.specs.{declared.command.Call.Call, declared.entry.Entry.Entry, declared.refusal.Refusal.Refusal}
+use Rattle.pcm_base.specs.{Causes.Rose, Run.Run, Run.name_in, Run.result_of}
 use Rattle.pin_turn.specs.Counts.{Each}
 use Rattle.disk_model.specs.declared.store.Store.{Ghosts}
-use Rattle.edit_ports.specs.declared.vault.Vault as vault
-use Rattle.editor_state.specs.Core.{Core}
-use Rattle.editor_state.specs.Studios.{IsHeld, studio_of}
-use Rattle.studio_seats.specs.declared.deed.Deed.{Deed}
-use Rattle.studio_seats.specs.Leads.{IsUnharmed}
+use Rattle.editor_state.specs.{Core.Core, Studios.IsHeld, Studios.studio_of}
 use Rattle.studio_seats.specs.Stands.{AreTold, StandsFor, origin}
+use Rattle.studio_seats.specs.{declared.deed.Deed.Deed, Leads.IsUnharmed}
+use Rattle.pcm_base.specs.declared.refusal.Refusal.TheVariants as refusal
+use Rattle.pcm_base.specs.Studio as model
+use Rattle.edit_ports.specs.declared.vault.Vault as vault
 
 -- no count of faults rose, and none stands at its type's end
 pub record IsCalm (t u : model.Studio) : Type 0 where

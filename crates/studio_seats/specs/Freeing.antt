@@ -1,10 +1,8 @@
 -- The pieces of a recording, and the reclaims between them.
 use Rattle.std.specs.Prelude.{◌≡◌, ◌⊎◌, ℕ, ◌+◌, ◌≤◌, if◌then◌else◌, Bool, true, false, List, [], ◌∷◌, ◌++◌, None}
-use Rattle.pcm_base.specs.Counters.{commits_of}
-use Rattle.pcm_base.specs.declared.command.Call.{Call}
+use Rattle.pcm_base.specs.{Counters.commits_of, declared.command.Call.Call}
+use Rattle.pcm_base.specs.{declared.command.Command.TheVariants.Reclaim, declared.entry.Entry.Entry}
 use Rattle.pcm_base.specs.declared.command.Call.TheVariants as call
-use Rattle.pcm_base.specs.declared.command.Command.TheVariants.{Reclaim}
-use Rattle.pcm_base.specs.declared.entry.Entry.{Entry}
 
 -- a reclaim of all that nothing names
 abbrev pub IsFullReclaim : Call → Type 0

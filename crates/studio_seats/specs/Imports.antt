@@ -3,14 +3,11 @@
 use Rattle.std.specs.Prelude.{◌≡◌, ◌⊎◌, true, false, IsSome, None, List, [], ◌∷◌}
 use Rattle.pcm_base.specs.Run.{name_in}
 use Rattle.disk_model.specs.declared.store.Store.{Ghosts}
-use Rattle.edit_ports.specs.declared.vault.Vault as vault
 use Rattle.pin_turn.specs.Counts.{Each}
-use Rattle.editor_state.specs.Core.{Core}
-use Rattle.editor_state.specs.Exchanges.{reads_sound}
-use Rattle.editor_state.specs.Vaults.{IfCutShort}
-use Rattle.studio_seats.specs.declared.deed.Deed.{Deed}
-use Rattle.studio_seats.specs.Leads.{Leads}
+use Rattle.editor_state.specs.{Core.Core, Exchanges.reads_sound, Vaults.IfCutShort}
 use Rattle.studio_seats.specs.Stands.{AllTell, AreTold, StandsFor, origin}
+use Rattle.studio_seats.specs.{declared.deed.Deed.Deed, Leads.Leads}
+use Rattle.edit_ports.specs.declared.vault.Vault as vault
 
 -- vaults that report their bytes
 abbrev pub telling : vault.Ghosts (Unit {0})

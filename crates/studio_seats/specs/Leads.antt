@@ -1,31 +1,20 @@
 -- Where the deeds of a desk lead.
 use Rattle.std.specs.Prelude.{◌≡◌, ◌⊎◌, ◌-◌, IsSome, None, List, [], ◌∷◌, ◌++◌, IfErr}
-use Rattle.pcm_base.specs.declared.answer.Reply.TheVariants.{Refused}
-use Rattle.pcm_base.specs.declared.entry.Entry.{Entry}
-use Rattle.pcm_base.specs.declared.refusal.Refusal.{Refusal}
-use Rattle.pcm_base.specs.declared.refusal.Refusal.TheVariants as refusal
-use Rattle.pcm_base.specs.Run.{Run, Step}
-use Rattle.pcm_base.specs.Studio as model
-use Rattle.disk_model.specs.Disk.{Files}
-use Rattle.disk_model.specs.Frames.{Changed}
-use Rattle.disk_model.specs.Moment.{IsUpTo}
+use Rattle.pcm_base.specs.{declared.answer.Reply.TheVariants.Refused, declared.entry.Entry.Entry}
+use Rattle.pcm_base.specs.{declared.refusal.Refusal.Refusal, Run.Run, Run.Step}
 use Rattle.disk_model.specs.Room.{Room, together}
-use Rattle.disk_model.specs.declared.store.Store.{Ghosts}
-use Rattle.edit_ports.specs.declared.vault.Vault as vault
+use Rattle.disk_model.specs.{Disk.Files, Frames.Changed, Moment.IsUpTo, declared.store.Store.Ghosts}
 use Rattle.pin_turn.specs.Counts.{Each}
 use Rattle.project_journal.specs.Gate.{EachNow, EachSince}
-use Rattle.record_body.specs.Kept.{Keeps}
-use Rattle.editor_state.specs.Applied.{reply_of}
-use Rattle.editor_state.specs.Core.{Core}
-use Rattle.editor_state.specs.Events.{KeepsPrefix}
-use Rattle.editor_state.specs.Left.{LeavesForeign}
-use Rattle.editor_state.specs.Packing.{packed_by}
+use Rattle.record_body.specs.Saved.{Keeps}
 use Rattle.editor_state.specs.Studios.{IsHeld, IsStudio, shown, studio_of}
 use Rattle.editor_state.specs.Took.{InFlight, asks, exchange_of}
-use Rattle.studio_seats.specs.declared.deed.Deed.{Deed}
-use Rattle.studio_seats.specs.Deeds.{entries_of, number_after}
-use Rattle.studio_seats.specs.Desks.{spent}
+use Rattle.editor_state.specs.{Applied.reply_of, Core.Core, Events.KeepsPrefix, Left.LeavesForeign, Packing.packed_by}
 use Rattle.studio_seats.specs.Stands.{AreTold, Chain, Origin, StandsFor, origin}
+use Rattle.studio_seats.specs.{declared.deed.Deed.Deed, Deeds.entries_of, Deeds.number_after, Desks.spent}
+use Rattle.pcm_base.specs.declared.refusal.Refusal.TheVariants as refusal
+use Rattle.pcm_base.specs.Studio as model
+use Rattle.edit_ports.specs.declared.vault.Vault as vault
 
 -- no damaged file is reported
 abbrev pub IsUnharmed : Refusal → Type 0

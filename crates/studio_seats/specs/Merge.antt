@@ -2,14 +2,11 @@
 use Rattle.std.specs.Prelude.{◌≡◌, ℕ, ◌+◌, ◌<◌, ◌==◌, ◌&&◌, if◌then◌else◌, ℤ, Bool, true, false, List, [], ◌∷◌, ◌++◌}
 use Rattle.std.specs.Prelude.{length, take}
 use Rattle.std.specs.List.{zip}
-use Rattle.pin_turn.specs.Counts.{Each, times, once_below}
-use Rattle.pin_turn.specs.Rule.{ByOthers}
-use Rattle.pcm_base.specs.Arithmetic.{counted_from}
-use Rattle.pcm_base.specs.declared.command.Call.{Call}
-use Rattle.pcm_base.specs.declared.command.Call.TheVariants as call
-use Rattle.studio_seats.specs.declared.deed.Deed.{Deed}
+use Rattle.pin_turn.specs.{Counts.Each, Counts.times, Counts.once_below, Rule.ByOthers}
+use Rattle.pcm_base.specs.{Arithmetic.counted_from, declared.command.Call.Call}
 use Rattle.studio_seats.specs.Deeds.{actor_of, is_commit, made, number_after, raised_by}
-use Rattle.studio_seats.specs.Pieces.{pieces_by}
+use Rattle.studio_seats.specs.{declared.deed.Deed.Deed, Pieces.pieces_by}
+use Rattle.pcm_base.specs.declared.command.Call.TheVariants as call
 
 abbrev pub by_seat : ℕ → Deed → Bool
 by_seat seat e = seat == e.actor

@@ -1,17 +1,12 @@
 -- How what a seat knows goes on.
-use Rattle.std.specs.Prelude.{◌≡◌, ◌⊎◌, ℕ, ◌+◌, if◌then◌else◌, ℤ, Bool, true, List, [], ◌∷◌, ◌++◌, length}
-use Rattle.std.specs.Prelude.{Option, Some, None, Err, IsOk}
-use Rattle.pcm_base.specs.declared.refusal.Refusal.{Refusal}
-use Rattle.pcm_base.specs.declared.command.Command.{Command}
-use Rattle.pin_turn.specs.declared.view.View.{View}
-use Rattle.pin_turn.specs.Counts.{Each}
-use Rattle.studio_seats.specs.declared.held.Held.{Held}
-use Rattle.pcm_base.specs.declared.command.Call.{Call}
+use Rattle.std.specs.Prelude.{◌≡◌, ◌⊎◌, ℕ, ◌+◌, if◌then◌else◌, ℤ, Bool, true, List, [], ◌∷◌, ◌++◌, length, Option, Some}
+use Rattle.std.specs.Prelude.{None, Err, IsOk}
 use Rattle.pcm_base.specs.declared.command.Call.TheVariants.{Line, Piece, ReadPin}
+use Rattle.pcm_base.specs.{declared.refusal.Refusal.Refusal, declared.command.Command.Command}
+use Rattle.pcm_base.specs.{declared.command.Call.Call}
+use Rattle.pin_turn.specs.{declared.view.View.View, Counts.Each}
+use Rattle.studio_seats.specs.{declared.held.Held.Held, declared.deed.Deed.Deed, Desks.spent, Merge.by_seat}
 use Rattle.disk_model.specs.declared.store.Store.{Ghosts}
-use Rattle.studio_seats.specs.declared.deed.Deed.{Deed}
-use Rattle.studio_seats.specs.Desks.{spent}
-use Rattle.studio_seats.specs.Merge.{by_seat}
 
 -- the places of the deeds of a kind, where the first of the list stands at place k
 abbrev pub places_of : (Deed → Bool) → ℕ → List Deed → List ℕ

@@ -1,11 +1,9 @@
 -- The pieces that a seat added, as the list tells them.
 use Rattle.std.specs.Prelude.{ℕ, ◌==◌, ◌&&◌, if◌then◌else◌, ℤ, List, [], ◌∷◌, ◌++◌}
-use Rattle.pcm_base.specs.Recordings.{pieces_of}
-use Rattle.pcm_base.specs.declared.command.Call.{Call}
-use Rattle.pcm_base.specs.declared.command.Call.TheVariants as call
+use Rattle.pcm_base.specs.{Recordings.pieces_of, declared.command.Call.Call}
 use Rattle.edit_ports.specs.Answers.{numbered_pieces}
-use Rattle.studio_seats.specs.declared.deed.Deed.{Deed}
-use Rattle.studio_seats.specs.Deeds.{is_commit, raised_by}
+use Rattle.studio_seats.specs.{declared.deed.Deed.Deed, Deeds.is_commit, Deeds.raised_by}
+use Rattle.pcm_base.specs.declared.command.Call.TheVariants as call
 
 -- the pieces of a recording that a call adds, with their numbers, which go on from this one: it goes to that track, and
 -- has that tag

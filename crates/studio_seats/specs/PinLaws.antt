@@ -1,16 +1,11 @@
 -- A pin stays as it was made.
 use Rattle.std.specs.Prelude.{◌≡◌, ℕ, List, length, take, drop, Some, Ok}
-use Rattle.pcm_base.specs.declared.answer.Reply.{Reply}
 use Rattle.pcm_base.specs.declared.answer.Reply.TheVariants.{Frames, Length, Loaded}
 use Rattle.pcm_base.specs.declared.command.Call.TheVariants.{LoadPin, PinLen, ReadPin}
-use Rattle.pcm_base.specs.declared.entry.Entry.{Entry}
-use Rattle.pcm_base.specs.declared.entry.SoundMove.{SoundMove}
-use Rattle.pcm_base.specs.declared.sound.Frame.{Frame}
-use Rattle.pcm_base.specs.Cells.{Project}
-use Rattle.pcm_base.specs.Mix.{loaded_of, mix_of}
-use Rattle.pcm_base.specs.Run.{Answers, Run}
+use Rattle.pcm_base.specs.{declared.answer.Reply.Reply, declared.entry.Entry.Entry, declared.entry.SoundMove.SoundMove}
+use Rattle.pcm_base.specs.{declared.sound.Frame.Frame, Cells.Project, Mix.loaded_of, Mix.mix_of, Run.Answers, Run.Run}
+use Rattle.studio_seats.specs.Pins.{StaysHeld, ShowsPin, pin_frames}
 use Rattle.pcm_base.specs.Studio as model
-use Rattle.studio_seats.specs.Pins.{IsKept, ShowsPin, pin_frames}
 
 -- In a run a pin was made, and nobody let it go: then it shows the mix of the project that was current where it was
 -- made, a length that is answered is that of the mix, and frames that are answered are those of the mix from the place
@@ -28,4 +23,4 @@ pub record PinStays (u : model.Studio) (pin : ℕ) (frames : List Frame) : Type 
 
 abbrev pub PinsStay : Type 0
 PinsStay = (t u : model.Studio) (es : List Entry) (pin : ℕ) (frames : List Frame) → Run t es u
-    → pin_frames t.rate t.state es pin ≡ Some frames → IsKept pin es → PinStays u pin frames
+    → pin_frames t.rate t.state es pin ≡ Some frames → StaysHeld pin es → PinStays u pin frames

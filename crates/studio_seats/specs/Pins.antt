@@ -1,19 +1,12 @@
 -- What the pins of a run show.
 use Rattle.std.specs.Prelude.{◌≡◌, ℕ, ◌==◌, if◌then◌else◌, Bool, true, false, List, [], ◌∷◌, Option, Some, None, Result}
 use Rattle.std.specs.Prelude.{Ok, Err}
-use Rattle.pcm_base.specs.declared.answer.Reply.{Reply}
+use Rattle.pcm_base.specs.{declared.answer.Reply.Reply, declared.command.Call.Call, declared.entry.Entry.Entry}
+use Rattle.pcm_base.specs.{declared.entry.SoundMove.SoundMove, declared.refusal.Refusal.Refusal}
+use Rattle.pcm_base.specs.{declared.sound.Frame.Frame, Cells.Project, Mix.mix_of, Run.result_of, Run.told_state}
+use Rattle.pcm_base.specs.{State.State, State.current, Step.after}
 use Rattle.pcm_base.specs.declared.answer.Reply.TheVariants as reply
-use Rattle.pcm_base.specs.declared.command.Call.{Call}
 use Rattle.pcm_base.specs.declared.command.Call.TheVariants as call
-use Rattle.pcm_base.specs.declared.entry.Entry.{Entry}
-use Rattle.pcm_base.specs.declared.entry.SoundMove.{SoundMove}
-use Rattle.pcm_base.specs.declared.refusal.Refusal.{Refusal}
-use Rattle.pcm_base.specs.declared.sound.Frame.{Frame}
-use Rattle.pcm_base.specs.Cells.{Project}
-use Rattle.pcm_base.specs.Mix.{mix_of}
-use Rattle.pcm_base.specs.Run.{result_of, told_state}
-use Rattle.pcm_base.specs.State.{State, current}
-use Rattle.pcm_base.specs.Step.{after}
 
 -- the state after a call that was answered so; a refusal changes nothing that a script can see
 abbrev pub after_what : ℕ → State → Call → Result Reply Refusal → SoundMove → State
@@ -70,9 +63,9 @@ is_made pin [] = false
 is_made pin (e ∷ es) = if makes_pin e.call e.reply pin then true else is_made pin es
 
 -- nobody let the pin go
-abbrev pub IsKept : ℕ → List Entry → Type 0
-IsKept pin [] = Unit {0}
-IsKept pin (e ∷ es) = (drops_pin e.call (result_of e.reply) pin ≡ false) × IsKept pin es
+abbrev pub StaysHeld : ℕ → List Entry → Type 0
+StaysHeld pin [] = Unit {0}
+StaysHeld pin (e ∷ es) = (drops_pin e.call (result_of e.reply) pin ≡ false) × StaysHeld pin es
 
 -- the frames that the pin of this number shows, where it was made in the run: the mix of the project that was current
 -- then

@@ -1,16 +1,12 @@
 -- How a seat reads a pin from its first frame on.
 use Rattle.std.specs.Prelude.{◌≡◌, ◌⊎◌, ℕ, ◌+◌, ◌<◌, ◌≤◌, Bool, true, List, [], ◌∷◌, ◌++◌, length, Option, Some, None}
 use Rattle.std.specs.Prelude.{Ok, Err}
-use Rattle.pcm_base.specs.declared.answer.Reply.TheVariants.{Frames}
-use Rattle.pcm_base.specs.declared.command.Call.TheVariants.{ReadPin}
-use Rattle.pcm_base.specs.declared.refusal.Refusal.{Refusal}
-use Rattle.pcm_base.specs.declared.sound.Frame.{Frame}
+use Rattle.pcm_base.specs.{declared.answer.Reply.TheVariants.Frames, declared.command.Call.TheVariants.ReadPin}
+use Rattle.pcm_base.specs.{declared.refusal.Refusal.Refusal, declared.sound.Frame.Frame}
 use Rattle.disk_model.specs.declared.store.Store.{Ghosts}
 use Rattle.edit_ports.specs.Answers.{AtEnd, NextAt, Reading, RefusedAt, most_frames}
-use Rattle.studio_seats.specs.declared.deed.Deed.{Deed}
-use Rattle.studio_seats.specs.Desks.{spent}
-use Rattle.studio_seats.specs.Merge.{by_seat, deeds_of}
 use Rattle.studio_seats.specs.Onward.{IsReadOf, Onward, Worker}
+use Rattle.studio_seats.specs.{declared.deed.Deed.Deed, Desks.spent, Merge.by_seat, Merge.deeds_of}
 
 -- how many frames one read asks for
 abbrev pub IsAsked : ℕ → Type 0

@@ -1,15 +1,11 @@
 -- How what the seat of a recorder knows goes on: by pieces of its recording, and by reclaims.
 use Rattle.std.specs.Prelude.{◌≡◌, ◌⊎◌, ℕ, Bool, true, false, List, [], ◌∷◌, Option, None}
-use Rattle.pcm_base.specs.declared.command.Call.{Call}
-use Rattle.pcm_base.specs.declared.refusal.Refusal.{Refusal}
+use Rattle.pcm_base.specs.{declared.command.Call.Call, declared.refusal.Refusal.Refusal}
 use Rattle.disk_model.specs.declared.store.Store.{Ghosts}
 use Rattle.pin_turn.specs.declared.view.View.{View}
-use Rattle.studio_seats.specs.declared.deed.Deed.{Deed}
-use Rattle.studio_seats.specs.declared.held.Held.{Held}
-use Rattle.studio_seats.specs.Deeds.{entries_of}
 use Rattle.studio_seats.specs.Freeing.{AreFreed, IsDue, IsFullReclaim, makes_piece, unfreed}
-use Rattle.studio_seats.specs.Merge.{by_seat, deeds_of}
-use Rattle.studio_seats.specs.Onward.{EndsBy, IsPieceOf, Onward}
+use Rattle.studio_seats.specs.{declared.deed.Deed.Deed, declared.held.Held.Held, Deeds.entries_of, Merge.by_seat}
+use Rattle.studio_seats.specs.{Merge.deeds_of, Onward.EndsBy, Onward.IsPieceOf, Onward.Onward}
 
 -- what a recorder asks: a piece of this recording, or a reclaim
 abbrev pub RecorderAsks : ℕ → ℕ → Call → Type 0

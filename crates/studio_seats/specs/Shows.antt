@@ -2,10 +2,8 @@
 use Rattle.std.specs.Prelude.{◌≡◌, ℕ, List, Some}
 use Rattle.pcm_base.specs.declared.sound.Frame.{Frame}
 use Rattle.editor_state.specs.Studios.{IsHeld, studio_of}
-use Rattle.studio_seats.specs.declared.deed.Deed.{Deed}
-use Rattle.studio_seats.specs.Deeds.{entries_of}
-use Rattle.studio_seats.specs.Pins.{pin_frames}
 use Rattle.studio_seats.specs.Stands.{AllTell, Origin}
+use Rattle.studio_seats.specs.{declared.deed.Deed.Deed, Deeds.entries_of, Pins.pin_frames}
 
 -- Where vaults tell their bytes and the disk held the studio at the start, these are the frames of the mix of the
 -- project that was current where the pin was made.

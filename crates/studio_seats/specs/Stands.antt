@@ -1,16 +1,13 @@
 -- What a studio stands for after the deeds of a desk.
 use Rattle.std.specs.Prelude.{◌≡◌, ℕ, IsTrue, IsSome, List, [], ◌∷◌}
-use Rattle.pcm_base.specs.declared.command.Call.TheVariants.{Line}
-use Rattle.pcm_base.specs.declared.command.Command.TheVariants.{Import}
-use Rattle.pcm_base.specs.Run.{name_in}
+use Rattle.pcm_base.specs.{declared.command.Call.TheVariants.Line, declared.command.Command.TheVariants.Import}
+use Rattle.pcm_base.specs.{Run.name_in}
 use Rattle.disk_model.specs.declared.store.Store.{Ghosts}
-use Rattle.edit_ports.specs.declared.vault.Vault as vault
 use Rattle.pin_turn.specs.Counts.{Each}
-use Rattle.editor_state.specs.Applied.{Imported, Lasts}
-use Rattle.editor_state.specs.Core.{Core}
-use Rattle.editor_state.specs.Studios.{IsStudio}
-use Rattle.editor_state.specs.Took.{Took, exchange_of}
+use Rattle.editor_state.specs.{Applied.Imported, Applied.Lasts, Core.Core, Studios.IsStudio, Took.Took}
+use Rattle.editor_state.specs.{Took.exchange_of}
 use Rattle.studio_seats.specs.declared.deed.Deed.{Deed}
+use Rattle.edit_ports.specs.declared.vault.Vault as vault
 
 -- where a desk began
 pub record Origin (D V : Type 0) : Type 1 where

@@ -17,7 +17,7 @@ mod reclaims;
 mod said;
 mod seats;
 
-pub use pieces::SaidPieces;
+pub use pieces::{NextSamples, SaidPieces};
 
 /// One studio, which seats use in turns, with vaults of one type.
 pub struct Desk<S: Store, V: Vault> {

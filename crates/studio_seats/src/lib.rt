@@ -13,7 +13,7 @@ mod laws;
 mod taker;
 
 pub use deed::Deed;
-pub use desk::{Desk, SaidPieces};
+pub use desk::{Desk, NextSamples, SaidPieces};
 pub use giver::DeskGiver;
 pub use held::{DeskSeat, Held};
 pub use laws::{

@@ -6,7 +6,7 @@ ghost use Rattle.studio_seats.specs.Desks.{IsAt, start_at};
 ghost use Rattle.studio_seats.specs.Recording.{FreesTo};
 
 use super::batch::{join_chunks, pieces_in};
-use super::desk::Desk;
+use super::desk::{Desk, NextSamples};
 use super::first::first_of;
 use super::freeing::{PIECES, count_pieces, free};
 use super::held::DeskSeat;
@@ -51,14 +51,12 @@ impl<'a, S: Store, V: Vault> PieceTaker for DeskTaker<'a, S, V> {
     fn take_pieces<R: Wait>(&mut self, rt: &R, alloc: Global, chunks: &[Chunk]) -> Said<Taken> {
         let mut batch = [0i16; BATCH_SAMPLES];
         let joined = join_chunks(chunks, (PIECES - self.since) as usize, &mut batch);
-        let tried = self.desk.pieces(
-            rt,
-            alloc,
-            &mut self.seat,
-            self.track,
-            self.tag,
-            &batch[..joined],
-        );
+        let next = NextSamples {
+            track: self.track,
+            tag: self.tag,
+            samples: &batch[..joined],
+        };
+        let tried = self.desk.pieces(rt, alloc, &mut self.seat, next);
         let pieces = pieces_in(tried.count);
         self.refused = first_of(self.refused, &tried.said.what);
         self.since = count_pieces(rt, self.desk, &mut self.seat, self.since, pieces as u64);

@@ -1,8 +1,7 @@
 -- One raise more.
 use Rattle.std.proofs.Common.{◌≡◌, ℕ, ◌+◌, List, [], ◌∷◌, ◌++◌, length, length-append, arith, ◌∙◌}
-use Rattle.turn_examples.specs.declared.counter.Counter.{Counter}
-use Rattle.turn_examples.specs.declared.counter.Increment.{Increment}
 use Rattle.turn_examples.specs.Counters.{FoundFrom, IsRaised}
+use Rattle.turn_examples.specs.{declared.counter.Counter.Counter, declared.counter.Increment.Increment}
 
 FoundFrom-push : (n : ℕ) (raises : List Increment) (r : Increment) → FoundFrom n raises → r.found ≡ n + length raises
     → FoundFrom n (raises ++ r ∷ [])

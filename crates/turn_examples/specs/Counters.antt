@@ -1,9 +1,7 @@
 -- What a counter stands for.
 use Rattle.std.specs.Prelude.{◌≡◌, ℕ, ◌+◌, List, [], ◌∷◌, ◌++◌, length}
-use Rattle.pin_turn.specs.Rule.{ByOthers}
-use Rattle.pin_turn.specs.declared.view.View.{View}
-use Rattle.turn_examples.specs.declared.counter.Counter.{Counter}
-use Rattle.turn_examples.specs.declared.counter.Increment.{Increment}
+use Rattle.pin_turn.specs.{Rule.ByOthers, declared.view.View.View}
+use Rattle.turn_examples.specs.{declared.counter.Counter.Counter, declared.counter.Increment.Increment}
 
 -- the raises found these counts: n, and each the next one
 abbrev pub FoundFrom : ℕ → List Increment → Type 0

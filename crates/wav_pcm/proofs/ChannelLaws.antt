@@ -1,23 +1,20 @@
--- The samples of a channel, a piece at a time.
+-- The samples of a channel, a buffer at a time.
 use Rattle.std.proofs.Common.{◌≡◌, ◌≤◌, ◌<◌, ℕ, ◌+◌, ◌-◌, ◌*◌, ◌/◌, List, [], ◌++◌, length, take, drop, Option, None}
-use Rattle.std.proofs.Common.{Some, min}
-use Rattle.std.proofs.Common.{Result, sym, ap, ◌∙◌, arith, subst, length-append}
-use Rattle.std.specs.Prelude.{ℤ, slice_index_or}
+use Rattle.std.proofs.Common.{Some, min, Result, sym, ap, ◌∙◌, arith, subst, length-append}
 use Rattle.std.proofs.lemmas.List.{length-drop, length-take-le, take-take, drop-take, drop-drop}
 use Rattle.std.proofs.lemmas.List.FromFn.{get_or-map-range_with_len, length-map-range_with_len}
 use Rattle.std.proofs.Math.Nat.{mul-add, mul_comm, mul-div_cancel_left}
 use Rattle.std.proofs.Math.Seq.{take-append_seam, drop-append_seam}
-use Rattle.pcm_base.specs.declared.wav.WavFault.{WavFault}
-use Rattle.pcm_base.specs.declared.wav.WavFault.TheVariants.{Truncated}
+use Rattle.std.specs.Prelude.{ℤ, slice_index_or}
 use Rattle.pcm_base.specs.Wave.{Sound, channel_of, i16_at, wav_of}
+use Rattle.pcm_base.specs.{declared.wav.WavFault.WavFault, declared.wav.WavFault.TheVariants.Truncated}
 use Rattle.edit_ports.specs.Sounds.{sound_bytes}
-use Rattle.wav_pcm.specs.declared.heads.WavHead.{WavHead}
-use Rattle.wav_pcm.specs.declared.fault.SoundFault.{SoundFault}
 use Rattle.wav_pcm.specs.declared.fault.SoundFault.TheVariants.{NoFile, Vault, BadWav, TooLong}
 use Rattle.wav_pcm.specs.Parts.{part, IsVaultAlone}
 use Rattle.wav_pcm.specs.Heads.{bytes_of, place_of, frames_in, sound_at, Finds, IsHeadOf, IsChannelOf, IsCut, SaysPart}
 use Rattle.wav_pcm.specs.Heads.{SaysChannel}
-use Rattle.wav_pcm.proofs.PieceLaws.{channel_parts}
+use Rattle.wav_pcm.specs.{declared.heads.WavHead.WavHead, declared.fault.SoundFault.SoundFault}
+use Rattle.wav_pcm.proofs.BufferLaws.{channel_parts}
 
 bytes_more : (head : WavHead) (a b : ℕ) → bytes_of head (a + b) ≡ bytes_of head a + bytes_of head b
 bytes_more head a b = mul-add (2 * head.channels) a b
@@ -39,7 +36,7 @@ place_more head from done =
 part_of_part : (a b n : ℕ) (xs : List ℕ) → drop a (take (a + b) (drop n xs)) ≡ part (n + a) b xs
 part_of_part a b n xs = drop-take a b (drop n xs) ∙ ap (take b) (drop-drop a n xs)
 
--- one piece after another
+-- one buffer after another
 pub channel_joined : (head : WavHead) (from c done count : ℕ) (bytes : List ℕ) (xs ys : List ℤ) → c < head.channels
     → length xs ≡ done → length ys ≡ count
     → IsChannelOf head from bytes c xs → IsChannelOf head (from + done) bytes c ys
@@ -75,7 +72,7 @@ channel_joined head from c done count bytes xs ys within long more is next =
           ∙ ap (λ (m : ℕ). channel_of n (part start m bytes) c) (ap (bytes_of head) (sym all)),
     )
 
--- the piece that is not whole
+-- the buffer that is not whole
 pub cut_found : (head : WavHead) (from done count all have : ℕ) (bytes : List ℕ) (xs : List ℤ) (c : ℕ)
     (why : SoundFault)
     → done + count ≤ all → length xs ≡ done → IsChannelOf head from bytes c xs

@@ -1,11 +1,9 @@
 -- Texts that are written a part at a time.
-use Rattle.std.proofs.Common.{◌≡◌, inl, inr, ℕ, ◌+◌, List, [], ◌++◌, length, take, drop, Option, Some}
-use Rattle.std.proofs.Common.{sym, ap, subst, ◌∙◌, arith, length-append, append_assoc}
-use Rattle.std.proofs.lemmas.List.{take-append-drop, take-append-le}
-use Rattle.std.proofs.lemmas.Grind.{flat_map-append}
+use Rattle.std.proofs.Common.{◌≡◌, inl, inr, ℕ, ◌+◌, List, [], ◌++◌, length, take, drop, Option, Some, sym, ap, subst}
+use Rattle.std.proofs.Common.{◌∙◌, arith, length-append, append_assoc}
 use Rattle.std.proofs.Math.Seq.{take-add, take-append_seam, drop-append_seam}
-use Rattle.pcm_base.specs.declared.sound.Frame.{Frame}
-use Rattle.pcm_base.specs.Recordings.{bytes_of_frame, frame_bytes}
+use Rattle.std.proofs.{lemmas.List.take-append-drop, lemmas.List.take-append-le, lemmas.Grind.flat_map-append}
+use Rattle.pcm_base.specs.{declared.sound.Frame.Frame, Recordings.bytes_of_frame, Recordings.frame_bytes}
 use Rattle.edit_ports.specs.Sounds.{sound_bytes, MayHaveGrown}
 use Rattle.wav_pcm.specs.Written.{MayBegin}
 
@@ -28,26 +26,26 @@ held_more old mid new at n fs before is =
     is ∙ ap (λ o. Some (sound_bytes o ++ more)) before
     ∙ ap Some (append_assoc (sound_bytes old) done more ∙ ap (λ xs. sound_bytes old ++ xs) (frames_more at n fs))
 
-take_past : (xs ys : List ℕ) (n : ℕ) → take (length xs + n) (xs ++ ys) ≡ xs ++ take n ys
+pub take_past : (xs ys : List ℕ) (n : ℕ) → take (length xs + n) (xs ++ ys) ≡ xs ++ take n ys
 take_past xs ys n = take-add (length xs) n (xs ++ ys) ∙ rw (take-append_seam xs ys, drop-append_seam xs ys)
 
 -- a part more may have come, or a part of it
-grown_after : (old mid new : Option (List ℕ)) (done piece rest : List ℕ) → mid ≡ Some (sound_bytes old ++ done)
-    → MayHaveGrown piece mid new → MayHaveGrown (done ++ (piece ++ rest)) old new
-grown_after old mid new done piece rest before (inl same) =
+grown_after : (old mid new : Option (List ℕ)) (done buffer rest : List ℕ) → mid ≡ Some (sound_bytes old ++ done)
+    → MayHaveGrown buffer mid new → MayHaveGrown (done ++ (buffer ++ rest)) old new
+grown_after old mid new done buffer rest before (inl same) =
     inr (
       length done,
-      omega (arith, length-append done (piece ++ rest)),
-      same ∙ before ∙ ap (λ xs. Some (sound_bytes old ++ xs)) (sym (take-append_seam done (piece ++ rest))),
+      omega (arith, length-append done (buffer ++ rest)),
+      same ∙ before ∙ ap (λ xs. Some (sound_bytes old ++ xs)) (sym (take-append_seam done (buffer ++ rest))),
     )
-grown_after old mid new done piece rest before (inr (n, le, is)) =
+grown_after old mid new done buffer rest before (inr (n, le, is)) =
     inr (
       length done + n,
-      omega (arith, le, length-append done (piece ++ rest), length-append piece rest),
-      is ∙ ap (λ o. Some (sound_bytes o ++ take n piece)) before
-          ∙ ap Some (append_assoc (sound_bytes old) done (take n piece))
+      omega (arith, le, length-append done (buffer ++ rest), length-append buffer rest),
+      is ∙ ap (λ o. Some (sound_bytes o ++ take n buffer)) before
+          ∙ ap Some (append_assoc (sound_bytes old) done (take n buffer))
           ∙ ap (λ xs. Some (sound_bytes old ++ xs))
-          (sym (take_past done (piece ++ rest) n ∙ ap (λ xs. done ++ xs) (take-append-le n piece rest le))),
+          (sym (take_past done (buffer ++ rest) n ∙ ap (λ xs. done ++ xs) (take-append-le n buffer rest le))),
     )
 
 pub held_failed : (old mid new : Option (List ℕ)) (at n : ℕ) (fs : List Frame)

@@ -1,12 +1,11 @@
 -- What says of a sound that it is cut short names more bytes than there are.
 use Rattle.std.proofs.Common.{◌≡◌, ◌<◌, ◌+◌, ◌*◌, ℕ, zero, suc, List, [], ◌∷◌, length, take, drop, true, false, Bool}
 use Rattle.std.proofs.Common.{Option, Some, None, Result, Ok, Err, inl, inr, subst}
-use Rattle.std.specs.Prelude.{codes, nat_lt, ◌==◌, not, if◌then◌else◌}
-use Rattle.std.specs.Str.{bytes_eq}
 use Rattle.std.proofs.lemmas.Bool.{cases_lt, lt-ltb, le-ltb}
+use Rattle.std.specs.{Prelude.codes, Prelude.nat_lt, Prelude.◌==◌, Prelude.not, Prelude.if◌then◌else◌, Str.bytes_eq}
 use Rattle.pcm_base.specs.declared.wav.WavFault.{WavFault}
-use Rattle.pcm_base.specs.declared.wav.WavFault.TheVariants.{BadAlign, BadBits, BadChannels, BadRate, BadTag}
-use Rattle.pcm_base.specs.declared.wav.WavFault.TheVariants.{FmtShort, NotRiff, Truncated}
+use Rattle.pcm_base.specs.declared.wav.WavFault.TheVariants.{BadAlign, BadBits, BadChannels, BadRate, BadTag, FmtShort}
+use Rattle.pcm_base.specs.declared.wav.WavFault.TheVariants.{NotRiff, Truncated}
 use Rattle.pcm_base.specs.Wave.{Format, Sound, and_then, chunk_then, chunks_from, data_of, ended, fields_of, format_of}
 use Rattle.pcm_base.specs.Wave.{is_channels, is_pcm, is_riff, is_short, padded, seen_after, some_format, sound_of}
 use Rattle.pcm_base.specs.Wave.{u16_at, u32_at, wav_of}
@@ -33,9 +32,7 @@ by_then (Err fault) f says more = says
 
 fields_by : (b c d e : Bool) (bits count align rate : ℕ) (format : Format)
     → SaysLess (
-    if b then Err (BadBits bits)
-    else if c then Err (BadChannels count)
-    else if d then Err (BadAlign align)
+    if b then Err (BadBits bits) else if c then Err (BadChannels count) else if d then Err (BadAlign align)
     else if e then Err (BadRate rate)
     else Ok format)
 fields_by true c d e bits count align rate format = tt
@@ -102,8 +99,7 @@ chunk_less f bytes more says =
     let body : List ℕ = drop 8 bytes in
     let seen : Result (Option Format) WavFault = seen_after f (take 4 bytes) size body in
     by_if (nat_lt (length bytes) 8) (ended f)
-    (if bytes_eq (take 4 bytes) (codes "data") then data_of f size body else and_then seen more)
-    (ended_less f)
+    (if bytes_eq (take 4 bytes) (codes "data") then data_of f size body else and_then seen more) (ended_less f)
     (by_if (bytes_eq (take 4 bytes) (codes "data")) (data_of f size body) (and_then seen more) (data_less f size body)
     (by_then seen more (seen_less f (take 4 bytes) size body) says))
 

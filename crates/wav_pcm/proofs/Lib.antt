@@ -1,5 +1,5 @@
 pub mod ChunkLaws
-pub mod PieceLaws
+pub mod BufferLaws
 pub mod WrittenLaws
 mod HeadLaws
 mod WalkLaws

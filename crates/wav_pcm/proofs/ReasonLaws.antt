@@ -1,17 +1,15 @@
 -- Each reason that a reader of a sound meets, whatever its vault tells, is that of some bytes.
-use Rattle.std.proofs.Common.{◌≡◌, ◌<◌, ◌∙◌, ℕ, List, [], ◌∷◌, ◌++◌, length, take, drop, Option, Some, None}
-use Rattle.std.proofs.Common.{Err, ap, arith, inl, inr, refl, subst, sym}
-use Rattle.std.specs.Prelude.{codes}
+use Rattle.std.proofs.Common.{◌≡◌, ◌∙◌, ℕ, List, [], ◌∷◌, ◌++◌, length, take, drop, Option, Some, None, Err, ap, arith}
+use Rattle.std.proofs.Common.{inr, refl, subst, sym}
 use Rattle.std.proofs.lemmas.List.{take_all}
+use Rattle.std.specs.Prelude.{codes}
 use Rattle.pcm_base.specs.declared.wav.WavFault.{WavFault}
+use Rattle.pcm_base.specs.Wave.{Format, ended, format_of, some_format, seen_after, u32_at, riff_header, format_head}
+use Rattle.pcm_base.specs.Wave.{format_tail}
+use Rattle.wav_pcm.specs.Parts.{IsOfSome, IsSomeReason}
+use Rattle.wav_pcm.specs.{declared.fault.SoundFault.SoundFault, declared.fault.SoundFault.TheVariants.BadWav}
+use Rattle.wav_pcm.proofs.{ChunkLaws.refuses, WrittenLaws.riff_read, WrittenLaws.format_read}
 use Rattle.pcm_base.specs.declared.wav.WavFault.TheVariants as wav
-use Rattle.pcm_base.specs.Wave.{Format, ended, format_of, some_format, seen_after, u32_at}
-use Rattle.pcm_base.specs.Wave.{riff_header, format_head, format_tail}
-use Rattle.wav_pcm.specs.declared.fault.SoundFault.{SoundFault}
-use Rattle.wav_pcm.specs.declared.fault.SoundFault.TheVariants.{NoFile, Vault, BadWav, TooLong}
-use Rattle.wav_pcm.specs.Parts.{HasFewer, IsShort, IsOfSome, IsSomeReason}
-use Rattle.wav_pcm.proofs.ChunkLaws.{refuses}
-use Rattle.wav_pcm.proofs.WrittenLaws.{riff_read, format_read}
 
 -- a `fmt ` chunk with this body
 abbrev chunk_of : List ℕ → List ℕ
@@ -43,18 +41,6 @@ end_of_some (Some format) fault is = inr (
 pub no_format : IsOfSome wav.NoFmt
 no_format = end_of_some None wav.NoFmt refl
 
-pub no_riff : IsOfSome wav.NotRiff
-no_riff = inr ([], refl)
-
-pub cut_of_some : (fault : WavFault) (want have : ℕ) → have < want → fault ≡ wav.Truncated want have → IsOfSome fault
-cut_of_some fault want have less is = inl (subst HasFewer (sym is) less)
-
 -- a fault by its name
 pub named : (why : SoundFault) (fault : WavFault) → why ≡ BadWav fault → IsOfSome fault → IsSomeReason why
 named why fault is some = subst IsSomeReason (sym is) some
-
-pub short_some : (why : SoundFault) → IsShort why → IsSomeReason why
-short_some NoFile short = absurd short
-short_some Vault short = tt
-short_some (BadWav fault) short = inl short
-short_some (TooLong count) short = absurd short

@@ -1,19 +1,14 @@
 -- One sample more of those that are taken out of frames, and what 16 bits hold.
 use Rattle.std.proofs.Common.{◌≡◌, ◌<◌, ◌+◌, ◌*◌, ◌++◌, ◌∷◌, [], map, take, length, arith, sym, ap, ◌∙◌, ℕ, List, ℤ}
 use Rattle.std.proofs.Common.{to_z, of_z, FitsSigned}
-use Rattle.std.specs.List.{range_with_len}
-use Rattle.std.specs.Int.{w16}
-use Rattle.std.specs.Prelude.{slice_index, ◌/◌}
-use Rattle.std.proofs.lemmas.Int.{to_z-of_z}
+use Rattle.std.proofs.{lemmas.Int.to_z-of_z, lemmas.List.take_more_set, lemmas.List.FromFn.map-range_with_len_more}
+use Rattle.std.proofs.{lemmas.List.Elements.All-map, Math.Facts.sfits_to_z}
+use Rattle.std.specs.{List.range_with_len, Int.w16, Prelude.slice_index, Prelude.◌/◌}
+use Rattle.pcm_base.specs.Wave.{channel_of, i16_at, u16_at}
+use Rattle.wav_pcm.specs.Heads.{FitSamples}
 use lib.ListN.{set}
 use mir.Val.{Fits, SFits}
 use mir.Syntax.{w8}
-use Rattle.std.proofs.lemmas.List.{take_more_set}
-use Rattle.std.proofs.lemmas.List.FromFn.{map-range_with_len_more}
-use Rattle.std.proofs.lemmas.List.Elements.{All-map}
-use Rattle.std.proofs.Math.Facts.{sfits_to_z}
-use Rattle.pcm_base.specs.Wave.{channel_of, i16_at, u16_at}
-use Rattle.wav_pcm.specs.Heads.{FitSamples}
 
 -- a sample more of a list that is made from the places of samples
 pub sample_more : (body : List ℕ) (place : ℕ → ℕ) (out : List ℤ) (k at : ℕ) (x : ℤ) → k < length out → SFits w16 x

@@ -1,17 +1,14 @@
 -- The chunks of a sound, of which a number of bytes is left.
 use Rattle.std.proofs.Common.{◌≡◌, ◌≤◌, ◌<◌, ℕ, ◌+◌, ◌-◌, List, length, take, drop, true, false, Option, Result, Ok}
 use Rattle.std.proofs.Common.{Err, sym, ap, ◌∙◌, arith, inl, inr, subst}
-use Rattle.std.proofs.lemmas.Bool.{cases_lt}
 use Rattle.std.proofs.lemmas.List.{length-drop, drop-drop}
-use Rattle.std.proofs.Math.ListN.{drop_of_length-le}
+use Rattle.std.proofs.{lemmas.Bool.cases_lt, Math.ListN.drop_of_length-le}
 use Rattle.pcm_base.specs.declared.wav.WavFault.{WavFault}
 use Rattle.pcm_base.specs.Wave.{Format, Sound, chunks_from, data_of, ended, seen_after, padded, sound_of}
-use Rattle.wav_pcm.specs.declared.heads.WavHead.{WavHead}
-use Rattle.wav_pcm.specs.declared.parts.Chunk.{Chunk}
-use Rattle.wav_pcm.specs.declared.fault.SoundFault.{SoundFault}
 use Rattle.wav_pcm.specs.declared.fault.SoundFault.TheVariants.{NoFile, Vault, BadWav, TooLong}
-use Rattle.wav_pcm.specs.Parts.{IsChunk, IsFault}
 use Rattle.wav_pcm.specs.Heads.{Finds, IsDataFound, bytes_of}
+use Rattle.wav_pcm.specs.{declared.heads.WavHead.WavHead, declared.parts.Chunk.Chunk}
+use Rattle.wav_pcm.specs.{declared.fault.SoundFault.SoundFault, Parts.IsChunk, Parts.IsFault}
 use Rattle.wav_pcm.proofs.ChunkLaws.{data_found, passed, refusal_found, refusal_end}
 
 rest_long : (bytes : List ℕ) (size left : ℕ) → length bytes ≡ size → left ≤ size

@@ -1,15 +1,12 @@
 -- What is found of the head of a WAV file, beside what its bytes say.
 use Rattle.std.specs.Prelude.{◌≡◌, ◌≢◌, ◌⊎◌, ◌≤◌, ◌<◌, ◌+◌, ◌*◌, ◌^◌, ℕ, List, length, take, drop, Option, Some, None}
-use Rattle.std.specs.Prelude.{Result, Ok, Err}
-use Rattle.std.specs.Prelude.{MatchResult, ◌-◌, ℤ, [], slice_index_or, All, FitsSigned}
+use Rattle.std.specs.Prelude.{Result, Ok, Err, MatchResult, ◌-◌, ℤ, [], slice_index_or, All, FitsSigned}
 use Rattle.std.specs.Int.{w16}
-use Rattle.pcm_base.specs.Wave.{Sound, sound_of, wav_of, channel_of}
-use Rattle.pcm_base.specs.declared.wav.WavFault.{WavFault}
-use Rattle.pcm_base.specs.declared.wav.WavFault.TheVariants as wav
-use Rattle.wav_pcm.specs.declared.fault.SoundFault.{SoundFault}
+use Rattle.pcm_base.specs.{Wave.Sound, Wave.sound_of, Wave.wav_of, Wave.channel_of, declared.wav.WavFault.WavFault}
 use Rattle.wav_pcm.specs.declared.fault.SoundFault.TheVariants.{NoFile, Vault, BadWav, TooLong}
-use Rattle.wav_pcm.specs.declared.heads.WavHead.{WavHead}
 use Rattle.wav_pcm.specs.Parts.{part, IsFault}
+use Rattle.wav_pcm.specs.{declared.fault.SoundFault.SoundFault, declared.heads.WavHead.WavHead}
+use Rattle.pcm_base.specs.declared.wav.WavFault.TheVariants as wav
 
 -- how many bytes a number of frames of a head has
 abbrev pub bytes_of : WavHead → ℕ → ℕ

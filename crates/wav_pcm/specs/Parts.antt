@@ -1,15 +1,12 @@
 -- Calls over a vault that is read in parts.
 use Rattle.std.specs.Prelude.{◌≡◌, ◌⊎◌, ◌<◌, ◌≤◌, ℕ, List, take, drop, codes, Result, Ok, Err, MatchResult}
 use Rattle.std.specs.Str.{bytes_eq}
-use Rattle.pcm_base.specs.Causes.{Rose}
 use Rattle.pcm_base.specs.Wave.{u32_at, wav_of}
-use Rattle.pcm_base.specs.declared.wav.WavFault.{WavFault}
-use Rattle.pcm_base.specs.declared.wav.WavFault.TheVariants as wav
-use Rattle.pcm_base.specs.declared.refusal.Refusal.{Refusal}
-use Rattle.pcm_base.specs.declared.refusal.Refusal.TheVariants as refusal
-use Rattle.wav_pcm.specs.declared.fault.SoundFault.{SoundFault}
+use Rattle.pcm_base.specs.{Causes.Rose, declared.wav.WavFault.WavFault, declared.refusal.Refusal.Refusal}
 use Rattle.wav_pcm.specs.declared.fault.SoundFault.TheVariants.{NoFile, Vault, BadWav, TooLong}
-use Rattle.wav_pcm.specs.declared.parts.Chunk.{Chunk}
+use Rattle.wav_pcm.specs.{declared.fault.SoundFault.SoundFault, declared.parts.Chunk.Chunk}
+use Rattle.pcm_base.specs.declared.wav.WavFault.TheVariants as wav
+use Rattle.pcm_base.specs.declared.refusal.Refusal.TheVariants as refusal
 
 -- a number of bytes from a place on
 abbrev pub part : ℕ → ℕ → List ℕ → List ℕ

@@ -1,9 +1,8 @@
--- What is written of a WAV file, a piece at a time.
+-- What is written of a WAV file, a buffer at a time.
 use Rattle.std.specs.Prelude.{◌≡◌, ◌⊎◌, ◌<◌, ◌≤◌, ◌+◌, ◌*◌, ℕ, List, length, take, Option, Some}
 use Rattle.edit_ports.specs.Sounds.{sound_bytes}
-use Rattle.wav_pcm.specs.Wavs.{FitsFile}
-use Rattle.wav_pcm.specs.declared.fault.SoundFault.{SoundFault}
 use Rattle.wav_pcm.specs.declared.fault.SoundFault.TheVariants.{NoFile, Vault, BadWav, TooLong}
+use Rattle.wav_pcm.specs.{Wavs.FitsFile, declared.fault.SoundFault.SoundFault}
 
 -- a sound is as it was, or holds a text's first bytes
 abbrev pub MayBegin : List ℕ → Option (List ℕ) → Option (List ℕ) → Type 0

@@ -1,4 +1,4 @@
-// The samples of a channel of a WAV file of a vault, a piece at a time.
+// The samples of a channel of a WAV file of a vault, a buffer at a time.
 ghost use Rattle.std.specs.Prelude.{◌≡◌, ◌≤◌, ◌<◌, ◌+◌, ◌-◌, ◌*◌, ◌/◌, ◌^◌, length, min, IsTrue, IfOk, IfErr, OnOk};
 ghost use Rattle.pcm_base.specs.Wave.{channel_of};
 ghost use Rattle.edit_ports.specs.Sounds.{sound_bytes};
@@ -16,6 +16,13 @@ use super::reading::take_mono;
 use super::stereo::take_one;
 use edit_ports::Vault;
 use pcm_base::{Refusal, WavFault};
+
+/// A channel of a sound: the head of its file, and the channel's number, from 0.
+#[derive(Clone, Copy)]
+pub struct ChannelOf {
+    pub head: WavHead,
+    pub c: u16,
+}
 
 /// How many bytes a number of frames has.
 fn bytes_in(head: &WavHead, count: u64) -> u64
@@ -53,37 +60,37 @@ fn take_samples(body: &[u8], n: usize, c: usize, out: &mut [i16])
 }
 
 /// Reads samples of a channel whose frames fit into `buf`, and answers how many of the bytes are there.
-fn read_piece<V: Vault>(
+fn read_buffer<V: Vault>(
     vault: &mut V,
     name: &str,
-    head: &WavHead,
-    c: u16,
+    of: ChannelOf,
     from: u64,
     buf: &mut [u8],
     out: &mut [i16],
 ) -> Result<u64, SoundFault>
-    requires shape { HasShape head.now }
-    requires channel { c < head.now.channels }
-    requires within { from + length out.old ≤ head.now.frames }
-    requires room { bytes_of head.now (length out.old) ≤ length buf.old }
-    ensures read { IsTrue (V.tells vault.old) → IfOk result (λ have. have ≡ bytes_of head.now (length out.old)
-        → IsChannelOf head.now from (sound_bytes (V.holds vault.old name.now)) c out.new) }
-    ensures count { IsTrue (V.tells vault.old) → IfOk result (λ have. have ≡ min (bytes_of head.now (length out.old))
-        (length (sound_bytes (V.holds vault.old name.now)) - place_of head.now from)) }
-    ensures within { IfOk result (λ have. have ≤ bytes_of head.now (length out.old)) }
-    ensures fit { IfOk result (λ have. have ≡ bytes_of head.now (length out.old) → FitSamples out.new) }
+    requires shape { HasShape of.head }
+    requires channel { of.c < of.head.channels }
+    requires within { from + length out.old ≤ of.head.frames }
+    requires room { bytes_of of.head (length out.old) ≤ length buf.old }
+    ensures read { IsTrue (V.tells vault.old) → IfOk result (λ have. have ≡ bytes_of of.head (length out.old)
+        → IsChannelOf of.head from (sound_bytes (V.holds vault.old name.now)) of.c out.new) }
+    ensures count { IsTrue (V.tells vault.old) → IfOk result (λ have. have ≡ min (bytes_of of.head (length out.old))
+        (length (sound_bytes (V.holds vault.old name.now)) - place_of of.head from)) }
+    ensures within { IfOk result (λ have. have ≤ bytes_of of.head (length out.old)) }
+    ensures fit { IfOk result (λ have. have ≡ bytes_of of.head (length out.old) → FitSamples out.new) }
     ensures failed { IfErr result (λ why. why ≡ fault.Vault) }
     ensures same { V.holds vault.new ≡ V.holds vault.old }
     ensures tells { V.tells vault.new ≡ V.tells vault.old }
     ensures faults { SoundCounted result (V.fault_count vault.old) (V.fault_count vault.new) }
 {
-    let size = bytes_in(head, out.len() as u64);
-    let piece = &mut buf[..size as usize];
-    match read_some(vault, name, place(head, from), piece) {
+    let ChannelOf { head, c } = of;
+    let size = bytes_in(&head, out.len() as u64);
+    let buffer = &mut buf[..size as usize];
+    match read_some(vault, name, place(&head, from), buffer) {
         Ok(have) => {
             let have = have as u64;
             if have == size {
-                take_samples(piece, usize::from(head.channels), usize::from(c), out);
+                take_samples(buffer, usize::from(head.channels), usize::from(c), out);
             }
             Ok(have)
         }
@@ -119,19 +126,18 @@ fn frames_in(head: &WavHead, room: usize) -> usize
 pub fn read_channel<V: Vault>(
     vault: &mut V,
     name: &str,
-    head: &WavHead,
-    c: u16,
+    of: ChannelOf,
     from: u64,
     buf: &mut [u8],
     out: &mut [i16],
 ) -> Result<(), SoundFault>
     requires room { 64 ≤ length buf.old }
-    requires shape { HasShape head.now }
-    requires channel { c < head.now.channels }
-    requires within { from + length out.old ≤ head.now.frames }
-    ensures read { IsTrue (V.tells vault.old) → OnOk result (IsChannelOf head.now from
-        (sound_bytes (V.holds vault.old name.now)) c out.new) }
-    ensures refused { IsTrue (V.tells vault.old) → IfErr result (IsCut head.now from (length out.old)
+    requires shape { HasShape of.head }
+    requires channel { of.c < of.head.channels }
+    requires within { from + length out.old ≤ of.head.frames }
+    ensures read { IsTrue (V.tells vault.old) → OnOk result (IsChannelOf of.head from
+        (sound_bytes (V.holds vault.old name.now)) of.c out.new) }
+    ensures refused { IsTrue (V.tells vault.old) → IfErr result (IsCut of.head from (length out.old)
         (sound_bytes (V.holds vault.old name.now))) }
     ensures fit { OnOk result (FitSamples out.new) }
     ensures short { IfErr result IsShort }
@@ -139,18 +145,19 @@ pub fn read_channel<V: Vault>(
     ensures tells { V.tells vault.new ≡ V.tells vault.old }
     ensures faults { SoundCounted result (V.fault_count vault.old) (V.fault_count vault.new) }
 {
-    let room = frames_in(head, buf.len());
+    let head = of.head;
+    let room = frames_in(&head, buf.len());
     let all = out.len();
     let mut done = 0;
-    'pieces: while done < all {
+    'buffers: while done < all {
         let count = room.min(all - done);
         let part = &mut out[done..done + count];
-        let have = match read_piece(vault, name, head, c, from + done as u64, buf, part) {
+        let have = match read_buffer(vault, name, of, from + done as u64, buf, part) {
             Ok(have) => have,
             Err(why) => return Err(why),
         };
-        if have < bytes_in(head, count as u64) {
-            return Err(cut(head, all as u64, done as u64, have));
+        if have < bytes_in(&head, count as u64) {
+            return Err(cut(&head, all as u64, done as u64, have));
         }
         done += count;
     }
@@ -159,7 +166,7 @@ pub fn read_channel<V: Vault>(
 
 /// Reads samples of a channel of a WAV file of a vault into `out`, from frame `from` on, as many as it has places for.
 /// `c` counts from 0, and `buf` has at least 64 bytes. The head says where the samples are. The bytes are read into
-/// `buf` a piece at a time, and where the sound has fewer of the bytes asked for, it is Truncated, for every length of
+/// `buf` a buffer at a time, and where the sound has fewer of the bytes asked for, it is Truncated, for every length of
 /// `buf` with the same two numbers. It takes no memory. Errors: BadWav with Truncated, and VaultFault. After an error
 /// `out` may hold anything.
 pub fn channel<V: Vault>(
@@ -180,7 +187,7 @@ pub fn channel<V: Vault>(
     ensures refused { IsTrue (V.tells vault.old) → IfErr result (IsFor (IsCut head.now from (length out.old)
         (sound_bytes (V.holds vault.old name.now)))) }
     // Where the head is that of the sound, no byte is lacking, and these are the samples that its bytes say.
-    ensures sound { IsTrue (V.tells vault.old) → IsHeadOf (V.holds vault.old name.now) head.now
+    ensures valid { IsTrue (V.tells vault.old) → IsHeadOf (V.holds vault.old name.now) head.now
         → OnOk result (SaysChannel (V.holds vault.old name.now) c from out.new) }
     ensures whole { IsTrue (V.tells vault.old) → IsHeadOf (V.holds vault.old name.now) head.now
         → IfErr result (IsFor IsVaultAlone) }
@@ -190,7 +197,8 @@ pub fn channel<V: Vault>(
     ensures tells { V.tells vault.new ≡ V.tells vault.old }
     ensures faults { RefusalCounted result (V.fault_count vault.old) (V.fault_count vault.new) }
 {
-    match read_channel(vault, name, head, c, from, buf, out) {
+    let of = ChannelOf { head: *head, c };
+    match read_channel(vault, name, of, from, buf, out) {
         Ok(()) => Ok(()),
         Err(why) => Err(Refusal::from(why)),
     }

@@ -30,28 +30,35 @@ pub struct WavHead {
     pub frames: u64,
 }
 
+/// The last bytes of a sound: the place of the first of them, and how many they are.
+#[derive(Clone, Copy)]
+struct Tail {
+    at: u64,
+    left: u64,
+}
+
 /// The format that the body of a chunk says, of whose sound a number of bytes is left. No more than 40 of them are
 /// looked at.
 fn format_at<V: Vault>(
     vault: &mut V,
     name: &str,
-    at: u64,
-    left: u64,
+    tail: Tail,
     size: u32,
     buf: &mut [u8],
 ) -> Result<Format, SoundFault>
     requires room { 40 ≤ length buf.old }
-    requires left { IsTrue (V.tells vault.old) → length (sound_bytes (V.holds vault.old name.now)) ≡ at + left }
+    requires left { IsTrue (V.tells vault.old)
+        → length (sound_bytes (V.holds vault.old name.now)) ≡ tail.at + tail.left }
     ensures says { IsTrue (V.tells vault.old)
-        → IsFound format_in result (format_of (take size (drop at (sound_bytes (V.holds vault.old name.now))))) }
+        → IsFound format_in result (format_of (take size (drop tail.at (sound_bytes (V.holds vault.old name.now))))) }
     ensures reason { IfErr result IsSomeReason }
     ensures same { V.holds vault.new ≡ V.holds vault.old }
     ensures tells { V.tells vault.new ≡ V.tells vault.old }
     ensures faults { SoundCounted result (V.fault_count vault.old) (V.fault_count vault.new) }
 {
-    let count = left.min(u64::from(size)).min(40) as usize;
+    let count = tail.left.min(u64::from(size)).min(40) as usize;
     let body = &mut buf[..count];
-    if let Err(why) = read_part(vault, name, at, body) {
+    if let Err(why) = read_part(vault, name, tail.at, body) {
         return Err(why);
     }
     match read_format(body) {
@@ -66,15 +73,15 @@ fn see_at<V: Vault>(
     name: &str,
     seen: Option<Format>,
     chunk: Chunk,
-    at: u64,
-    left: u64,
+    tail: Tail,
     buf: &mut [u8],
 ) -> Result<Option<Format>, SoundFault>
     requires room { 40 ≤ length buf.old }
-    requires left { IsTrue (V.tells vault.old) → length (sound_bytes (V.holds vault.old name.now)) ≡ at + left }
+    requires left { IsTrue (V.tells vault.old)
+        → length (sound_bytes (V.holds vault.old name.now)) ≡ tail.at + tail.left }
     ensures says { IsTrue (V.tells vault.old)
         → (name_bytes : List ℕ) → chunk.is_format ≡ bytes_eq name_bytes (codes "fmt ") → IsFound seen_in result
-        (seen_after (seen_in seen) name_bytes chunk.size (drop at (sound_bytes (V.holds vault.old name.now)))) }
+        (seen_after (seen_in seen) name_bytes chunk.size (drop tail.at (sound_bytes (V.holds vault.old name.now)))) }
     ensures reason { IfErr result IsSomeReason }
     ensures same { V.holds vault.new ≡ V.holds vault.old }
     ensures tells { V.tells vault.new ≡ V.tells vault.old }
@@ -83,7 +90,7 @@ fn see_at<V: Vault>(
     match seen {
         Some(format) => Ok(Some(format)),
         None if chunk.is_format => {
-            match format_at(vault, name, at, left, chunk.size, buf) {
+            match format_at(vault, name, tail, chunk.size, buf) {
                 Ok(format) => Ok(Some(format)),
                 Err(why) => Err(why),
             }
@@ -108,10 +115,10 @@ fn data_size(size: u32, left: u64) -> Result<u64, WavFault>
 }
 
 /// The head of a sound whose `data` chunk begins at a place, with the number of bytes left there.
-fn head_at(seen: Option<Format>, size: u32, at: u64, left: u64) -> Result<WavHead, WavFault>
-    requires { at + left < 2 ^ 64 }
-    ensures says { (rest : List ℕ) → length rest ≡ left
-        → IsDataFound at rest result (data_of (seen_in seen) size rest) }
+fn head_at(seen: Option<Format>, size: u32, tail: Tail) -> Result<WavHead, WavFault>
+    requires { tail.at + tail.left < 2 ^ 64 }
+    ensures says { (rest : List ℕ) → length rest ≡ tail.left
+        → IsDataFound tail.at rest result (data_of (seen_in seen) size rest) }
     ensures reason { IfErr result IsOfSome }
     ensures shape { IfOk result HasShape }
     ensures rate { IfOk result (λ head. 0 < head.rate) }
@@ -119,11 +126,11 @@ fn head_at(seen: Option<Format>, size: u32, at: u64, left: u64) -> Result<WavHea
     let Some(format) = seen else {
         return Err(WavFault::NoFmt);
     };
-    match data_size(size, left) {
+    match data_size(size, tail.left) {
         Ok(count) => Ok(WavHead {
             rate: format.rate,
             channels: format.channels,
-            at,
+            at: tail.at,
             frames: count / (2 * u64::from(format.channels)),
         }),
         Err(fault) => Err(fault),
@@ -167,13 +174,14 @@ fn find_head<V: Vault>(
         };
         left -= 8;
         let at = size - left;
+        let tail = Tail { at, left };
         if chunk.is_data {
-            return match head_at(seen, chunk.size, at, left) {
+            return match head_at(seen, chunk.size, tail) {
                 Ok(head) => Ok(head),
                 Err(fault) => Err(SoundFault::from(fault)),
             };
         }
-        match see_at(vault, name, seen, chunk, at, left, buf) {
+        match see_at(vault, name, seen, chunk, tail, buf) {
             Ok(next) => seen = next,
             Err(why) => return Err(why),
         }

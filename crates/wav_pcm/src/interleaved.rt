@@ -9,9 +9,9 @@ use super::wav::Channels;
 use pcm_base::Samples;
 use std::alloc::{AllocError, Global};
 
-/// How many frames are a piece. Its bytes, 16 KiB at eight channels, stay in the processor's cache while each channel
+/// How many frames are a buffer. Its bytes, 16 KiB at eight channels, stay in the processor's cache while each channel
 /// takes its samples from them.
-const PIECE: usize = 1024;
+const BUFFER_LEN: usize = 1024;
 
 /// The samples of channel `c` of `n`, from frames.
 pub(crate) fn take_channel(body: &[u8], n: usize, c: usize, out: &mut [i16])
@@ -25,39 +25,39 @@ pub(crate) fn take_channel(body: &[u8], n: usize, c: usize, out: &mut [i16])
     }
 }
 
-/// Appends the samples of channel `c` of `n` in a piece to the list of the channel.
-fn append_channel(piece: &[u8], n: usize, c: usize, list: &mut Vec<i16>) -> Result<(), AllocError>
+/// Appends the samples of channel `c` of `n` in a buffer to the list of the channel.
+fn append_channel(buffer: &[u8], n: usize, c: usize, list: &mut Vec<i16>) -> Result<(), AllocError>
     requires few { n ≤ 8 }
     requires within { c < n }
-    requires small { length piece.now ≤ 2 * n * PIECE }
-    ensures { OnOk result (list.new.items ≡ list.old.items ++ channel_of n piece.now c) }
+    requires small { length buffer.now ≤ 2 * n * BUFFER_LEN }
+    ensures { OnOk result (list.new.items ≡ list.old.items ++ channel_of n buffer.now c) }
 {
-    let mut samples = [0; PIECE];
-    let count = piece.len() / (2 * n);
-    take_channel(piece, n, c, &mut samples[..count]);
+    let mut samples = [0; BUFFER_LEN];
+    let count = buffer.len() / (2 * n);
+    take_channel(buffer, n, c, &mut samples[..count]);
     list.extend_from_slice(&samples[..count])
 }
 
-/// Appends the samples of a piece to the lists, one list for each channel.
-fn append_channels(piece: &[u8], lists: &mut [Vec<i16>]) -> Result<(), AllocError>
+/// Appends the samples of a buffer to the lists, one list for each channel.
+fn append_channels(buffer: &[u8], lists: &mut [Vec<i16>]) -> Result<(), AllocError>
     requires few { length lists.old ≤ 8 }
-    requires small { length piece.now ≤ 2 * length lists.old * PIECE }
-    ensures { OnOk result (HaveGrown piece.now lists.old lists.new) }
+    requires small { length buffer.now ≤ 2 * length lists.old * BUFFER_LEN }
+    ensures { OnOk result (HaveGrown buffer.now lists.old lists.new) }
 {
     let n = lists.len();
     for c in 0..n {
-        append_channel(piece, n, c, &mut lists[c])?;
+        append_channel(buffer, n, c, &mut lists[c])?;
     }
     Ok(())
 }
 
-/// Appends the samples of frames to the lists, one list for each channel, piece by piece.
-fn append_pieces(body: &[u8], lists: &mut [Vec<i16>]) -> Result<(), AllocError>
+/// Appends the samples of frames to the lists, one list for each channel, buffer by buffer.
+fn append_buffers(body: &[u8], lists: &mut [Vec<i16>]) -> Result<(), AllocError>
     requires some { 0 < length lists.old }
     requires few { length lists.old ≤ 8 }
     ensures { OnOk result (HaveGrown body.now lists.old lists.new) }
 {
-    let size = 2 * lists.len() * PIECE;
+    let size = 2 * lists.len() * BUFFER_LEN;
     let mut rest = body;
     while rest.len() > size {
         append_channels(&rest[..size], lists)?;
@@ -96,6 +96,6 @@ pub(crate) fn interleaved(alloc: Global, body: &[u8], n: usize) -> Result<Channe
     ensures { IfOk result (λ cs. cs ≡ map (channel_of n body.now) (range_with_len 0 n)) }
 {
     let mut lists = empty_lists(alloc, n, body.len() / (2 * n))?;
-    append_pieces(body, lists.as_mut_slice())?;
+    append_buffers(body, lists.as_mut_slice())?;
     channels_of(alloc, lists)
 }

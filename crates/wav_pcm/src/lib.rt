@@ -7,6 +7,7 @@
 #![tactic(auto)]
 
 mod bad;
+mod buffers;
 mod bytes;
 mod channels;
 mod chunks;
@@ -15,7 +16,6 @@ mod format;
 mod heads;
 mod interleaved;
 mod parts;
-mod pieces;
 mod reading;
 mod shape;
 mod stereo;
@@ -23,10 +23,10 @@ mod wav;
 mod writing;
 
 pub use bad::{BadFrames, BadWav};
-pub use channels::{channel, read_channel};
+pub use buffers::{append_buffer, append_frames, start_wav, write_start};
+pub use channels::{ChannelOf, channel, read_channel};
 pub use fault::SoundFault;
 pub use heads::{WavHead, head, sound_head};
-pub use pieces::{append_frames, append_piece, start_wav, write_start};
 pub use reading::read;
 pub use wav::{Channels, Wav};
 pub use writing::{MAX_FRAMES, write, write_frames, write_head};

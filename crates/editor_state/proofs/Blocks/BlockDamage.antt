@@ -1,24 +1,20 @@
 -- Damage that is told is that of a block that the studio names.
-use Rattle.std.proofs.Common.{◌≡◌, inl, inr, subst, ap, ℕ, zero, suc, ◌<◌, Option, List, [], ◌∷◌, length}
-use Rattle.std.proofs.Common.{get_or, Contains, Result, Ok, Err, arith}
+use Rattle.std.proofs.Common.{◌≡◌, inl, inr, subst, ap, ℕ, zero, suc, ◌<◌, Option, List, [], ◌∷◌, length, get_or}
+use Rattle.std.proofs.Common.{Contains, Result, Ok, Err, arith}
 use Rattle.std.specs.Prelude.{IfErr}
-use Rattle.pcm_base.specs.declared.block.BlockRef.{BlockRef}
-use Rattle.pcm_base.specs.declared.piece.Piece.{Piece}
 use Rattle.pcm_base.specs.declared.piece.Piece.TheVariants.{Old, Scaled, Zero, Given}
-use Rattle.pcm_base.specs.declared.refusal.Refusal.{Refusal}
-use Rattle.pcm_base.specs.declared.refusal.Refusal.TheVariants as refusal
+use Rattle.pcm_base.specs.{declared.block.BlockRef.BlockRef, declared.piece.Piece.Piece}
+use Rattle.pcm_base.specs.{declared.refusal.Refusal.Refusal}
 use Rattle.disk_model.specs.Disk.{Files, bytes_of}
 use Rattle.block_sequence.specs.Origins.{AllFrom}
-use Rattle.block_store.specs.declared.fault.BlockFault.{BlockFault}
-use Rattle.block_store.specs.declared.fault.BlockFault.TheVariants as fault
-use Rattle.block_store.specs.Reads.{IsFault, IsFaultIn}
-use Rattle.edit_ops.specs.declared.types.NewBlock.{NewBlock}
-use Rattle.edit_ops.specs.Plans.{AllNewFrom}
+use Rattle.block_store.specs.{declared.fault.BlockFault.BlockFault, Reads.IsFault, Reads.IsFaultIn}
+use Rattle.edit_ops.specs.{declared.types.NewBlock.NewBlock, Plans.AllNewFrom}
 use Rattle.envelope_view.specs.Answers.{IsDamagedIn}
-use Rattle.piece_store.specs.Reading.{IsFaultAmong}
-use Rattle.editor_state.specs.Edits.{AreAmong}
-use Rattle.editor_state.specs.Makes.{IsDamageAmong}
+use Rattle.block_writer.specs.Reading.{IsFaultAmong}
+use Rattle.editor_state.specs.{Edits.AreAmong, Makes.IsDamageAmong}
 use Rattle.editor_state.proofs.Blocks.BlockLists.{contained}
+use Rattle.pcm_base.specs.declared.refusal.Refusal.TheVariants as refusal
+use Rattle.block_store.specs.declared.fault.BlockFault.TheVariants as fault
 
 -- ---- damage of some of its blocks
 

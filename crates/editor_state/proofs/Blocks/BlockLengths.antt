@@ -1,14 +1,11 @@
 -- The blocks of sound tracks are no longer than the block size.
 use Rattle.std.proofs.Common.{ℕ, ◌≤◌, List, [], ◌∷◌}
 use Rattle.std.specs.List.{AllByRecursion}
-use Rattle.pcm_base.specs.declared.block.BlockRef.{BlockRef}
-use Rattle.pcm_base.specs.Blocks.{AllFull, IsHalfFull, block_lens}
-use Rattle.clip_track.specs.declared.clips.Clip.{Clip}
-use Rattle.clip_track.specs.Clips.{AllHalfFull, layout_blocks}
-use Rattle.project_state.specs.declared.track.Track.{Track}
-use Rattle.project_state.specs.Meaning.{point_blocks}
-use Rattle.record_body.specs.Sound.{AllSoundTracks}
-use Rattle.record_body.proofs.KeptBounds.{all_append}
+use Rattle.pcm_base.specs.{declared.block.BlockRef.BlockRef, Blocks.AllFull, Blocks.IsHalfFull, Blocks.block_lens}
+use Rattle.clip_track.specs.{declared.clips.Clip.Clip, Clips.AllHalfFull, Clips.layout_blocks}
+use Rattle.project_state.specs.{declared.track.Track.Track, Meaning.point_blocks}
+use Rattle.record_body.specs.Valid.{AllValidTracks}
+use Rattle.record_body.proofs.SavedBounds.{all_append}
 
 full_short : (m : ℕ) (bs : List BlockRef) → AllFull m (block_lens bs) → AllByRecursion (λ (b : BlockRef). b.len ≤ m) bs
 full_short m [] full = tt
@@ -26,7 +23,7 @@ layout_short m [] half = tt
 layout_short m (c ∷ cs) half = all_append (λ (b : BlockRef). b.len ≤ m) c.blocks (layout_blocks cs)
     (clip_short m c.blocks half.0) (layout_short m cs half.1)
 
-pub tracks_short : (m next track : ℕ) (ts : List Track) → AllSoundTracks m next track ts
+pub tracks_short : (m next track : ℕ) (ts : List Track) → AllValidTracks m next track ts
     → AllByRecursion (λ (b : BlockRef). b.len ≤ m) (point_blocks ts)
 tracks_short m next track [] s = tt
 tracks_short m next track (t ∷ ts) s =

@@ -1,25 +1,24 @@
 -- How many blocks there may be.
 use Rattle.std.proofs.Common.{◌≡◌, ⊎_elim, refl, ap, ℕ, zero, suc, ◌+◌, ◌*◌, ◌^◌, ◌≤◌, ◌<◌, eqb, List, [], ◌∷◌, ◌++◌}
-use Rattle.std.proofs.Common.{length, flat_map, length-append, IsSome, Option, Some, None, if◌then◌else◌, false, arith}
+use Rattle.std.proofs.Common.{length, flat_map, length-append, IsSome, if◌then◌else◌, false, arith, Option, None, Some}
 use Rattle.std.proofs.lemmas.Bool.Decides.{eqb_tells}
 use Rattle.std.specs.List.{AllByRecursion}
 use Rattle.pcm_base.specs.declared.block.BlockRef.{BlockRef}
-use Rattle.pcm_base.specs.Blocks.{blocks_len, NoneEmpty}
 use Rattle.clip_track.specs.declared.clips.Clip.{Clip}
-use Rattle.clip_track.specs.Clips.{AreClips, IsLayout, end_of, clip_end}
-use Rattle.clip_track.specs.Clips.{layout_blocks}
-use Rattle.project_state.specs.declared.track.Track.{Track}
-use Rattle.record_body.specs.Sound.{AllSoundTracks}
+use Rattle.clip_track.specs.Clips.{AreClips, IsLayout, end_of, clip_end, layout_blocks}
+use Rattle.project_state.specs.{declared.track.Track.Track, Meaning.point_blocks, Meaning.history_blocks}
+use Rattle.record_body.specs.{Valid.AllValidTracks, SavedValid.IsValidPoint, SavedValid.IsValidTagged}
 use Rattle.disk_model.specs.declared.store.Store.{Ghosts}
 use Rattle.block_ledger.specs.Counts.{occurrences}
-use Rattle.project_state.specs.Meaning.{point_blocks, history_blocks}
-use Rattle.record_body.specs.KeptSound.{IsSoundPoint, IsSoundTagged}
-use Rattle.editor_state.specs.Core.{Core}
-use Rattle.editor_state.specs.declared.pin.Pin.{Pin}
-use Rattle.editor_state.specs.Occurrences.{times_named}
 use Rattle.editor_state.specs.Studios.{IsStudio, named_blocks, pin_blocks, clip_blocks}
+use Rattle.editor_state.specs.{Core.Core, declared.pin.Pin.Pin, Occurrences.times_named}
 use Rattle.editor_state.proofs.Blocks.NamedBlocks.{counted_most, named_counted, numbers_few}
 use Rattle.editor_state.proofs.Lists.{all_so}
+use Rattle.record_body.proofs.Parts.{blocks_few}
+
+pub some_count : (o : Option ℕ) → 0 < occurrences o → IsSome o
+some_count None h = absurd (omega (arith, h))
+some_count (Some n) h = refl
 
 pub named_most : (id : ℕ) (bs : List BlockRef) → times_named id bs ≤ length bs
 named_most id [] = omega arith
@@ -29,10 +28,6 @@ named_most id (b ∷ bs) = ⊎_elim
     (eqb_tells b.id id)
 
 -- ---- of a point
-
-blocks_few : (bs : List BlockRef) → NoneEmpty bs → length bs ≤ blocks_len bs
-blocks_few [] h = omega arith
-blocks_few (b ∷ bs) h = omega (arith, h.0, blocks_few bs h.1)
 
 clips_few : (from at : ℕ) (cs : List Clip) → AreClips from cs → at ≤ from
     → length (layout_blocks cs) + at ≤ end_of at cs
@@ -45,7 +40,7 @@ clips_few from at (c ∷ cs) h le =
 layout_few : (cs : List Clip) → IsLayout cs → length (layout_blocks cs) ≤ 2 ^ 32
 layout_few cs h = omega (arith, clips_few 0 0 cs h.apart (omega arith), h.few)
 
-tracks_few : (m next_block next_track : ℕ) (ts : List Track) → AllSoundTracks m next_block next_track ts
+tracks_few : (m next_block next_track : ℕ) (ts : List Track) → AllValidTracks m next_block next_track ts
     → length (point_blocks ts) ≤ length ts * 2 ^ 32
 tracks_few m next_block next_track [] h = omega arith
 tracks_few m next_block next_track (t ∷ ts) h =
@@ -56,9 +51,9 @@ tracks_few m next_block next_track (t ∷ ts) h =
       length-append (layout_blocks t.layout) (point_blocks ts),
     )
 
-pub point_few : (m next_block next_track : ℕ) (ts : List Track) → IsSoundPoint m next_block next_track ts
+pub point_few : (m next_block next_track : ℕ) (ts : List Track) → IsValidPoint m next_block next_track ts
     → length (point_blocks ts) ≤ 2 ^ 38
-point_few m next_block next_track ts h = omega (arith, tracks_few m next_block next_track ts h.sound, h.few)
+point_few m next_block next_track ts h = omega (arith, tracks_few m next_block next_track ts h.valid, h.few)
 
 -- ---- of all
 
@@ -70,14 +65,14 @@ parts_few f (x ∷ xs) h = omega (arith, h.0, parts_few f xs h.1, length-append 
 module _ {D : Type 0} (disk : Ghosts D) (s : Core D) (is : IsStudio disk s) where
   history_few : length (history_blocks s.history) ≤ 2 ^ 54
   history_few =
-      let each = all_so (IsSoundTagged s.block_size s.next_block s.next_track s.commit_number)
+      let each = all_so (IsValidTagged s.block_size s.next_block s.next_track s.commit_number)
       (λ p. length (point_blocks p.0) ≤ 2 ^ 38)
       (λ p h. point_few s.block_size s.next_block s.next_track p.0 h.0) s.history.points is.points in
       omega (arith, parts_few (λ p. point_blocks p.0) s.history.points each, is.few_points, is.format.depth_most)
 
   pins_few : length (pin_blocks s.pins) ≤ 2 ^ 100
   pins_few =
-      let each = all_so (λ (p : Pin). IsSoundPoint s.block_size s.next_block s.next_track p.point)
+      let each = all_so (λ (p : Pin). IsValidPoint s.block_size s.next_block s.next_track p.point)
       (λ (p : Pin). length (point_blocks p.point) ≤ 2 ^ 38)
       (λ p h. point_few s.block_size s.next_block s.next_track p.point h) s.pins is.pins in
       omega (
@@ -94,13 +89,12 @@ module _ {D : Type 0} (disk : Ghosts D) (s : Core D) (is : IsStudio disk s) wher
     history_few,
     pins_few,
     is.few_clips,
-    length-append (history_blocks s.history)
-        (pin_blocks s.pins ++ clip_blocks s.clipboard),
+    length-append (history_blocks s.history) (pin_blocks s.pins ++ clip_blocks s.clipboard),
     length-append (pin_blocks s.pins) (clip_blocks s.clipboard),
   )
 
   -- the counts have room for a point more
-  pub few_more : (ts : List Track) (next_track : ℕ) → IsSoundPoint s.block_size s.next_block next_track ts → (id : ℕ)
+  pub few_more : (ts : List Track) (next_track : ℕ) → IsValidPoint s.block_size s.next_block next_track ts → (id : ℕ)
       → occurrences (s.counts id) + times_named id (point_blocks ts) < 2 ^ 128
   few_more ts next_track h id =
       omega (
@@ -126,10 +120,6 @@ none_of : (id : ℕ) (bs : List BlockRef) → AllByRecursion (λ (b : BlockRef).
     → times_named id bs ≡ 0
 none_of id [] all = refl
 none_of id (b ∷ bs) all = omega (arith, ap {B = ℕ} (λ t. if t then 1 else 0) all.0, none_of id bs all.1)
-
-some_count : (o : Option ℕ) → 0 < occurrences o → IsSome o
-some_count None h = absurd (omega (arith, h))
-some_count (Some n) h = refl
 
 -- what only names blocks that are named finds them counted
 pub named_there : {D : Type 0} (disk : Ghosts D) (s : Core D) → IsStudio disk s → (bs : List BlockRef)

@@ -1,18 +1,14 @@
 -- The pages that a studio keeps are of blocks that were given, and stay right of its disk.
 use Rattle.std.proofs.Common.{ℕ, ◌+◌, ◌≤◌, List, Contains, IsTrue, arith}
 use Rattle.std.proofs.lemmas.Bool.Decides.{nat_tests}
-use Rattle.disk_model.specs.Disk.{SameElsewhere}
-use Rattle.disk_model.specs.Frames.{Changed}
-use Rattle.disk_model.specs.Room.{Room}
-use Rattle.disk_model.specs.declared.store.Store.{Ghosts}
+use Rattle.disk_model.specs.{Disk.SameElsewhere, Frames.Changed, Room.Room, declared.store.Store.Ghosts}
 use Rattle.pcm_base.specs.declared.block.BlockRef.{BlockRef}
 use Rattle.block_cache.specs.Caches.{AllPass, Entries, IsCacheOf, KeepsCache}
 use Rattle.block_cache.proofs.CacheLaws.{keeps_more, keeps_same, same_none}
 use Rattle.block_cache.proofs.CarriedLaws.{pass_more, right_on}
 use Rattle.project_journal.specs.Packing.{OnlyJournals}
-use Rattle.editor_state.specs.Core.{Core}
-use Rattle.editor_state.specs.Edits.{AreAmong}
 use Rattle.editor_state.specs.Studios.{IsGiven, IsStudio, is_block, is_given, named_blocks}
+use Rattle.editor_state.specs.{Core.Core, Edits.AreAmong}
 use Rattle.editor_state.proofs.Blocks.BlockLists.{contained}
 
 given_is : (next id : ℕ) → IsTrue (is_given next id) → IsGiven next id
@@ -33,7 +29,7 @@ ReadsNamed disk s cache = KeepsCache (disk.tells s.store) (disk.reads s.store) (
 
 -- nothing was read, or without them
 pub reads_none : {D : Type 0} (disk : Ghosts D) (s : Core D) → ReadsNamed disk s s.cache
-reads_none disk s = keeps_same _ _ _ _ _ (same_none s.cache)
+reads_none disk s = keeps_same (same_none s.cache)
 
 -- some of these blocks were read
 pub reads_among : {D : Type 0} (disk : Ghosts D) (s : Core D) (bs : List BlockRef) (cache : Entries)

@@ -1,29 +1,22 @@
 -- The tracks of a studio's points and pins, the blocks that they name, and what is counted of them.
 use Rattle.std.proofs.Common.{◌≡◌, refl, sym, ap, ap₂, ◌∙◌, subst, ℕ, ◌≤◌, ◌<◌, List, [], ◌∷◌, ◌++◌, map, drop}
 use Rattle.std.proofs.Common.{append_assoc, length, length-append, ◌*◌, ◌^◌, ◌+◌, Some, zero, suc, inl, inr, arith}
+use Rattle.std.proofs.{lemmas.List.append-nil, lemmas.Grind.flat_map-append}
 use Rattle.std.specs.List.{AllByRecursion, flat_map}
-use Rattle.std.proofs.lemmas.List.{append-nil}
-use Rattle.std.proofs.lemmas.Grind.{flat_map-append}
-use Rattle.pcm_base.specs.declared.block.BlockRef.{BlockRef}
-use Rattle.pcm_base.specs.History.{History}
+use Rattle.pcm_base.specs.{declared.block.BlockRef.BlockRef, History.History}
 use Rattle.clip_track.specs.Clips.{layout_blocks}
 use Rattle.disk_model.specs.declared.store.Store.{Ghosts}
 use Rattle.block_ledger.specs.Counts.{Counts, occurrences}
-use Rattle.project_state.specs.declared.track.Track.{Track}
-use Rattle.record_body.specs.Kept.{current_tracks, first_tracks}
-use Rattle.project_state.specs.Meaning.{history_blocks, point_blocks}
-use Rattle.layout_uses.specs.Laws.{AreAmong, IsAmong}
+use Rattle.project_state.specs.{declared.track.Track.Track, Meaning.history_blocks, Meaning.point_blocks}
+use Rattle.record_body.specs.Saved.{current_tracks, first_tracks}
+use Rattle.record_body.specs.SavedValid.{IsValidPoint, IsValidTagged}
 use Rattle.layout_uses.specs.Layouts.{history_tracks, points_tracks, track_blocks}
+use Rattle.layout_uses.specs.{Laws.AreAmong, Laws.IsAmong, Tallies.AreCounts}
 use Rattle.layout_uses.proofs.Naming.{counted_is_named, counts_most, free_is_unnamed, named_is_counted}
-use Rattle.layout_uses.proofs.Putting.{among_self}
-use Rattle.record_body.specs.KeptSound.{IsSoundPoint, IsSoundTagged}
-use Rattle.editor_state.specs.Core.{Core}
-use Rattle.layout_uses.specs.Tallies.{AreCounts}
-use Rattle.layout_uses.proofs.Tracks.{times_counted}
-use Rattle.editor_state.specs.Occurrences.{HasAll, Moves, times_named}
-use Rattle.editor_state.specs.Studios.{IsStudio, PinsRise, clip_blocks, named_blocks, pin_blocks, pin_tracks}
-use Rattle.editor_state.specs.Studios.{studio_tracks}
-use Rattle.editor_state.specs.declared.pin.Pin.{Pin}
+use Rattle.layout_uses.proofs.{Putting.among_self, Tracks.times_counted}
+use Rattle.editor_state.specs.{Core.Core, Occurrences.HasAll, Occurrences.Moves, Occurrences.times_named}
+use Rattle.editor_state.specs.{Studios.IsStudio, Studios.PinsRise, Studios.clip_blocks, Studios.named_blocks}
+use Rattle.editor_state.specs.{Studios.pin_blocks, Studios.pin_tracks, Studios.studio_tracks, declared.pin.Pin.Pin}
 use Rattle.editor_state.proofs.Lists.{all_so}
 
 -- ---- the blocks that they name
@@ -155,7 +148,7 @@ tracks_around [] back = refl
 tracks_around (p ∷ ps) back = ap (λ (ts : List Track). p.point ++ ts) (tracks_around ps back)
     ∙ sym (append_assoc p.point (pin_tracks ps) (pin_tracks back))
 
-points_few : (ps : List (List Track × ℕ)) → AllByRecursion (λ (p : List Track × ℕ). length p.0 ≤ 64) ps
+pub points_few : (ps : List (List Track × ℕ)) → AllByRecursion (λ (p : List Track × ℕ). length p.0 ≤ 64) ps
     → length (points_tracks (map (λ (p : List Track × ℕ). p.0) ps)) ≤ length ps * 64
 points_few [] all = omega arith
 points_few (p ∷ ps) all =
@@ -178,9 +171,9 @@ module _ {D : Type 0} (disk : Ghosts D) (s : Core D) (is : IsStudio disk s) wher
   pub tracks_few : length (studio_tracks s) ≤ 2 ^ 80
   tracks_few = omega (
     arith,
-    points_few s.history.points (all_so (IsSoundTagged s.block_size s.next_block s.next_track s.commit_number)
+    points_few s.history.points (all_so (IsValidTagged s.block_size s.next_block s.next_track s.commit_number)
         (λ (p : List Track × ℕ). length p.0 ≤ 64) (λ p h. h.0.few) s.history.points is.points),
-    pins_few s.pins (all_so (λ (p : Pin). IsSoundPoint s.block_size s.next_block s.next_track p.point)
+    pins_few s.pins (all_so (λ (p : Pin). IsValidPoint s.block_size s.next_block s.next_track p.point)
         (λ (p : Pin). length p.point ≤ 64) (λ p h. h.few) s.pins is.pins),
     is.few_points,
     is.format.depth_most,

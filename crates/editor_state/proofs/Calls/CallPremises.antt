@@ -2,25 +2,16 @@
 -- record, that the disk held it before the first of them.
 use Rattle.std.proofs.Common.{◌≡◌, ℕ, ◌-◌, [], None, IsSome, Result, IfErr, OnErr, arith}
 use Rattle.std.specs.Prelude.{IfOk}
-use Rattle.pcm_base.specs.declared.answer.Reply.{Reply}
-use Rattle.pcm_base.specs.declared.command.Call.{Call}
-use Rattle.pcm_base.specs.declared.entry.SoundMove.{SoundMove}
-use Rattle.pcm_base.specs.declared.refusal.Refusal.{Refusal}
-use Rattle.pcm_base.specs.Counters.{Needs}
-use Rattle.pcm_base.specs.Run.{outside, Answers}
-use Rattle.disk_model.specs.Frames.{Changed}
-use Rattle.disk_model.specs.declared.store.Store.{Ghosts}
+use Rattle.pcm_base.specs.{declared.answer.Reply.Reply, declared.command.Call.Call, declared.entry.SoundMove.SoundMove}
+use Rattle.pcm_base.specs.{declared.refusal.Refusal.Refusal, Counters.Needs, Run.outside, Run.Answers}
+use Rattle.disk_model.specs.{Frames.Changed, declared.store.Store.Ghosts}
 use Rattle.disk_model.proofs.Frames.{changed_wider}
 use Rattle.project_journal.specs.Gate.{EachNow, EachSince}
-use Rattle.record_body.specs.Kept.{Keeps}
-use Rattle.editor_state.specs.Core.{Core}
-use Rattle.editor_state.specs.Records.{Records}
-use Rattle.editor_state.specs.Spent.{NamesGiven, Needed}
+use Rattle.record_body.specs.Saved.{Keeps}
 use Rattle.editor_state.specs.Left.{CountsIds, Left, MayRemove, Stops, Untouched}
-use Rattle.editor_state.specs.Packing.{packed_by}
-use Rattle.editor_state.specs.Purges.{Purges}
-use Rattle.editor_state.specs.Studios.{IsHeld, IsStudio, shown, studio_of}
 use Rattle.editor_state.specs.Took.{KeepsOneOf, Took, asks, number_behind, with_sound}
+use Rattle.editor_state.specs.{Core.Core, Records.Records, Spent.NamesGiven, Spent.Needed, Packing.packed_by}
+use Rattle.editor_state.specs.{Purges.Purges, Studios.IsHeld, Studios.IsStudio, Studios.shown, Studios.studio_of}
 use Rattle.editor_state.proofs.Calls.OtherFiles.{Leaving, others_more}
 use Rattle.editor_state.proofs.Calls.FileRemovals.{PacksNone, RemovesNone, frees_none}
 

@@ -1,37 +1,24 @@
 -- Events that are carried out one after another are a run.
-use Rattle.std.proofs.Common.{◌≡◌, inl, refl, sym, ap, ◌∙◌, subst, ℕ, ◌+◌, ◌≤◌, Bool}
-use Rattle.std.proofs.Common.{IsSome, Option, Some, None, List, [], ◌∷◌, ◌++◌, take, slice_get, zero, suc}
-use Rattle.std.proofs.Common.{Result, Ok, Err, arith}
+use Rattle.std.proofs.Common.{◌≡◌, inl, refl, sym, ap, ◌∙◌, subst, ℕ, ◌+◌, ◌≤◌, Bool, IsSome, Option, Some, None, List}
+use Rattle.std.proofs.Common.{[], ◌∷◌, ◌++◌, take, slice_get, zero, suc, Result, Ok, Err, arith}
 use Rattle.std.proofs.lemmas.Option.{none-some, same_Some}
-use Rattle.pcm_base.specs.declared.answer.Answer.{Answer}
-use Rattle.pcm_base.specs.declared.answer.Reply.{Reply}
-use Rattle.pcm_base.specs.declared.command.Call.{Call}
-use Rattle.pcm_base.specs.declared.command.Call.TheVariants as call
-use Rattle.pcm_base.specs.declared.command.Command.{Command}
-use Rattle.pcm_base.specs.declared.entry.Entry.{Entry}
-use Rattle.pcm_base.specs.declared.entry.Event.{Event}
-use Rattle.pcm_base.specs.declared.refusal.Refusal.{Refusal}
-use Rattle.pcm_base.specs.Outside.{Sounds}
-use Rattle.pcm_base.specs.Run.{Follows, Heard, name_in}
-use Rattle.pcm_base.specs.Studio as model
-use Rattle.disk_model.specs.declared.store.Store.{Ghosts}
-use Rattle.disk_model.specs.Frames.{Changed}
-use Rattle.disk_model.specs.Room.{Room}
+use Rattle.pcm_base.specs.{declared.answer.Answer.Answer, declared.answer.Reply.Reply, declared.command.Call.Call}
+use Rattle.pcm_base.specs.{declared.command.Command.Command, declared.entry.Entry.Entry, declared.entry.Event.Event}
+use Rattle.pcm_base.specs.{declared.refusal.Refusal.Refusal, Outside.Sounds, Run.Follows, Run.Heard, Run.name_in}
+use Rattle.disk_model.specs.{declared.store.Store.Ghosts, Frames.Changed, Room.Room}
 use Rattle.disk_model.proofs.Frames.{Fewer, changed_none, changed_turn}
-use Rattle.disk_model.proofs.Moments.{each_on}
-use Rattle.disk_model.proofs.Rooms.{within_refl}
+use Rattle.disk_model.proofs.{Moments.each_on, Rooms.within_refl}
 use Rattle.project_journal.specs.Gate.{EachSince}
 use Rattle.editor_state.specs.Applied.{Applies, EndsAlike, IsTold, Span, TookOver, exchange_over, move_of, reply_of}
-use Rattle.editor_state.specs.Core.{Core}
 use Rattle.editor_state.specs.Events.{AreEntries, AreTold, EventChain, IsOther, KeepsPrefix, RanOver, events_ask}
-use Rattle.editor_state.specs.Left.{LeavesForeign}
 use Rattle.editor_state.specs.Studios.{IsHeld, IsStudio, studio_of}
-use Rattle.editor_state.specs.Took.{number_behind}
-use Rattle.editor_state.proofs.Calls.VaultCalls.{spanned}
+use Rattle.editor_state.specs.{Core.Core, Left.LeavesForeign, Took.number_behind}
 use Rattle.editor_state.proofs.Calls.RunEntries.{flies, prefix_more, run_more, step_of}
-use Rattle.editor_state.proofs.Images.ImageProjects.{keeps_now}
 use Rattle.editor_state.proofs.Lists.{all_left, all_right}
 use Rattle.editor_state.proofs.Calls.OtherFiles.{foreign_of, foreign_same, foreign_then}
+use Rattle.editor_state.proofs.{Calls.VaultCalls.spanned, Images.ImageProjects.keeps_now}
+use Rattle.pcm_base.specs.declared.command.Call.TheVariants as call
+use Rattle.pcm_base.specs.Studio as model
 
 -- ---- one entry more
 
@@ -46,12 +33,9 @@ entries_more : (es : List Event) (rs : List Answer) (xs : List Entry) (e : Event
     → AreEntries es rs xs
     → x.actor ≡ e.actor → x.call ≡ e.call → x.reply ≡ a.reply → AreEntries (es ++ e ∷ []) (rs ++ a ∷ []) (xs ++ x ∷ [])
 entries_more [] [] [] e a x are actor asked said = (actor, asked, said, tt)
-entries_more [] [] (y ∷ ys) e a x are actor asked said = absurd are
-entries_more [] (q ∷ qs) ys e a x are actor asked said = absurd are
-entries_more (f ∷ fs) [] ys e a x are actor asked said = absurd are
-entries_more (f ∷ fs) (q ∷ qs) [] e a x are actor asked said = absurd are
 entries_more (f ∷ fs) (q ∷ qs) (y ∷ ys) e a x are actor asked said =
     (are.0, are.1, are.2, entries_more fs qs ys e a x are.3 actor asked said)
+entries_more _ _ _ e a x are actor asked said = absurd are
 
 -- ---- the chain
 
@@ -132,8 +116,7 @@ module _ {D : Type 0} (disk : Ghosts D) (fewer : (store : D) → Fewer disk stor
 -- ---- one more
 
 module _ {D : Type 0} (disk : Ghosts D) (fewer : (store : D) → Fewer disk store) (tells : Bool)
-    (before mid after : Sounds) (old s new : Core D) (first_is : IsStudio disk old)
-    (es : List Event) (rs : List Answer)
+    (before mid after : Sounds) (old s new : Core D) (first_is : IsStudio disk old) (es : List Event) (rs : List Answer)
     (was : RanOver disk (spanned tells old s before mid) es rs) (e : Event) (told : Result Reply Refusal)
     (over : TookOver disk (spanned tells s new mid after) e.call told) where
   abbrev t : model.Studio
@@ -232,18 +215,8 @@ over_at disk tells span c told same over =
 
 pub other_of : (c : Call) → ((k : Command) → c ≡ call.Line k → ⊥) → IsOther c
 other_of (call.Line k) not_line = not_line k refl
-other_of (call.Piece track tag samples) not_line = tt
-other_of call.Pin not_line = tt
-other_of (call.PinLen pin) not_line = tt
-other_of (call.ReadPin pin from count) not_line = tt
-other_of (call.LoadPin pin from count) not_line = tt
-other_of (call.Unpin pin) not_line = tt
+other_of _ not_line = tt
 
 pub other_none : (c : Call) → IsOther c → name_in c ≡ None
 other_none (call.Line k) other = absurd other
-other_none (call.Piece track tag samples) other = refl
-other_none call.Pin other = refl
-other_none (call.PinLen pin) other = refl
-other_none (call.ReadPin pin from count) other = refl
-other_none (call.LoadPin pin from count) other = refl
-other_none (call.Unpin pin) other = refl
+other_none _ other = refl

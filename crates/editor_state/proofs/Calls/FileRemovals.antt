@@ -1,26 +1,18 @@
 -- Calls that remove no file, and the ids that are counted after them.
-use Rattle.std.proofs.Common.{◌≡◌, ◌↔◌, ◌⊎◌, ◌∙◌, inl, inr, ⊎_elim, refl, sym, subst, ℕ, suc, ◌+◌, ◌≤◌, ◌<◌}
-use Rattle.std.proofs.Common.{IsSome, List, [], true}
-use Rattle.std.proofs.Common.{Option, Some, None, Result, Ok, Err, Bool, false, if◌then◌else◌, ap, arith}
-use Rattle.std.specs.Prelude.{Contains, IfOk}
+use Rattle.std.proofs.Common.{◌≡◌, ◌↔◌, ◌⊎◌, ◌∙◌, inl, inr, ⊎_elim, refl, sym, subst, ℕ, suc, ◌+◌, ◌≤◌, ◌<◌, IsSome}
+use Rattle.std.proofs.Common.{List, [], true, Option, Some, None, Result, Ok, Err, Bool, false, if◌then◌else◌, ap}
+use Rattle.std.proofs.Common.{arith}
 use Rattle.std.proofs.lemmas.Bool.{true≢false}
-use Rattle.pcm_base.specs.declared.answer.Reply.{Reply}
-use Rattle.pcm_base.specs.declared.command.Call.{Call}
-use Rattle.pcm_base.specs.declared.command.Call.TheVariants.{Line}
+use Rattle.std.specs.Prelude.{Contains, IfOk}
 use Rattle.pcm_base.specs.declared.command.Command.TheVariants.{Compact, Import, Reclaim}
-use Rattle.pcm_base.specs.declared.refusal.Refusal.{Refusal}
-use Rattle.pcm_base.specs.Counters.{commits_of}
-use Rattle.disk_model.specs.Frames.{Kept}
-use Rattle.disk_model.specs.declared.store.Store.{Ghosts}
+use Rattle.pcm_base.specs.{declared.answer.Reply.Reply, declared.command.Call.Call}
+use Rattle.pcm_base.specs.{declared.command.Call.TheVariants.Line, declared.refusal.Refusal.Refusal}
+use Rattle.pcm_base.specs.{Counters.commits_of, Run.name_in}
+use Rattle.disk_model.specs.{Frames.Kept, declared.store.Store.Ghosts}
 use Rattle.block_ledger.specs.Counts.{Counts}
-use Rattle.editor_state.specs.Core.{Core}
-use Rattle.pcm_base.specs.Run.{name_in}
 use Rattle.editor_state.specs.Exchanges.{is_broken_off, is_cut_off, may_begin, may_have_begun, reads_sound}
-use Rattle.editor_state.specs.Left.{CountsIds}
-use Rattle.editor_state.specs.Makes.{AddsFree}
-use Rattle.editor_state.specs.Records.{Records}
 use Rattle.editor_state.specs.Removals.{Forgets, Frees, PacksJournal}
-use Rattle.editor_state.specs.Spent.{NamesGiven}
+use Rattle.editor_state.specs.{Core.Core, Left.CountsIds, Makes.AddsFree, Records.Records, Spent.NamesGiven}
 
 -- ---- the files
 

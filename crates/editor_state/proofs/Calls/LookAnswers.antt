@@ -1,21 +1,14 @@
 -- What a call that only looks leaves, and why it does not answer.
 use Rattle.std.proofs.Common.{◌≡◌, refl, sym, subst, ℕ, ◌≤◌, List, length, take, Ok, Err, Result}
-use Rattle.pcm_base.specs.declared.answer.Reply.{Reply}
-use Rattle.pcm_base.specs.declared.command.Call.{Call}
-use Rattle.pcm_base.specs.declared.refusal.Refusal.{Refusal}
-use Rattle.disk_model.specs.Frames.{Kept}
-use Rattle.disk_model.specs.declared.store.Store.{Ghosts}
+use Rattle.pcm_base.specs.{declared.answer.Reply.Reply, declared.command.Call.Call, declared.refusal.Refusal.Refusal}
+use Rattle.disk_model.specs.{Frames.Kept, declared.store.Store.Ghosts}
 use Rattle.disk_model.proofs.Frames.{Fewer, kept_none}
-use Rattle.block_store.specs.declared.fault.BlockFault.{BlockFault}
-use Rattle.block_store.specs.declared.fault.BlockFault.TheVariants as fault
-use Rattle.block_store.specs.Reasons.{reason_of}
+use Rattle.block_store.specs.{declared.fault.BlockFault.BlockFault, Reasons.reason_of}
 use Rattle.envelope_view.specs.Answers.{IsUndamaged}
-use Rattle.editor_state.specs.Adding.{IsNoWant}
-use Rattle.block_cache.specs.Caches.{Entries}
-use Rattle.editor_state.specs.Core.{Core}
 use Rattle.editor_state.specs.Reads.{Looks, Sees, Seen}
-use Rattle.editor_state.specs.Studios.{IsHeld}
-use Rattle.editor_state.specs.Took.{Took, quietly}
+use Rattle.editor_state.specs.{Adding.IsNoWant, Core.Core, Studios.IsHeld, Took.Took, Took.quietly}
+use Rattle.block_cache.specs.Caches.{Entries}
+use Rattle.block_store.specs.declared.fault.BlockFault.TheVariants as fault
 
 -- a fault of a block is no want of memory
 no_want : (why : BlockFault) → IsNoWant (reason_of why)
@@ -34,7 +27,7 @@ module _ {D : Type 0} (disk : Ghosts D) (s : Core D) (c : Call) where
   pub idle_looks : Fewer disk s.store → (why : Refusal) → IsUndamaged why → Took disk s (quietly c (Err why)) s
       → Looks disk s c (Err why) s
   idle_looks fewer why fine took =
-      record { took = took; same = refl; kept = kept_none s.store fewer; sound = λ held. fine }
+      record { took = took; same = refl; kept = kept_none s.store fewer; valid = λ held. fine }
 
   pub idle_sees : {A : Type 0} (reply : List A → Reply) (out : List A) → Fewer disk s.store → (why : Refusal)
       → IsUndamaged why → IsNoWant why → Took disk s (quietly c (Err why)) s
@@ -45,12 +38,12 @@ module _ {D : Type 0} (disk : Ghosts D) (s : Core D) (c : Call) where
   module _ (store : D) (kept : Kept disk s.store store) (cache : Entries) where
     pub read_looks : (r : Reply) → Took disk s (quietly c (Ok r)) (record s { store = store; cache = cache })
         → Looks disk s c (Ok r) (record s { store = store; cache = cache })
-    read_looks r took = record { took = took; same = refl; kept = kept; sound = λ held. tt }
+    read_looks r took = record { took = took; same = refl; kept = kept; valid = λ held. tt }
 
     pub unread_looks : (why : Refusal) → (IsHeld disk s → IsUndamaged why)
         → Took disk s (quietly c (Err why)) (record s { store = store; cache = cache })
         → Looks disk s c (Err why) (record s { store = store; cache = cache })
-    unread_looks why sound took = record { took = took; same = refl; kept = kept; sound = sound }
+    unread_looks why valid took = record { took = took; same = refl; kept = kept; valid = valid }
 
     pub read_sees : {A : Type 0} (reply : List A → Reply) (out : List A) (n : ℕ) → n ≤ length out
         → Took disk s (quietly c (Ok (reply (take n out)))) (record s { store = store; cache = cache })
@@ -61,8 +54,8 @@ module _ {D : Type 0} (disk : Ghosts D) (s : Core D) (c : Call) where
         → (IsHeld disk s → why ≡ fault.DiskFault)
         → Took disk s (quietly c (Err (reason_of why))) (record s { store = store; cache = cache })
         → Sees disk s (seen c reply out (Err (reason_of why))) (record s { store = store; cache = cache })
-    unread_sees reply out why sound took = record {
-      looks = unread_looks (reason_of why) (λ held. undamaged why (sound held)) took;
+    unread_sees reply out why valid took = record {
+      looks = unread_looks (reason_of why) (λ held. undamaged why (valid held)) took;
       count = tt;
       memory = no_want why;
     }

@@ -1,47 +1,35 @@
 -- A call that only reads the disk leaves the studio as it was, but for the count of failed reads and its pages.
 use Rattle.std.proofs.Common.{◌≡◌, ◌↔◌, inl, inr, refl, sym, ap, ◌∙◌, subst, ◌+◌, IsTrue, IsSome, Some, None, Ok, Err}
 use Rattle.std.proofs.Common.{ℕ, arith}
-use Rattle.pcm_base.specs.declared.answer.Reply.{Reply}
-use Rattle.pcm_base.specs.declared.command.Call.{Call}
-use Rattle.pcm_base.specs.declared.refusal.Refusal.{Refusal}
-use Rattle.pcm_base.specs.declared.refusal.Refusal.TheVariants as refusal
 use Rattle.pcm_base.specs.Run.{Leaves, CarriesOut, Answers, outside, refusal_of}
-use Rattle.pcm_base.specs.Studio as model
-use Rattle.disk_model.specs.Disk.{Files}
-use Rattle.disk_model.specs.Frames.{Kept}
-use Rattle.disk_model.specs.MomentLaws.{upto_refl}
-use Rattle.disk_model.specs.declared.store.Store.{Ghosts}
-use Rattle.disk_model.proofs.Frames.{changed_kept}
+use Rattle.pcm_base.specs.{declared.answer.Reply.Reply, declared.command.Call.Call, declared.refusal.Refusal.Refusal}
+use Rattle.disk_model.specs.{Disk.Files, Frames.Kept, MomentLaws.upto_refl, declared.store.Store.Ghosts}
+use Rattle.disk_model.proofs.Frames.{tells_on, changed_kept}
 use Rattle.sample_block.specs.Sources.{sources_of, AllWhole}
-use Rattle.block_store.specs.declared.fault.BlockFault.{BlockFault}
-use Rattle.block_store.specs.declared.fault.BlockFault.TheVariants as fault
-use Rattle.block_store.specs.Reads.{CountedBy}
-use Rattle.block_store.specs.Reasons.{reason_of}
-use Rattle.project_journal.specs.Gate.{EachNow, EachSince}
-use Rattle.project_journal.specs.Choice.{other_file}
+use Rattle.block_store.specs.{declared.fault.BlockFault.BlockFault, Reads.CountedBy, Reasons.reason_of}
+use Rattle.project_journal.specs.{Gate.EachNow, Gate.EachSince, Choice.other_file}
 use Rattle.project_journal.proofs.Kept.{SameJournals, is_at_still}
-use Rattle.record_body.specs.Kept.{Keeps}
+use Rattle.record_body.specs.Saved.{Keeps}
 use Rattle.envelope_view.specs.Answers.{IsDamagedIn}
 use Rattle.block_cache.specs.Caches.{Entries}
-use Rattle.editor_state.specs.Core.{Core, form_at}
-use Rattle.editor_state.specs.Left.{IsSoOf, MayRemove}
 use Rattle.editor_state.specs.Studios.{SameBlocks, IsDurable, IsHeld, IsStudio, shown, studio_by, studio_of}
 use Rattle.editor_state.specs.Studios.{named_blocks}
 use Rattle.editor_state.specs.Took.{Took, quietly, silent}
-use Rattle.editor_state.proofs.Images.ImageProjects.{keeps_now}
+use Rattle.editor_state.specs.{Core.Core, Core.form_at, Left.IsSoOf, Left.MayRemove, Spent.Needed}
 use Rattle.editor_state.proofs.Refusals.RefusalEffects.{IsOwn, left_read, own_plain, plain_so}
-use Rattle.editor_state.proofs.Calls.OtherFiles.{others_none}
-use Rattle.editor_state.proofs.Refusals.PurgeNumbers.{quiet_purges}
-use Rattle.editor_state.proofs.Calls.QuietCalls.{IsQuiet}
 use Rattle.editor_state.proofs.Calls.FileRemovals.{PacksNone, RemovesNone, frees_none, frees_refused, ids_same}
 use Rattle.editor_state.proofs.Calls.FileRemovals.{no_record, none_given}
-use Rattle.editor_state.proofs.Refusals.EarlyRefusals.{stopped_not}
 use Rattle.editor_state.proofs.Blocks.CachePages.{ReadsNamed, pages_by_reads}
-use Rattle.editor_state.proofs.Refusals.CounterNumbers.{own_needed}
-use Rattle.editor_state.specs.Spent.{Needed}
+use Rattle.editor_state.proofs.{Images.ImageProjects.keeps_now, Calls.OtherFiles.others_none}
+use Rattle.editor_state.proofs.{Refusals.PurgeNumbers.quiet_purges, Calls.QuietCalls.IsQuiet}
+use Rattle.editor_state.proofs.{Refusals.EarlyRefusals.stopped_not, Refusals.CounterNumbers.own_needed}
+use Rattle.editor_state.proofs.{SameStudios.studio_with}
+use Rattle.pcm_base.specs.declared.refusal.Refusal.TheVariants as refusal
+use Rattle.pcm_base.specs.Studio as model
+use Rattle.block_store.specs.declared.fault.BlockFault.TheVariants as fault
 
 -- the same files have the same journals
-same_journals : (file : ℕ) (d c : Files) → c ≡ d → SameJournals file d c
+pub same_journals : (file : ℕ) (d c : Files) → c ≡ d → SameJournals file d c
 same_journals file d c same = (ap (λ (f : Files). f file) same, ap (λ (f : Files). f (other_file file)) same)
 
 module _ {D : Type 0} (disk : Ghosts D) (s : Core D) (is : IsStudio disk s) (store : D)
@@ -76,28 +64,12 @@ module _ {D : Type 0} (disk : Ghosts D) (s : Core D) (is : IsStudio disk s) (sto
   }
 
   pub looked_studio : IsStudio disk looked
-  looked_studio = record {
-    format = is.format;
-    counters = is.counters;
-    journal = is.journal;
-    few_points = is.few_points;
-    few_clips = is.few_clips;
-    points = is.points;
-    pins = is.pins;
-    numbers = is.numbers;
-    clipboard = is.clipboard;
-    ids = is.ids;
-    layouts = is.layouts;
-    numbered = is.numbered;
-    drawn = is.drawn;
-    counted = is.counted;
-    given = is.given;
-    pages = pages_by_reads disk s is cache keeps;
-  }
+  looked_studio =
+      studio_with disk s is store cache s.counts s.stopped is.counted is.given (pages_by_reads disk s is cache keeps)
 
   pub looked_held : IsHeld disk s → IsHeld disk looked
   looked_held held = record {
-    tells = subst IsTrue (sym kept.same_tells) held.tells;
+    tells = tells_on kept held.tells;
     whole = subst (λ (f : Files). AllWhole f (named_blocks s)) (sym kept.same_reads) held.whole;
     durable = λ going. looked_durable (held.durable going);
   }

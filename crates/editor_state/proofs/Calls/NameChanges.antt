@@ -1,29 +1,21 @@
 -- The studio names other blocks, and nothing is asked of the disk.
 use Rattle.std.proofs.Common.{◌≡◌, ◌↔◌, inl, refl, ℕ, ◌^◌, ◌≤◌, IsSome, List, ◌++◌, length, Option, Ok, arith}
 use Rattle.std.specs.List.{AllByRecursion}
-use Rattle.pcm_base.specs.declared.answer.Reply.{Reply}
-use Rattle.pcm_base.specs.declared.block.BlockRef.{BlockRef}
-use Rattle.pcm_base.specs.declared.command.Call.{Call}
-use Rattle.pcm_base.specs.Run.{CarriesOut}
+use Rattle.pcm_base.specs.{declared.answer.Reply.Reply, declared.block.BlockRef.BlockRef, declared.command.Call.Call}
+use Rattle.pcm_base.specs.{Run.CarriesOut}
 use Rattle.disk_model.specs.declared.store.Store.{Ghosts}
 use Rattle.disk_model.proofs.Frames.{Fewer, changed_none}
 use Rattle.sample_block.specs.Sources.{IsWhole}
 use Rattle.block_ledger.specs.Counts.{Counts}
 use Rattle.clip_track.specs.declared.items.Item.{Item}
-use Rattle.record_body.specs.KeptSound.{IsSoundPoint}
-use Rattle.editor_state.specs.Core.{Core}
-use Rattle.editor_state.specs.declared.pin.Pin.{Pin}
-use Rattle.editor_state.specs.Left.{MayRemove}
-use Rattle.layout_uses.specs.Layouts.{AreDrawn, AreNumbered, history_tracks}
-use Rattle.layout_uses.specs.Tallies.{AreCounts}
+use Rattle.record_body.specs.SavedValid.{IsValidPoint}
 use Rattle.editor_state.specs.Studios.{IsGiven, PinsRise, MayPaste, IsHeld, IsStudio, studio_of, named_blocks}
 use Rattle.editor_state.specs.Studios.{clip_blocks, pin_tracks}
-use Rattle.editor_state.specs.Took.{Took, quietly, silent}
-use Rattle.editor_state.proofs.Images.ImageProjects.{keeps_now}
-use Rattle.editor_state.proofs.Calls.OtherFiles.{others_none}
-use Rattle.editor_state.proofs.Refusals.PurgeNumbers.{quiet_purges}
-use Rattle.editor_state.proofs.Calls.QuietCalls.{IsQuiet}
+use Rattle.editor_state.specs.{Core.Core, declared.pin.Pin.Pin, Left.MayRemove, Took.Took, Took.quietly, Took.silent}
+use Rattle.layout_uses.specs.{Layouts.AreDrawn, Layouts.AreNumbered, Layouts.history_tracks, Tallies.AreCounts}
 use Rattle.editor_state.proofs.Calls.FileRemovals.{PacksNone, RemovesNone, frees_none, ids_still, no_record, none_given}
+use Rattle.editor_state.proofs.{Images.ImageProjects.keeps_now, Calls.OtherFiles.others_none}
+use Rattle.editor_state.proofs.{Refusals.PurgeNumbers.quiet_purges, Calls.QuietCalls.IsQuiet}
 
 -- another clipboard, other pins, uses and counts
 abbrev pub renamed : {D : Type 0} → Core D → Option (List (List Item)) → List Pin → ℕ → Counts → Counts → Core D
@@ -38,7 +30,7 @@ pub record Renames {D : Type 0} (s : Core D) (clip : Option (List (List Item))) 
   pub numbers : PinsRise 1 next_pin pins
   pub pin_least : 1 ≤ next_pin
   pub pin_most : next_pin ≤ 2 ^ 62
-  pub sound : AllByRecursion (λ (p : Pin). IsSoundPoint s.block_size s.next_block s.next_track p.point) pins
+  pub valid : AllByRecursion (λ (p : Pin). IsValidPoint s.block_size s.next_block s.next_track p.point) pins
   pub few_clips : length (clip_blocks clip) ≤ 2 ^ 71
   pub clip_fits : MayPaste s.block_size clip
   pub numbered : AreNumbered (history_tracks s.history ++ pin_tracks pins)
@@ -47,8 +39,7 @@ pub record Renames {D : Type 0} (s : Core D) (clip : Option (List (List Item))) 
   pub ids : (id : ℕ) → IsSome (counts id) ↔ IsSome (s.counts id)
 
 module _ {D : Type 0} (disk : Ghosts D) (s : Core D) (is : IsStudio disk s) (clip : Option (List (List Item)))
-    (pins : List Pin) (next_pin : ℕ) (uses counts : Counts)
-    (names : Renames s clip pins next_pin uses counts) where
+    (pins : List Pin) (next_pin : ℕ) (uses counts : Counts) (names : Renames s clip pins next_pin uses counts) where
   abbrev new : Core D
   new = renamed s clip pins next_pin uses counts
 
@@ -70,7 +61,7 @@ module _ {D : Type 0} (disk : Ghosts D) (s : Core D) (is : IsStudio disk s) (cli
     few_points = is.few_points;
     few_clips = names.few_clips;
     points = is.points;
-    pins = names.sound;
+    pins = names.valid;
     numbers = names.numbers;
     clipboard = names.clip_fits;
     ids = names.covers (λ (b : BlockRef). IsGiven s.next_block b.id) is.ids;

@@ -1,16 +1,11 @@
 -- What a call leaves of other files, by what each of its parts leaves.
-use Rattle.std.proofs.Common.{◌≡◌, ◌≢◌, ◌⊎◌, inl, inr, ⊎_elim, refl, sym, ◌∙◌, subst, ℕ, ◌+◌, ◌^◌, ◌≤◌, ◌<◌, IsSome}
-use Rattle.std.proofs.Common.{None, arith}
-use Rattle.std.proofs.lemmas.Bool.{cases_eq, cases_lt}
-use Rattle.pcm_base.specs.declared.command.Call.{Call}
-use Rattle.pcm_base.specs.declared.command.Call.TheVariants.{Line}
-use Rattle.pcm_base.specs.declared.command.Command.TheVariants.{Reclaim}
-use Rattle.disk_model.specs.Disk.{Files, RemoveStep, SameElsewhere}
-use Rattle.disk_model.specs.declared.store.Store.{Ghosts}
-use Rattle.editor_state.specs.Core.{Core}
+use Rattle.std.proofs.Common.{◌⊎◌, inl, inr, ⊎_elim, refl, sym, ◌∙◌, subst, ℕ, ◌+◌, ◌^◌, ◌≤◌, ◌<◌, IsSome, arith}
+use Rattle.std.proofs.lemmas.Bool.{cases_lt}
+use Rattle.pcm_base.specs.{declared.command.Call.Call, declared.command.Call.TheVariants.Line}
+use Rattle.pcm_base.specs.{declared.command.Command.TheVariants.Reclaim}
+use Rattle.disk_model.specs.{Disk.Files, Disk.SameElsewhere, declared.store.Store.Ghosts}
 use Rattle.editor_state.specs.Left.{IsBegun, LeavesForeign, LeavesOthers, MayRemove}
-use Rattle.editor_state.specs.Made.{SameOutside}
-use Rattle.editor_state.specs.Studios.{IsStudio}
+use Rattle.editor_state.specs.{Core.Core, Made.SameOutside, Studios.IsStudio}
 
 -- no file may go
 abbrev pub NoneGoes : ℕ → Type 0
@@ -76,16 +71,6 @@ others_made first n last MayGo d c few most same = record {
         absurd
         (apart (record { least = least; most = omega (arith, within, few); block = omega (arith, within, most) }))
     outside file apart (inr least) (inr above) = inr above
-
--- a file that may go
-pub others_removed : (first last : ℕ) (MayGo : ℕ → Type 0) (id : ℕ) (d c : Files) → MayGo id → RemoveStep id d c
-    → LeavesOthers first last MayGo d c
-others_removed first last MayGo id d c may step = record { others = λ file other apart. by file (cases_eq file id) }
-  where
-    by : (file : ℕ) → (file ≡ id) ⊎ (file ≢ id) → (c file ≡ d file) ⊎ (MayGo file × (c file ≡ None))
-    by file (inl is) = subst (λ (k : ℕ). (c k ≡ d k) ⊎ (MayGo k × (c k ≡ None))) (sym is)
-        (⊎_elim (λ same. inl same) (λ gone. inr (may, gone)) step.gone)
-    by file (inr ne) = inl (step.others file ne)
 
 -- ---- many calls
 

@@ -1,33 +1,25 @@
 -- Calls without a commit, which make no blocks: what refuses them, and what they leave where they leave the studio.
 use Rattle.std.proofs.Common.{◌≡◌, inl, refl, sym, ap, ◌∙◌, ℕ, ◌+◌, ◌^◌, ◌≤◌, ◌==◌, if◌then◌else◌, Option, Some, None}
 use Rattle.std.proofs.Common.{Ok, Err, arith}
-use Rattle.pcm_base.specs.declared.answer.Reply.{Reply}
-use Rattle.pcm_base.specs.declared.command.Call.{Call}
-use Rattle.pcm_base.specs.declared.refusal.Refusal.{Refusal}
-use Rattle.pcm_base.specs.declared.refusal.Refusal.TheVariants as refusal
 use Rattle.pcm_base.specs.Counters.{Needs, commits_of, generations_of, tracks_of, pins_of, record_bytes, places_of}
 use Rattle.pcm_base.specs.Counters.{layouts_of, no_room, record_test}
-use Rattle.pcm_base.specs.Outside.{Outside}
-use Rattle.pcm_base.specs.Refusals.{◌otherwise◌, call_tests}
 use Rattle.pcm_base.specs.Run.{outside, stop_of, stop_test, refusal_of, followed, CarriesOut}
 use Rattle.pcm_base.specs.Step.{after, sound_after, MayAnswer}
-use Rattle.pcm_base.specs.Studio as model
+use Rattle.pcm_base.specs.{declared.answer.Reply.Reply, declared.command.Call.Call, declared.refusal.Refusal.Refusal}
+use Rattle.pcm_base.specs.{Outside.Outside, Refusals.◌otherwise◌, Refusals.call_tests}
 use Rattle.disk_model.specs.declared.store.Store.{Ghosts}
 use Rattle.disk_model.proofs.Frames.{Fewer, changed_none}
-use Rattle.editor_state.specs.Core.{Core}
-use Rattle.editor_state.specs.Left.{MayRemove}
-use Rattle.editor_state.specs.Studios.{IsHeld, IsStudio, studio_of}
-use Rattle.editor_state.specs.Took.{Took, quietly, silent}
+use Rattle.editor_state.specs.{Core.Core, Left.MayRemove, Studios.IsHeld, Studios.IsStudio, Studios.studio_of}
+use Rattle.editor_state.specs.{Took.Took, Took.quietly, Took.silent, Spent.Needed}
 use Rattle.model_laws.proofs.Answered.{answered_same, moves_of, no_generation}
-use Rattle.editor_state.proofs.Images.ImageProjects.{keeps_now}
-use Rattle.editor_state.proofs.Calls.OtherFiles.{others_none}
-use Rattle.editor_state.proofs.Refusals.PurgeNumbers.{quiet_purges}
 use Rattle.editor_state.proofs.Calls.FileRemovals.{PacksNone, RemovesNone, frees_none, frees_refused, ids_same}
 use Rattle.editor_state.proofs.Calls.FileRemovals.{no_record, none_given}
-use Rattle.editor_state.proofs.Refusals.CommitTests.{fits}
 use Rattle.editor_state.proofs.Refusals.EarlyRefusals.{refuses, wants}
-use Rattle.editor_state.proofs.Refusals.CounterNumbers.{tests_needed}
-use Rattle.editor_state.specs.Spent.{Needed}
+use Rattle.editor_state.proofs.{Images.ImageProjects.keeps_now, Calls.OtherFiles.others_none}
+use Rattle.editor_state.proofs.{Refusals.PurgeNumbers.quiet_purges, Refusals.CommitTests.fits}
+use Rattle.editor_state.proofs.{Refusals.CounterNumbers.tests_needed}
+use Rattle.pcm_base.specs.declared.refusal.Refusal.TheVariants as refusal
+use Rattle.pcm_base.specs.Studio as model
 
 -- a call that needs no block, no record, no commit, no track and no layout
 pub record IsQuiet (c : Call) : Type 0 where

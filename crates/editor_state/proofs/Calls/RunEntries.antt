@@ -2,32 +2,22 @@
 use Rattle.std.proofs.Common.{◌≡◌, ◌⊎◌, inl, inr, ⊎_elim, refl, sym, ap, ◌∙◌, subst, None, List, [], ◌∷◌, ◌++◌}
 use Rattle.std.proofs.Common.{append_assoc, Result, Ok, Err}
 use Rattle.std.specs.Prelude.{OnErr}
-use Rattle.pcm_base.specs.declared.answer.Reply.{Reply}
-use Rattle.pcm_base.specs.declared.answer.Reply.TheVariants as reply
-use Rattle.pcm_base.specs.declared.command.Call.{Call}
-use Rattle.pcm_base.specs.declared.command.Call.TheVariants as call
-use Rattle.pcm_base.specs.declared.entry.Entry.{Entry}
-use Rattle.pcm_base.specs.declared.entry.SoundMove.{SoundMove}
-use Rattle.pcm_base.specs.declared.refusal.Refusal.{Refusal}
-use Rattle.pcm_base.specs.declared.refusal.Refusal.TheVariants as refusal
-use Rattle.pcm_base.specs.Outside.{Outside}
 use Rattle.pcm_base.specs.Run.{Answers, Run, Step, outside, result_of}
-use Rattle.pcm_base.specs.Shape.{Shape, NewTrack, DropTrack, SetTrack, PutIn, EditRange, CutRun, CopyRun, PasteRun}
-use Rattle.pcm_base.specs.Shape.{MoveTo, Purge, PurgeTo, Look, Reclaim, Compact, Import, Export, Bounce, View, Cells}
-use Rattle.pcm_base.specs.Shape.{Frames, Columns, Tracks, shape_of}
-use Rattle.pcm_base.specs.State.{State}
-use Rattle.pcm_base.specs.Step.{MayAnswer, MayReplyBy, seen}
-use Rattle.pcm_base.specs.Studio as model
-use Rattle.disk_model.specs.Disk.{Files}
-use Rattle.disk_model.specs.declared.store.Store.{Ghosts}
+use Rattle.pcm_base.specs.Shape.{Shape, PurgeTo, Look, Reclaim, Compact, Bounce, View, Cells, Frames, Columns, Tracks}
+use Rattle.pcm_base.specs.Shape.{shape_of}
+use Rattle.pcm_base.specs.{declared.answer.Reply.Reply, declared.command.Call.Call, declared.entry.Entry.Entry}
+use Rattle.pcm_base.specs.{declared.entry.SoundMove.SoundMove, declared.refusal.Refusal.Refusal, Outside.Outside}
+use Rattle.pcm_base.specs.{State.State, Step.MayAnswer, Step.MayReplyBy, Step.seen}
+use Rattle.disk_model.specs.{Disk.Files, declared.store.Store.Ghosts}
 use Rattle.project_journal.specs.Gate.{EachSince}
-use Rattle.record_body.specs.Kept.{Keeps}
-use Rattle.editor_state.specs.Applied.{reply_of}
-use Rattle.editor_state.specs.Core.{Core}
-use Rattle.editor_state.specs.Events.{KeepsPrefix, MayFly, NextInFlight}
-use Rattle.editor_state.specs.Left.{Stops}
-use Rattle.editor_state.specs.Studios.{IsHeld, shown, studio_of}
+use Rattle.record_body.specs.Saved.{Keeps}
 use Rattle.editor_state.specs.Took.{Exchange, InFlight, KeepsOneOf, Took}
+use Rattle.editor_state.specs.{Applied.reply_of, Core.Core, Events.KeepsPrefix, Events.MayFly, Events.NextInFlight}
+use Rattle.editor_state.specs.{Left.Stops, Studios.IsHeld, Studios.shown, Studios.studio_of}
+use Rattle.pcm_base.specs.declared.answer.Reply.TheVariants as reply
+use Rattle.pcm_base.specs.declared.command.Call.TheVariants as call
+use Rattle.pcm_base.specs.declared.refusal.Refusal.TheVariants as refusal
+use Rattle.pcm_base.specs.Studio as model
 
 -- ---- no call is answered by a refusal as its reply
 
@@ -42,23 +32,12 @@ view_plain s (Columns id from to columns) = tt
 view_plain s Tracks = tt
 
 line_plain : (out : Outside) (s : State) (shape : Shape) (r : Reply) → MayReplyBy out s shape r → Plain r
-line_plain out s NewTrack r h = subst Plain (sym h) tt
-line_plain out s (DropTrack id) r h = subst Plain (sym h) tt
-line_plain out s (SetTrack id setting) r h = subst Plain (sym h) tt
-line_plain out s (PutIn id at source) r h = subst Plain (sym h) tt
-line_plain out s (EditRange id from to edit) r h = subst Plain (sym h) tt
-line_plain out s (CutRun id n from to removing) r h = subst Plain (sym h) tt
-line_plain out s (CopyRun id n from to) r h = subst Plain (sym h) tt
-line_plain out s (PasteRun id at placing) r h = subst Plain (sym h) tt
-line_plain out s (MoveTo move) r h = subst Plain (sym h) tt
-line_plain out s (Purge n) r h = subst Plain (sym h) tt
 line_plain out s (PurgeTo bytes) r h = subst Plain (sym h.1) tt
 line_plain out s (Look view) r h = subst Plain (sym h) (view_plain s view)
 line_plain out s (Reclaim limit) r h = subst Plain (sym h.1) tt
 line_plain out s Compact r h = subst Plain (sym h.1) tt
-line_plain out s (Import name) r h = subst Plain (sym h) tt
-line_plain out s (Export name) r h = subst Plain (sym h) tt
 line_plain out s (Bounce name) r h = absurd h
+line_plain out s _ r h = subst Plain (sym h) tt
 
 pub plain : (out : Outside) (s : State) (c : Call) (r : Reply) → MayAnswer out s c r → Plain r
 plain out s (call.Line c) r h = line_plain out s (shape_of c) r h
@@ -70,20 +49,8 @@ plain out s (call.LoadPin pin from count) r h = subst Plain (sym h.2) tt
 plain out s (call.Unpin pin) r h = subst Plain (sym h) tt
 
 pub plain_result : (r : Reply) → Plain r → result_of r ≡ Ok r
-plain_result reply.Done h = refl
-plain_result reply.Copied h = refl
-plain_result (reply.Cells cells) h = refl
-plain_result (reply.Frames frames) h = refl
-plain_result (reply.Columns columns) h = refl
-plain_result (reply.Tracks tracks) h = refl
-plain_result (reply.Freed count) h = refl
-plain_result (reply.Packed bytes) h = refl
-plain_result (reply.Purged n) h = refl
-plain_result (reply.Wrote bytes) h = refl
-plain_result (reply.Pinned pin) h = refl
-plain_result (reply.Length frames) h = refl
-plain_result (reply.Loaded tracks) h = refl
 plain_result (reply.Refused why) h = absurd h
+plain_result _ h = refl
 
 pub step_of : (t u : model.Studio) (c : Call) (sound : SoundMove) (told : Result Reply Refusal) → Answers t c sound told u
     → Step t c sound (reply_of told) u

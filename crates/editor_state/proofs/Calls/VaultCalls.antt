@@ -1,24 +1,18 @@
 -- What a call does over a vault, from what it does by itself.
 use Rattle.std.proofs.Common.{◌≡◌, ◌⊎◌, ◌<◌, ◌∙◌, inl, IfErr, IfOk, refl, sym, ap, subst, ℕ, Bool, IsTrue, Option, Some}
 use Rattle.std.proofs.Common.{None, is_some, List, [], Result, Ok, Err}
-use Rattle.std.proofs.lemmas.Bool.{true≢false}
-use Rattle.std.proofs.lemmas.Option.{none-some, same_Some}
-use Rattle.pcm_base.specs.declared.answer.Reply.{Reply}
-use Rattle.pcm_base.specs.declared.answer.Reply.TheVariants as reply
-use Rattle.pcm_base.specs.declared.command.Call.{Call}
-use Rattle.pcm_base.specs.declared.command.Call.TheVariants.{Line}
-use Rattle.pcm_base.specs.declared.entry.SoundMove.{SoundMove}
-use Rattle.pcm_base.specs.declared.refusal.Refusal.{Refusal}
-use Rattle.pcm_base.specs.declared.refusal.Refusal.TheVariants as refusal
-use Rattle.pcm_base.specs.declared.wav.WavFault.TheVariants.{Truncated}
-use Rattle.pcm_base.specs.Outside.{SameElsewhere, Sounds}
-use Rattle.pcm_base.specs.declared.command.Command.{Command}
-use Rattle.pcm_base.specs.declared.command.Command.TheVariants as command
+use Rattle.std.proofs.{lemmas.Bool.true≢false, lemmas.Option.none-some, lemmas.Option.same_Some}
 use Rattle.pcm_base.specs.Run.{Heard, name_in, name_in_line}
-use Rattle.disk_model.specs.Frames.{Kept}
-use Rattle.disk_model.specs.declared.store.Store.{Ghosts}
+use Rattle.pcm_base.specs.{declared.answer.Reply.Reply, declared.command.Call.Call}
+use Rattle.pcm_base.specs.{declared.command.Call.TheVariants.Line, declared.entry.SoundMove.SoundMove}
+use Rattle.pcm_base.specs.{declared.refusal.Refusal.Refusal, declared.wav.WavFault.TheVariants.Truncated}
+use Rattle.pcm_base.specs.{Outside.SameElsewhere, Outside.Sounds, declared.command.Command.Command}
+use Rattle.disk_model.specs.{Frames.Kept, declared.store.Store.Ghosts}
 use Rattle.disk_model.proofs.Frames.{Fewer, changed_kept, changed_none, kept_none}
 use Rattle.block_cache.specs.Caches.{Entries}
+use Rattle.pcm_base.specs.declared.answer.Reply.TheVariants as reply
+use Rattle.pcm_base.specs.declared.refusal.Refusal.TheVariants as refusal
+use Rattle.pcm_base.specs.declared.command.Command.TheVariants as command
 pub use Rattle.editor_state.specs.Applied.{spanned}
 use Rattle.editor_state.specs.Applied.{Imported, Lasts, TookOver, move_of, Span, sound_moved}
 use Rattle.editor_state.specs.Core.{Core}
@@ -28,7 +22,7 @@ use Rattle.editor_state.specs.Vaults.{IsCutShort, VaultCounted, left_as}
 use Rattle.editor_state.specs.Left.{Left, MayRemove, Untouched}
 use Rattle.editor_state.specs.Purges.{Purges}
 use Rattle.editor_state.specs.Studios.{IsStudio}
-use Rattle.editor_state.specs.Took.{Exchange, Took, exchange_of, freeing, number_behind, told_by, with_sound}
+use Rattle.editor_state.specs.Took.{Exchange, Took, exchange_of, freeing, number_behind, as_reply, with_sound}
 use Rattle.editor_state.proofs.Refusals.RefusalEffects.{IsPlain, left_plain}
 use Rattle.editor_state.proofs.Calls.LookCalls.{looked_studio}
 use Rattle.editor_state.proofs.Calls.OtherFiles.{others_none}
@@ -143,11 +137,11 @@ over_sound disk span call name told named took others lasts imported = record {
 -- an import in the words of a line
 pub imported_done : {D : Type 0} (disk : Ghosts D) (old : Core D) (name : List ℕ) (result : Result ℕ Refusal)
     (new : Core D) → IfOk result (λ n. (bytes : List ℕ) × Took disk old
-    (with_sound (Line (command.Import name)) (left_as (Some bytes)) (told_by (λ _. reply.Done) result)) new)
+    (with_sound (Line (command.Import name)) (left_as (Some bytes)) (as_reply (λ _. reply.Done) result)) new)
     → IfErr result (λ why. IsCutShort why ⊎ ((sound : Option (List ℕ)) × Took disk old
-    (with_sound (Line (command.Import name)) (left_as sound) (told_by (λ _. reply.Done) result)) new))
+    (with_sound (Line (command.Import name)) (left_as sound) (as_reply (λ _. reply.Done) result)) new))
     → ((want have : ℕ) → IfErr result (λ why. why ≡ refusal.BadWav (Truncated want have) → have < want))
-    → Imported disk old name (told_by (λ _. reply.Done) result) new
+    → Imported disk old name (as_reply (λ _. reply.Done) result) new
 imported_done disk old name (Ok n) new some reason short = record { some = some; reason = tt; short = λ want have. tt }
 imported_done disk old name (Err why) new some reason short = record { some = tt; reason = reason; short = short }
 
@@ -161,7 +155,7 @@ export_none name n same = true≢false (sym (ap reads_sound same))
 
 -- a reply tells of the vault's count what the answer told
 pub counted_told : {A : Type 0} (f : A → Reply) (answer : Result A Refusal) (old new : ℕ) → VaultCounted answer old new
-    → VaultCounted (told_by f answer) old new
+    → VaultCounted (as_reply f answer) old new
 counted_told f (Ok x) old new counted = counted
 counted_told f (Err why) old new counted = counted
 

@@ -1,30 +1,23 @@
 -- The project that each image keeps.
 use Rattle.std.proofs.Common.{◌≡◌, ◌⊎◌, inl, inr, ⊎_elim, ap, ◌∙◌, sym, subst, ℕ, ◌≤◌, List, ◌++◌, None}
 use Rattle.std.specs.List.{AllByRecursion}
-use Rattle.pcm_base.specs.declared.block.BlockRef.{BlockRef}
-use Rattle.pcm_base.specs.History.{History}
-use Rattle.pcm_base.specs.Pieces.{Sources}
-use Rattle.disk_model.specs.Disk.{Files, Follows, SameElsewhere}
-use Rattle.disk_model.specs.declared.store.Store.{Ghosts}
+use Rattle.pcm_base.specs.{declared.block.BlockRef.BlockRef, History.History, Pieces.Sources}
+use Rattle.disk_model.specs.{Disk.Files, Disk.Follows, Disk.SameElsewhere, declared.store.Store.Ghosts}
 use Rattle.sample_block.specs.Sources.{sources_of, IsWhole, AllWhole}
-use Rattle.project_journal.specs.Gate.{EachNow, EachSince}
-use Rattle.project_journal.specs.Header.{Form, IsForm}
 use Rattle.project_journal.specs.Journal.{Log, HasLog, HasOneOf, with_bodies}
-use Rattle.project_journal.proofs.Kept.{each_has}
-use Rattle.project_journal.proofs.Parses.{form_known}
-use Rattle.project_state.specs.declared.track.Track.{Track}
-use Rattle.record_body.specs.Kept.{Begins, Kept, LeadIn, Opened, Keeps, version_of}
-use Rattle.project_state.specs.Meaning.{meant_history, history_blocks}
+use Rattle.project_journal.specs.{Gate.EachNow, Gate.EachSince, Header.Form, Header.IsForm}
+use Rattle.project_journal.proofs.{Kept.each_has, Parses.form_known}
+use Rattle.project_state.specs.{declared.track.Track.Track, Meaning.meant_history, Meaning.history_blocks}
+use Rattle.record_body.specs.Saved.{Begins, Saved, LeadIn, Opened, Keeps, version_of}
 use Rattle.record_body.proofs.Unnumbered.{history_blocks_alike, history_meant_alike}
 use Rattle.editor_state.specs.Core.{Core, form_at}
 use Rattle.editor_state.specs.Studios.{IsGiven, SameBlocks, IsDurable, IsHeld, shown, studio_of, named_blocks}
 use Rattle.editor_state.specs.Studios.{pin_blocks, clip_blocks}
-use Rattle.editor_state.proofs.Images.JournalLeads.{begins_more, lead_all}
-use Rattle.editor_state.proofs.Lists.{all_left}
 use Rattle.editor_state.proofs.Blocks.BlockSounds.{same_history, all_sound, all_whole, blocks_same, trans_same}
+use Rattle.editor_state.proofs.{Images.JournalLeads.begins_more, Images.JournalLeads.lead_all, Lists.all_left}
 
 -- what opening finds of a project of blocks, by these samples
-abbrev pub opened_by : Sources → Log → Kept → Opened
+abbrev pub opened_by : Sources → Log → Saved → Opened
 opened_by src log k = record {
   rate = log.rate;
   block_size = log.block_size;
@@ -38,7 +31,7 @@ pub record IsFew (form : Form) : Type 0 where
   pub known : IsForm form
   pub few : form.file ≤ 1
 
-pub keeps_by : (form : Form) (log : Log) (base k : Kept) (files c : Files) → IsFew form → HasLog form log c
+pub keeps_by : (form : Form) (log : Log) (base k : Saved) (files c : Files) → IsFew form → HasLog form log c
     → Begins log base → LeadIn (version_of form) log.block_size base log.bodies k
     → SameBlocks (history_blocks k.history) files c → AllWhole files (history_blocks k.history)
     → Keeps c (opened_by (sources_of files) log k)
@@ -72,11 +65,10 @@ abbrev pub Covers : List BlockRef → History (List Track) → Type 1
 Covers bs h = (P : BlockRef → Type 0) → AllByRecursion P bs → AllByRecursion P (history_blocks h)
 
 -- records in flight, over blocks that each image has as the store reads them
-module _ {D : Type 0} (disk : Ghosts D) (store new : D) (form : Form) (log : Log) (base k : Kept) (bs : List BlockRef)
+module _ {D : Type 0} (disk : Ghosts D) (store new : D) (form : Form) (log : Log) (base k : Saved) (bs : List BlockRef)
     (next : ℕ) (of : IsFew form) (begins : Begins log base)
     (told : LeadIn (version_of form) log.block_size base log.bodies k)
-    (ids : AllByRecursion (λ (b : BlockRef). IsGiven next b.id) bs)
-    (whole : AllWhole (disk.reads store) bs)
+    (ids : AllByRecursion (λ (b : BlockRef). IsGiven next b.id) bs) (whole : AllWhole (disk.reads store) bs)
     (same : EachNow disk store (SameBlocks bs (disk.reads store)))
     (follows : Follows (SameElsewhere form.file) (disk.clock store) (disk.clock new) (disk.may_leave store)
     (disk.may_leave new)) where
@@ -86,7 +78,7 @@ module _ {D : Type 0} (disk : Ghosts D) (store new : D) (form : Form) (log : Log
       let d = follows.from c since in
       trans_same (disk.reads store) d.0 c bs (same d.0 d.1) (blocks_same form.file d.0 c next bs of.few d.2 ids)
 
-  pub one_of : (bodies : List (List ℕ)) (end : Kept) → LeadIn (version_of form) log.block_size k bodies end
+  pub one_of : (bodies : List (List ℕ)) (end : Saved) → LeadIn (version_of form) log.block_size k bodies end
       → Covers bs k.history
       → Covers bs end.history
       → EachSince disk store new (HasOneOf form log (with_bodies log bodies))

@@ -1,15 +1,15 @@
 -- Records that lead to a project, and more; the journal begins as before.
 use Rattle.std.proofs.Common.{subst, ℕ, List, [], ◌∷◌, ◌++◌}
 use Rattle.project_journal.specs.Journal.{Log, with_bodies}
-use Rattle.record_body.specs.Kept.{Begins, BeginsBy, Kept, after_body, LeadIn}
+use Rattle.record_body.specs.Saved.{Begins, BeginsBy, Saved, after_body, LeadIn}
 
-pub lead_all : (version m : ℕ) (k mid end : Kept) (bodies more : List (List ℕ)) → LeadIn version m k bodies mid
+pub lead_all : (version m : ℕ) (k mid end : Saved) (bodies more : List (List ℕ)) → LeadIn version m k bodies mid
     → LeadIn version m mid more end → LeadIn version m k (bodies ++ more) end
-lead_all version m k mid end [] more is led = subst (λ (z : Kept). LeadIn version m z more end) is led
+lead_all version m k mid end [] more is led = subst (λ (z : Saved). LeadIn version m z more end) is led
 lead_all version m k mid end (b ∷ bs) more h led =
     (h.0, h.1, lead_all version m (after_body k h.0) mid end bs more h.2 led)
 
-begins_by : (points : List (List ℕ)) (log : Log) (bodies : List (List ℕ)) (base : Kept) → BeginsBy points log base
+begins_by : (points : List (List ℕ)) (log : Log) (bodies : List (List ℕ)) (base : Saved) → BeginsBy points log base
     → BeginsBy points (with_bodies log bodies) base
 begins_by [] log bodies base is = is
 begins_by (p ∷ ps) log bodies base is = record {
@@ -19,10 +19,10 @@ begins_by (p ∷ ps) log bodies base is = record {
   next_block = is.next_block;
   next_track = is.next_track;
   commit = is.commit;
-  sound = is.sound;
+  valid = is.valid;
   unnumbered = is.unnumbered;
 }
 
-pub begins_more : (log : Log) (bodies : List (List ℕ)) (base : Kept) → Begins log base
+pub begins_more : (log : Log) (bodies : List (List ℕ)) (base : Saved) → Begins log base
     → Begins (with_bodies log bodies) base
 begins_more log = begins_by log.points log

@@ -1,37 +1,23 @@
 -- What a studio stands for is within the bounds of the model.
 use Rattle.std.proofs.Common.{◌≡◌, ◌∙◌, ⊎_elim, refl, sym, ap, subst, ℕ, ◌+◌, ◌-◌, ◌^◌, ◌≤◌, ◌<◌, ℤ, if◌then◌else◌}
 use Rattle.std.proofs.Common.{Option, Some, None, List, [], ◌∷◌, ◌++◌, append_assoc, length, map, replicate, arith}
-use Rattle.std.specs.Prelude.{unwrap_or}
-use Rattle.std.specs.List.{AllByRecursion}
-use Rattle.std.proofs.lemmas.Bool.Decides.{eqb_tells}
-use Rattle.std.proofs.lemmas.List.{length-map}
-use Rattle.std.proofs.lemmas.List.Elements.{All-from_recursion}
 use Rattle.std.proofs.lemmas.Option.{none-some, same_Some}
-use Rattle.pcm_base.specs.declared.sound.Cell.{Cell}
+use Rattle.std.proofs.{lemmas.Bool.Decides.eqb_tells, lemmas.List.length-map, lemmas.List.Elements.All-from_recursion}
+use Rattle.std.specs.{Prelude.unwrap_or, List.AllByRecursion}
 use Rattle.pcm_base.specs.declared.sound.Cell.TheVariants.{Gap, Sample}
-use Rattle.pcm_base.specs.Blocks.{block_samples}
 use Rattle.pcm_base.specs.Cells.{Project, trimmed}
-use Rattle.pcm_base.specs.History.{IsHistory}
-use Rattle.pcm_base.specs.Pieces.{Sources}
+use Rattle.pcm_base.specs.{declared.sound.Cell.Cell, Blocks.block_samples, History.IsHistory, Pieces.Sources}
 use Rattle.disk_model.specs.declared.store.Store.{Ghosts}
 use Rattle.block_sequence.proofs.Whole.{length-blocks}
-use Rattle.clip_track.specs.declared.clips.Clip.{Clip}
-use Rattle.clip_track.specs.declared.items.Item.{Item}
 use Rattle.clip_track.specs.Clips.{AreClips, cells_from, clip_end}
-use Rattle.clip_track.specs.Items.{strip_cells, strip_len}
-use Rattle.clip_track.proofs.Layouts.{length-layout}
-use Rattle.clip_track.proofs.Strips.{length-strip_cells}
+use Rattle.clip_track.specs.{declared.clips.Clip.Clip, declared.items.Item.Item, Items.strip_cells, Items.strip_len}
+use Rattle.clip_track.proofs.{Layouts.length-layout, Strips.length-strip_cells}
 use Rattle.model_laws.specs.Bounds.{AreRising, IsClipboard, IsPin, IsPoint, IsProject, IsShort, IsTrack, ids_of}
 use Rattle.model_laws.proofs.Trimming.{trimmed-sample, trimmed-samples}
-use Rattle.project_state.specs.declared.track.Track.{Track}
-use Rattle.project_state.specs.Meaning.{meant, meant_track}
-use Rattle.record_body.specs.KeptSound.{IsSoundPoint, IsSoundTagged}
-use Rattle.record_body.specs.Sound.{AllSoundTracks}
-use Rattle.project_state.specs.Tracks.{AreAbove}
-use Rattle.editor_state.specs.Bounded.{IsBounded}
-use Rattle.editor_state.specs.Core.{Core}
+use Rattle.project_state.specs.{declared.track.Track.Track, Meaning.meant, Meaning.meant_track, Tracks.AreAbove}
+use Rattle.record_body.specs.{SavedValid.IsValidPoint, SavedValid.IsValidTagged, Valid.AllValidTracks}
 use Rattle.editor_state.specs.Studios.{IsStudio, MayPaste, PinsRise, clip_cells, pin_at}
-use Rattle.editor_state.specs.declared.pin.Pin.{Pin}
+use Rattle.editor_state.specs.{Bounded.IsBounded, Core.Core, declared.pin.Pin.Pin}
 
 -- ---- the cells of a layout end with a sample
 
@@ -49,41 +35,40 @@ module _ (src : Sources) where
   layout_ends at from [] clips = refl
   layout_ends at from (c ∷ cs) clips =
       clip_ends (c.start - at) (block_samples src c.blocks) (cells_from src (clip_end c) cs)
-      (omega (arith, clips.1, length-blocks src c.blocks))
-      (layout_ends (clip_end c) (clip_end c + 1) cs clips.3)
+      (omega (arith, clips.1, length-blocks src c.blocks)) (layout_ends (clip_end c) (clip_end c + 1) cs clips.3)
 
   -- ---- projects
 
-  rising : (m block least next : ℕ) (ts : List Track) → AreAbove least ts → AllSoundTracks m block next ts
+  rising : (m block least next : ℕ) (ts : List Track) → AreAbove least ts → AllValidTracks m block next ts
       → AreRising least next (ids_of (meant src ts))
-  rising m block least next [] above sound = tt
-  rising m block least next (t ∷ ts) above sound =
-      (above.0, sound.0.given, rising m block (t.id + 1) next ts above.1 sound.1)
+  rising m block least next [] above valid = tt
+  rising m block least next (t ∷ ts) above valid =
+      (above.0, valid.0.given, rising m block (t.id + 1) next ts above.1 valid.1)
 
-  tracks : (m block next : ℕ) (ts : List Track) → AllSoundTracks m block next ts
+  tracks : (m block next : ℕ) (ts : List Track) → AllValidTracks m block next ts
       → AllByRecursion IsTrack (meant src ts)
-  tracks m block next [] sound = tt
-  tracks m block next (t ∷ ts) sound =
-      let layout = sound.0.layout in (
+  tracks m block next [] valid = tt
+  tracks m block next (t ∷ ts) valid =
+      let layout = valid.0.layout in (
         record {
-          gain = sound.0.gain;
+          gain = valid.0.gain;
           cells = record {
             few = omega (arith, length-layout src t.layout layout.apart, layout.few);
             ended = layout_ends 0 0 t.layout layout.apart;
           };
         },
-        tracks m block next ts sound.1,
+        tracks m block next ts valid.1,
       )
 
-  project : (m block next : ℕ) (ts : List Track) → IsSoundPoint m block next ts → IsProject next (meant src ts)
+  project : (m block next : ℕ) (ts : List Track) → IsValidPoint m block next ts → IsProject next (meant src ts)
   project m block next ts point = record {
     few = omega (arith, point.few, length-map ts (meant_track src));
-    rising = rising m block 1 next ts point.rising point.sound;
-    tracks = All-from_recursion IsTrack (meant src ts) (tracks m block next ts point.sound);
+    rising = rising m block 1 next ts point.rising point.valid;
+    tracks = All-from_recursion IsTrack (meant src ts) (tracks m block next ts point.valid);
   }
 
   points : (m block next commit : ℕ) (ps : List (List Track × ℕ))
-      → AllByRecursion (IsSoundTagged m block next commit) ps
+      → AllByRecursion (IsValidTagged m block next commit) ps
       → AllByRecursion (IsPoint next commit) (map (λ p. (meant src p.0, p.1)) ps)
   points m block next commit [] all = tt
   points m block next commit (p ∷ ps) all =
@@ -92,7 +77,7 @@ module _ (src : Sources) where
   -- ---- pins and the clipboard
 
   pins : (m block track pin least : ℕ) (ps : List Pin) → PinsRise least pin ps
-      → AllByRecursion (λ (p : Pin). IsSoundPoint m block track p.point) ps
+      → AllByRecursion (λ (p : Pin). IsValidPoint m block track p.point) ps
       → (n : ℕ) (q : Project) → pin_at src ps n ≡ Some q → IsPin track pin n q
   pins m block track pin least [] rise all n q found = absurd (none-some q found)
   pins m block track pin least (p ∷ ps) rise all n q found = ⊎_elim

@@ -2,23 +2,20 @@
 use Rattle.std.proofs.Common.{◌≡◌, refl, ap, ℕ, ◌-◌, ℤ, pos, List, [], ◌∷◌, ◌++◌, map, flat_map, Option, Some, None}
 use Rattle.std.proofs.Common.{eqb, if◌then◌else◌}
 use Rattle.std.specs.List.{AllByRecursion}
-use Rattle.pcm_base.specs.declared.block.BlockRef.{BlockRef}
 use Rattle.pcm_base.specs.declared.piece.Piece.TheVariants.{Old, Scaled, Zero, Given}
-use Rattle.pcm_base.specs.declared.sound.Cell.TheVariants as cell
-use Rattle.pcm_base.specs.Arithmetic.{scaled, clamped}
-use Rattle.pcm_base.specs.Pieces.{Sources, stretch}
-use Rattle.disk_model.specs.Disk.{Files}
-use Rattle.disk_model.specs.declared.store.Store.{Ghosts}
+use Rattle.pcm_base.specs.{declared.block.BlockRef.BlockRef, Arithmetic.scaled, Arithmetic.clamped, Pieces.Sources}
+use Rattle.pcm_base.specs.{Pieces.stretch}
+use Rattle.disk_model.specs.{Disk.Files, declared.store.Store.Ghosts}
 use Rattle.sample_block.specs.Sources.{samples_on, sources_of}
 use Rattle.clip_track.specs.declared.items.Item.{Item}
 use Rattle.clip_track.specs.declared.items.Item.TheVariants.{Gap, Sound}
 use Rattle.clip_track.specs.Items.{item_blocks, item_cells, strip_blocks, strip_cells}
 use Rattle.project_state.specs.Meaning.{point_blocks, history_blocks}
-use Rattle.editor_state.specs.Core.{Core}
-use Rattle.editor_state.specs.declared.pin.Pin.{Pin}
 use Rattle.editor_state.specs.Studios.{SameBlocks, studio_by, pin_at, clip_cells, clip_blocks, pin_blocks, named_blocks}
+use Rattle.editor_state.specs.{Core.Core, declared.pin.Pin.Pin}
 use Rattle.editor_state.proofs.Lists.{all_left, all_right}
 use Rattle.editor_state.proofs.Blocks.BlockSounds.{SameSound, same_point, same_history, all_sound}
+use Rattle.pcm_base.specs.declared.sound.Cell.TheVariants as cell
 
 module _ (f g : ℕ → ℕ → ℤ) where
   abbrev was : Sources

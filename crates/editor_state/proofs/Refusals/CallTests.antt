@@ -1,34 +1,26 @@
 -- The tests of a call tell nothing of the disk, and its own tests nothing of a counter.
-use Rattle.std.proofs.Common.{◌≡◌, ⊎_elim, sym, subst, ℕ, ◌+◌, ◌-◌, ◌*◌, ◌==◌, nat_lt, not, Bool, true, false}
-use Rattle.std.proofs.Common.{Option, Some, None, List, [], ◌∷◌, length, map, Result, Ok, Err}
+use Rattle.std.proofs.Common.{◌≡◌, ⊎_elim, sym, subst, ℕ, ◌+◌, ◌-◌, ◌*◌, ◌==◌, nat_lt, not, Bool, true, false, Option}
+use Rattle.std.proofs.Common.{Some, None, List, [], ◌∷◌, length, map, Result, Ok, Err}
 use Rattle.std.specs.Prelude.{◌||◌, ◌&&◌, nat_le, is_none, take}
-use Rattle.pcm_base.specs.declared.command.Call.{Call}
-use Rattle.pcm_base.specs.declared.command.Call.TheVariants as call
 use Rattle.pcm_base.specs.declared.limits.TheConstants.{COUNTER_LIMIT, LONGEST_BODY, MAX_CELLS, MAX_TRACKS, MAX_VIEW}
-use Rattle.pcm_base.specs.declared.refusal.Refusal.{Refusal}
-use Rattle.pcm_base.specs.declared.refusal.Refusal.TheVariants as refusal
-use Rattle.pcm_base.specs.declared.wav.WavFault.{WavFault}
-use Rattle.pcm_base.specs.Cells.{cells_at, longest, tracks_from}
 use Rattle.pcm_base.specs.Counters.{commits_of, counter_tests, generations_of, no_room, pins_of, places_of, record_test}
 use Rattle.pcm_base.specs.Counters.{layouts_of, tracks_of}
-use Rattle.pcm_base.specs.Edits.{source_count}
-use Rattle.pcm_base.specs.Mix.{mix_length}
-use Rattle.pcm_base.specs.Outside.{Outside}
 use Rattle.pcm_base.specs.Refusals.{◌otherwise◌, bad_columns, bad_range, call_tests, channel_tests, empty_clipboard}
 use Rattle.pcm_base.specs.Refusals.{file_tests, import_tests, insert_tests, inserted_length, is_empty, length_limit}
 use Rattle.pcm_base.specs.Refusals.{no_pin, no_track, paste_tests, pasted_lengths, placed_length, range_tests}
 use Rattle.pcm_base.specs.Refusals.{refused_if, run_tests, shape_tests, too_narrow, track_limit, view_tests}
-use Rattle.pcm_base.specs.Run.{refusal_of, stop_of, stop_test}
 use Rattle.pcm_base.specs.Shape.{Shape, NewTrack, DropTrack, SetTrack, PutIn, EditRange, CutRun, CopyRun, PasteRun}
-use Rattle.pcm_base.specs.Shape.{MoveTo, Purge, PurgeTo, Look, Reclaim, Compact, Import, Export, Bounce, Back, Forward}
-use Rattle.pcm_base.specs.Shape.{View, Cells, Frames, Columns, Tracks, shape_of}
-use Rattle.pcm_base.specs.State.{State, clip_of, current}
-use Rattle.pcm_base.specs.Studio as model
-use Rattle.pcm_base.specs.Wave.{Sound, wav_of}
-use Rattle.editor_state.specs.Adding.{Outgrows}
-use Rattle.editor_state.specs.Core.{Core}
-use Rattle.editor_state.specs.Edits.{NotPrepared}
+use Rattle.pcm_base.specs.Shape.{MoveTo, Purge, Look, Import, Export, Back, Forward, View, Cells, Frames, Columns}
+use Rattle.pcm_base.specs.Shape.{Tracks, shape_of}
+use Rattle.pcm_base.specs.{declared.command.Call.Call, declared.refusal.Refusal.Refusal, declared.wav.WavFault.WavFault}
+use Rattle.pcm_base.specs.{Cells.cells_at, Cells.longest, Cells.tracks_from, Edits.source_count, Mix.mix_length}
+use Rattle.pcm_base.specs.{Outside.Outside, Run.refusal_of, Run.stop_of, Run.stop_test, State.State, State.clip_of}
+use Rattle.pcm_base.specs.{State.current, Wave.Sound, Wave.wav_of}
+use Rattle.editor_state.specs.{Adding.Outgrows, Core.Core, Edits.NotPrepared}
 use Rattle.editor_state.proofs.Refusals.RefusalEffects.{IsOwn, IsPlain, own_plain}
+use Rattle.pcm_base.specs.declared.command.Call.TheVariants as call
+use Rattle.pcm_base.specs.declared.refusal.Refusal.TheVariants as refusal
+use Rattle.pcm_base.specs.Studio as model
 
 -- a test tells nothing of it, nor of a counter
 abbrev pub IsOwnTest : Option Refusal → Type 0
@@ -139,14 +131,11 @@ line out s (PasteRun id at placing) = pastes s (placed_length placing at) id
 line out s (MoveTo Back) = one (s.history.cursor == 0) refusal.NothingToUndo tt
 line out s (MoveTo Forward) = one (s.history.cursor + 1 == length s.history.points) refusal.NothingToRedo tt
 line out s (Purge n) = range 0 n s.history.cursor
-line out s (PurgeTo bytes) = tt
 line out s (Look view) = views s view
-line out s (Reclaim most) = tt
-line out s Compact = tt
-line out s (Bounce name) = tt
 line out s (Import name) = imports out.rate s out.sound
 line out s (Export name) =
     one (nat_lt 4294967295 (36 + 4 * mix_length (current s))) (refusal.TooLong (mix_length (current s))) tt
+line out s _ = tt
 
 pub own : (out : Outside) (s : State) (c : Call) → IsOwnTest (call_tests out s c)
 own out s (call.Line c) = line out s (shape_of c)
@@ -164,13 +153,8 @@ stop None = tt
 stop (Some faults) = tt
 
 stops : (stopped : Option ℕ) (c : Call) → IsOwnTest (stop_test stopped c)
-stops stopped (call.Line c) = stop stopped
-stops stopped (call.Piece id tag samples) = stop stopped
-stops stopped call.Pin = stop stopped
-stops stopped (call.PinLen id) = stop stopped
-stops stopped (call.ReadPin id from count) = stop stopped
-stops stopped (call.LoadPin id from count) = stop stopped
 stops stopped (call.Unpin id) = tt
+stops stopped _ = stop stopped
 
 -- ---- the counters
 

@@ -1,24 +1,19 @@
 -- Which test refuses a commit.
-use Rattle.std.proofs.Common.{◌≡◌, refl, sym, ap, ◌∙◌, ℕ, ◌+◌, ◌^◌, ◌≤◌, ◌<◌, suc, Bool, true}
-use Rattle.std.proofs.Common.{Option, Some, None, arith, ◌==◌, if◌then◌else◌, false}
+use Rattle.std.proofs.Common.{◌≡◌, refl, sym, ap, ◌∙◌, ℕ, ◌+◌, ◌^◌, ◌≤◌, ◌<◌, suc, Bool, true, Option, Some, None}
+use Rattle.std.proofs.Common.{arith, ◌==◌, if◌then◌else◌, false}
 use Rattle.std.proofs.lemmas.Bool.{eqb-true, le-ltb, lt-ltb, true≢false}
 use Rattle.std.proofs.lemmas.Option.{none-some}
-use Rattle.pcm_base.specs.declared.command.Call.{Call}
-use Rattle.pcm_base.specs.declared.command.Call.TheVariants as call
-use Rattle.pcm_base.specs.declared.entry.SoundMove.{SoundMove}
-use Rattle.pcm_base.specs.declared.refusal.Refusal.{Refusal}
 use Rattle.pcm_base.specs.declared.refusal.Refusal.TheVariants.{SpaceSpent, RecordLimit}
 use Rattle.pcm_base.specs.Counters.{no_room, commits_of, generations_by, generations_of, pins_of, places_of}
 use Rattle.pcm_base.specs.Counters.{counter_tests, layouts_of, record_bytes, record_test}
-use Rattle.pcm_base.specs.Outside.{Outside}
 use Rattle.pcm_base.specs.Refusals.{◌otherwise◌, refused_if, call_tests}
 use Rattle.pcm_base.specs.Run.{outside, refusal_of, stop_of, stop_test}
-use Rattle.pcm_base.specs.Shape.{Shape, NewTrack, DropTrack, SetTrack, PutIn, EditRange, CutRun, CopyRun, PasteRun}
-use Rattle.pcm_base.specs.Shape.{MoveTo, Purge, PurgeTo, Look, Reclaim, Compact, Import, Export, Bounce, shape_of}
-use Rattle.pcm_base.specs.Shape.{is_commit}
-use Rattle.pcm_base.specs.declared.limits.TheConstants.{LONGEST_BODY}
-use Rattle.pcm_base.specs.Studio as model
+use Rattle.pcm_base.specs.Shape.{Shape, Compact, shape_of, is_commit}
+use Rattle.pcm_base.specs.{declared.command.Call.Call, declared.entry.SoundMove.SoundMove}
+use Rattle.pcm_base.specs.{declared.refusal.Refusal.Refusal, Outside.Outside, declared.limits.TheConstants.LONGEST_BODY}
 use Rattle.editor_state.specs.Adding.{Exceeds, Outgrows}
+use Rattle.pcm_base.specs.declared.command.Call.TheVariants as call
+use Rattle.pcm_base.specs.Studio as model
 use Rattle.editor_state.specs.Commits as commits
 
 pub fits : (have need : ℕ) → have + need ≤ 2 ^ 62 → no_room have need ≡ None
@@ -64,31 +59,13 @@ first_three None None None rest tail why h = absurd (none-some why h)
 first_four : (stop own x y rest tail : Option Refusal) (why : Refusal)
     → stop otherwise own otherwise x otherwise y ≡ Some why
     → stop otherwise own otherwise (x otherwise y otherwise rest) otherwise tail ≡ Some why
-first_four (Some r) own x y rest tail why h = h
-first_four None (Some r) x y rest tail why h = h
-first_four None None (Some r) y rest tail why h = h
-first_four None None None (Some r) rest tail why h = h
 first_four None None None None rest tail why h = absurd (none-some why h)
+first_four _ _ _ _ rest tail why h = h
 
 -- no commit packs the journal
 line_packs_none : (shape : Shape) → is_commit shape ≡ true → generations_by shape ≡ 0
 line_packs_none Compact is = absurd (true≢false (sym is))
-line_packs_none NewTrack is = refl
-line_packs_none (DropTrack id) is = refl
-line_packs_none (SetTrack id setting) is = refl
-line_packs_none (PutIn id at source) is = refl
-line_packs_none (EditRange id from to edit) is = refl
-line_packs_none (CutRun id n from to removing) is = refl
-line_packs_none (CopyRun id n from to) is = refl
-line_packs_none (PasteRun id at placing) is = refl
-line_packs_none (MoveTo move) is = refl
-line_packs_none (Purge n) is = refl
-line_packs_none (PurgeTo bytes) is = refl
-line_packs_none (Look view) is = refl
-line_packs_none (Reclaim limit) is = refl
-line_packs_none (Import name) is = refl
-line_packs_none (Export name) is = refl
-line_packs_none (Bounce name) is = refl
+line_packs_none _ is = refl
 
 pub commit_packs_none : {more : ℕ} (c : Call) → commits_of c ≡ suc more → generations_of c ≡ 0
 commit_packs_none {more = more} (call.Line c) many = line_packs_none (shape_of c) (by (is_commit (shape_of c)) many)

@@ -1,29 +1,19 @@
 -- The numbers of a refusal: what a counter had no room for.
 use Rattle.std.proofs.Common.{◌≡◌, ◌∙◌, ◌⊎◌, inl, inr, ⊎_elim, refl, sym, ap, subst, ℕ, suc, ◌+◌, ◌<◌, Bool, true}
 use Rattle.std.proofs.Common.{false, Option, Some, None, arith}
+use Rattle.std.proofs.{lemmas.Bool.ltb-true, lemmas.Option.none-some, lemmas.Option.same_Some}
 use Rattle.std.specs.Prelude.{nat_lt}
-use Rattle.std.proofs.lemmas.Bool.{ltb-true, true≢false}
-use Rattle.std.proofs.lemmas.Option.{none-some, same_Some}
-use Rattle.pcm_base.specs.declared.command.Call.{Call}
-use Rattle.pcm_base.specs.declared.entry.SoundMove.{SoundMove}
-use Rattle.pcm_base.specs.declared.refusal.Refusal.{Refusal}
-use Rattle.pcm_base.specs.declared.refusal.Refusal.TheVariants as refusal
-use Rattle.pcm_base.specs.declared.limits.TheConstants.{LONGEST_BODY}
 use Rattle.pcm_base.specs.Counters.{commits_of, layouts_of, no_room, record_test}
-use Rattle.pcm_base.specs.Outside.{Outside}
-use Rattle.pcm_base.specs.Refusals.{◌otherwise◌, call_tests, refused_if}
-use Rattle.pcm_base.specs.Run.{outside, stop_of}
-use Rattle.pcm_base.specs.Studio as model
+use Rattle.pcm_base.specs.{declared.command.Call.Call, declared.entry.SoundMove.SoundMove}
+use Rattle.pcm_base.specs.{declared.refusal.Refusal.Refusal, declared.limits.TheConstants.LONGEST_BODY, Outside.Outside}
+use Rattle.pcm_base.specs.{Refusals.◌otherwise◌, Refusals.call_tests, Refusals.refused_if, Run.outside, Run.stop_of}
 use Rattle.disk_model.specs.declared.store.Store.{Ghosts}
-use Rattle.editor_state.specs.Adding.{Outgrows}
-use Rattle.editor_state.specs.Bodies.{IsLength}
-use Rattle.editor_state.specs.Core.{Core}
-use Rattle.editor_state.specs.Exchanges.{is_broken_off}
 use Rattle.editor_state.specs.Spent.{IsNumberSpent, IsSpent, Needed, WouldMake}
-use Rattle.editor_state.specs.Studios.{studio_of}
-use Rattle.editor_state.proofs.Refusals.RefusalEffects.{IsOwn}
+use Rattle.editor_state.specs.{Adding.Outgrows, Bodies.IsLength, Core.Core, Studios.studio_of}
 use Rattle.editor_state.proofs.Refusals.CallTests.{own, own_by, stop}
-use Rattle.editor_state.proofs.Refusals.CommitTests.{IsCommitCall}
+use Rattle.editor_state.proofs.{Refusals.RefusalEffects.IsOwn, Refusals.CommitTests.IsCommitCall}
+use Rattle.pcm_base.specs.declared.refusal.Refusal.TheVariants as refusal
+use Rattle.pcm_base.specs.Studio as model
 
 either_of : (a b : Option Refusal) (why : Refusal) → a otherwise b ≡ Some why → (a ≡ Some why) ⊎ (b ≡ Some why)
 either_of None b why h = inr h
@@ -53,11 +43,6 @@ module _ {D : Type 0} (disk : Ghosts D) (s : Core D) (c : Call) (sound : SoundMo
   own_needed (refusal.SpaceSpent have need) own = absurd own
   own_needed (refusal.RecordLimit n) own = absurd own
   own_needed why own = tt
-
-  pub off_needed : (why : Refusal) → is_broken_off why ≡ true → Needed disk s c sound why
-  off_needed (refusal.SpaceSpent have need) off = absurd (true≢false (sym off))
-  off_needed (refusal.RecordLimit n) off = absurd (true≢false (sym off))
-  off_needed why off = tt
 
   pub tests_needed : (why : Refusal) → call_tests out t.state c ≡ Some why → Needed disk s c sound why
   tests_needed why h = own_needed why (own_by (call_tests out t.state c) why (own out t.state c) h)

@@ -1,16 +1,12 @@
 -- The tests of a call tell of no damaged file.
-use Rattle.std.proofs.Common.{◌≡◌, subst, ℕ, nat_lt, nat_le, ◌&&◌, not, ◌+◌, ◌^◌, Bool, true, false}
-use Rattle.std.proofs.Common.{Option, Some, None}
-use Rattle.pcm_base.specs.declared.refusal.Refusal.{Refusal}
-use Rattle.pcm_base.specs.declared.refusal.Refusal.TheVariants as refusal
+use Rattle.std.proofs.Common.{◌≡◌, subst, ℕ, nat_lt, nat_le, ◌&&◌, not, ◌+◌, ◌^◌, Bool, true, false, Option, Some, None}
 use Rattle.pcm_base.specs.Counters.{no_room, record_test}
-use Rattle.pcm_base.specs.declared.limits.TheConstants.{LONGEST_BODY}
 use Rattle.pcm_base.specs.Refusals.{◌otherwise◌, bad_range, refused_if}
-use Rattle.pcm_base.specs.Run.{stop_of}
+use Rattle.pcm_base.specs.{declared.refusal.Refusal.Refusal, declared.limits.TheConstants.LONGEST_BODY, Run.stop_of}
 use Rattle.envelope_view.specs.Answers.{IsUndamaged}
 use Rattle.project_state.specs.declared.track.Track.{Track}
-use Rattle.editor_state.specs.Adding.{Outgrows}
-use Rattle.editor_state.specs.Points.{lacks}
+use Rattle.editor_state.specs.{Adding.Outgrows, Points.lacks}
+use Rattle.pcm_base.specs.declared.refusal.Refusal.TheVariants as refusal
 
 -- a test tells of no damaged file
 abbrev pub TellsNone : Option Refusal → Type 0

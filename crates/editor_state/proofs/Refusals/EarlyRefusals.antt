@@ -1,38 +1,25 @@
 -- A call that is refused before the disk is asked, and what a record asks of it.
-use Rattle.std.proofs.Common.{◌≡◌, inl, inr, refl, sym, ℕ, suc, ◌+◌, ◌≤◌, List, [], Option, Some, None, IsSome}
-use Rattle.std.proofs.Common.{Err, true, arith}
-use Rattle.std.proofs.lemmas.Bool.{true≢false}
-use Rattle.std.proofs.lemmas.Option.{none-some}
+use Rattle.std.proofs.Common.{◌≡◌, inl, inr, refl, sym, ℕ, suc, ◌+◌, ◌≤◌, List, [], Option, Some, None, IsSome, Err}
+use Rattle.std.proofs.Common.{true, arith}
+use Rattle.std.proofs.{lemmas.Bool.true≢false, lemmas.Option.none-some}
 use Rattle.std.specs.List.{AllByRecursion}
-use Rattle.pcm_base.specs.declared.block.BlockRef.{BlockRef}
-use Rattle.pcm_base.specs.declared.command.Call.{Call}
-use Rattle.pcm_base.specs.declared.entry.SoundMove.{SoundMove}
-use Rattle.pcm_base.specs.declared.refusal.Refusal.{Refusal}
-use Rattle.pcm_base.specs.declared.refusal.Refusal.TheVariants as refusal
-use Rattle.pcm_base.specs.declared.limits.TheConstants.{LONGEST_BODY}
-use Rattle.pcm_base.specs.Counters.{Needs, commits_of, places_of}
-use Rattle.pcm_base.specs.Run.{Answers, outside, refusal_of}
-use Rattle.disk_model.specs.Room.{IsWithin}
-use Rattle.disk_model.specs.declared.store.Store.{Ghosts}
+use Rattle.pcm_base.specs.{declared.block.BlockRef.BlockRef, declared.command.Call.Call}
+use Rattle.pcm_base.specs.{declared.entry.SoundMove.SoundMove, declared.refusal.Refusal.Refusal}
+use Rattle.pcm_base.specs.{declared.limits.TheConstants.LONGEST_BODY, Counters.Needs, Counters.commits_of}
+use Rattle.pcm_base.specs.{Counters.places_of, Run.Answers, Run.outside, Run.refusal_of}
+use Rattle.disk_model.specs.{Room.IsWithin, declared.store.Store.Ghosts}
 use Rattle.disk_model.proofs.Frames.{Fewer, changed_none, kept_none}
 use Rattle.sample_block.specs.Sources.{AllWhole}
-use Rattle.project_journal.specs.Gate.{EachNow}
-use Rattle.project_journal.specs.Rooms.{append_room}
-use Rattle.editor_state.specs.Core.{Core}
-use Rattle.editor_state.specs.Exchanges.{may_begin}
-use Rattle.editor_state.specs.Left.{MayRemove}
-use Rattle.editor_state.specs.Purges.{Purges}
-use Rattle.editor_state.specs.Removals.{Frees}
-use Rattle.editor_state.specs.Spent.{Needed}
+use Rattle.project_journal.specs.{Gate.EachNow, Rooms.append_room}
 use Rattle.editor_state.specs.Studios.{IsGiven, IsHeld, IsStudio, SameBlocks, studio_of}
-use Rattle.editor_state.specs.Took.{Exchange, Took, asks, with_sound}
-use Rattle.editor_state.proofs.Images.ImageProjects.{keeps_now}
+use Rattle.editor_state.specs.{Core.Core, Exchanges.may_begin, Left.MayRemove, Purges.Purges, Removals.Frees}
+use Rattle.editor_state.specs.{Spent.Needed, Took.Exchange, Took.Took, Took.asks, Took.with_sound}
 use Rattle.editor_state.proofs.Refusals.RefusalEffects.{IsPlain, left_plain}
-use Rattle.editor_state.proofs.Calls.OtherFiles.{others_none}
-use Rattle.editor_state.proofs.Refusals.CallTests.{plain_refusal}
 use Rattle.editor_state.proofs.Refusals.PurgeNumbers.{other_purges, tested_purges}
-use Rattle.editor_state.proofs.Refusals.CommitTests.{commit_places}
 use Rattle.editor_state.proofs.Calls.FileRemovals.{RemovesNone, frees_refused, ids_same}
+use Rattle.editor_state.proofs.{Images.ImageProjects.keeps_now, Calls.OtherFiles.others_none}
+use Rattle.editor_state.proofs.{Refusals.CallTests.plain_refusal, Refusals.CommitTests.commit_places}
+use Rattle.pcm_base.specs.declared.refusal.Refusal.TheVariants as refusal
 
 pub some_none : {A : Type 0} (x : A) → Some x ≡ None → ⊥
 some_none x e = none-some x (sym e)
@@ -100,8 +87,7 @@ module _ {D : Type 0} (disk : Ghosts D) (s : Core D) (call : Call) (sound : Soun
       → refusal_of (outside (studio_of disk s) sound) (studio_of disk s) call blocks len ≡ Some why
       → Needed disk s call sound why → Took disk s (with_sound call sound (Err why)) s
   refuses blocks needs first needed =
-      stays
-      (tested_purges s.history (outside (studio_of disk s) sound) (studio_of disk s) call blocks len why first)
+      stays (tested_purges s.history (outside (studio_of disk s) sound) (studio_of disk s) call blocks len why first)
       (plain_refusal (outside (studio_of disk s) sound) (studio_of disk s) call blocks len why first)
       (λ held. (blocks, needs held)) needed
       (λ held. inl (record {

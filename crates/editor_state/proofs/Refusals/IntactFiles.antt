@@ -1,12 +1,10 @@
 -- No file is told to be damaged, where the disk held the studio.
 use Rattle.pcm_base.specs.declared.refusal.Refusal.{Refusal}
-use Rattle.pcm_base.specs.declared.refusal.Refusal.TheVariants as refusal
 use Rattle.disk_model.specs.declared.store.Store.{Ghosts}
 use Rattle.envelope_view.specs.Answers.{IsUndamaged}
 use Rattle.envelope_view.proofs.AnswerLaws.{whole_undamaged}
-use Rattle.editor_state.specs.Core.{Core}
-use Rattle.editor_state.specs.Left.{Left}
-use Rattle.editor_state.specs.Studios.{IsHeld, named_blocks}
+use Rattle.editor_state.specs.{Core.Core, Left.Left, Studios.IsHeld, Studios.named_blocks}
+use Rattle.pcm_base.specs.declared.refusal.Refusal.TheVariants as refusal
 
 -- what is told of the disk is so, and each block that the studio names is whole
 pub held_undamaged : {D : Type 0} (disk : Ghosts D) (old new : Core D) (why : Refusal)

@@ -2,28 +2,19 @@
 use Rattle.std.proofs.Common.{◌≡◌, ⊎_elim, refl, sym, subst, ℕ, ◌+◌, nat_lt, Bool, true, false, Option, Some, None}
 use Rattle.std.proofs.Common.{List, Result, Ok, Err, arith}
 use Rattle.std.proofs.lemmas.Bool.{true≢false}
-use Rattle.pcm_base.specs.declared.answer.Reply.{Reply}
-use Rattle.pcm_base.specs.declared.answer.Reply.TheVariants.{Done}
-use Rattle.pcm_base.specs.declared.command.Call.{Call}
-use Rattle.pcm_base.specs.declared.command.Call.TheVariants.{Line}
-use Rattle.pcm_base.specs.declared.command.Command.TheVariants.{PurgeTo}
-use Rattle.pcm_base.specs.declared.limits.TheConstants.{COUNTER_LIMIT, LONGEST_BODY}
-use Rattle.pcm_base.specs.declared.refusal.Refusal.{Refusal}
-use Rattle.pcm_base.specs.declared.refusal.Refusal.TheVariants as refusal
 use Rattle.pcm_base.specs.Counters.{commits_of, counter_tests, generations_of, no_room, pins_of, places_of, record_test}
 use Rattle.pcm_base.specs.Counters.{layouts_of, tracks_of}
-use Rattle.pcm_base.specs.History.{History}
-use Rattle.pcm_base.specs.Outside.{Outside}
-use Rattle.pcm_base.specs.Refusals.{◌otherwise◌, refused_if}
-use Rattle.pcm_base.specs.Run.{refusal_of, stop_of}
-use Rattle.pcm_base.specs.Studio as model
+use Rattle.pcm_base.specs.{declared.answer.Reply.Reply, declared.answer.Reply.TheVariants.Done}
+use Rattle.pcm_base.specs.{declared.command.Call.Call, declared.command.Call.TheVariants.Line}
+use Rattle.pcm_base.specs.{declared.command.Command.TheVariants.PurgeTo, declared.limits.TheConstants.COUNTER_LIMIT}
+use Rattle.pcm_base.specs.{declared.limits.TheConstants.LONGEST_BODY, declared.refusal.Refusal.Refusal, History.History}
+use Rattle.pcm_base.specs.{Outside.Outside, Refusals.◌otherwise◌, Refusals.refused_if, Run.refusal_of, Run.stop_of}
 use Rattle.project_state.specs.declared.track.Track.{Track}
 use Rattle.purge_size.specs.Sizes.{IsPurgeTo}
-use Rattle.editor_state.specs.Adding.{Outgrows}
-use Rattle.editor_state.specs.Core.{Core}
-use Rattle.editor_state.specs.Edits.{NotPrepared}
-use Rattle.editor_state.specs.Exchanges.{is_broken_off, may_have_begun}
-use Rattle.editor_state.specs.Purges.{Purges, PurgesTo}
+use Rattle.editor_state.specs.{Adding.Outgrows, Core.Core, Edits.NotPrepared, Exchanges.is_broken_off}
+use Rattle.editor_state.specs.{Exchanges.may_have_begun, Purges.Purges, Purges.PurgesTo}
+use Rattle.pcm_base.specs.declared.refusal.Refusal.TheVariants as refusal
+use Rattle.pcm_base.specs.Studio as model
 
 -- ---- refusals of no range
 

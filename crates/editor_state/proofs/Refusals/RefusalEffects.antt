@@ -1,13 +1,10 @@
 -- What a refusal leaves of a studio, by why it came.
-use Rattle.std.proofs.Common.{◌≡◌, inl, inr, refl}
-use Rattle.std.proofs.Common.{Result}
+use Rattle.std.proofs.Common.{inr, refl}
 use Rattle.pcm_base.specs.declared.refusal.Refusal.{Refusal}
-use Rattle.pcm_base.specs.declared.refusal.Refusal.TheVariants as refusal
 use Rattle.disk_model.specs.declared.store.Store.{Ghosts}
-use Rattle.editor_state.specs.Adding.{HasFailed, stopped_by}
+use Rattle.editor_state.specs.{Adding.HasFailed, Adding.stopped_by, Core.Core, Left.IsSoOf, Left.Left}
 use Rattle.block_cache.specs.Caches.{Entries}
-use Rattle.editor_state.specs.Core.{Core}
-use Rattle.editor_state.specs.Left.{IsSoOf, Left, Stops}
+use Rattle.pcm_base.specs.declared.refusal.Refusal.TheVariants as refusal
 
 -- nothing is told of the disk
 abbrev pub IsPlain : Refusal → Type 0
@@ -47,8 +44,3 @@ module _ {D : Type 0} (disk : Ghosts D) (s : Core D) where
   pub left_stopped : (store : D) → HasFailed disk s.store store
       → Left disk s (stopped_by disk s store) refusal.DiskFault
   left_stopped store failed = record { same = refl; so = inr failed }
-
-  -- the studio goes on as it did
-  pub goes_on : {R : Type 0} (told : Result R Refusal) (new : Core D) → new.stopped ≡ s.stopped
-      → disk.change_fault_count new.store ≡ disk.change_fault_count s.store → Stops disk s told new
-  goes_on told new same faults = inl (same, faults)

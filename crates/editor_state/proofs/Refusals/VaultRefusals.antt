@@ -1,20 +1,14 @@
 -- No vault refuses what is prepared for an edit that makes blocks, nor its records.
 use Rattle.std.proofs.Common.{◌≡◌, ⊎_elim, refl, sym, subst, ℕ, nat_lt, ◌+◌, ◌^◌, Bool, true, false, Option, Some, None}
 use Rattle.std.proofs.Common.{List, Result, Ok, Err, IfErr}
-use Rattle.pcm_base.specs.declared.refusal.Refusal.{Refusal}
-use Rattle.pcm_base.specs.declared.refusal.Refusal.TheVariants as refusal
-use Rattle.pcm_base.specs.Counters.{no_room, record_test}
-use Rattle.pcm_base.specs.declared.limits.TheConstants.{LONGEST_BODY}
-use Rattle.pcm_base.specs.Refusals.{◌otherwise◌, refused_if}
+use Rattle.pcm_base.specs.{declared.refusal.Refusal.Refusal, Counters.no_room, Counters.record_test}
+use Rattle.pcm_base.specs.{declared.limits.TheConstants.LONGEST_BODY, Refusals.◌otherwise◌, Refusals.refused_if}
 use Rattle.disk_model.specs.declared.store.Store.{Ghosts}
-use Rattle.piece_store.specs.Brought.{Brought}
-use Rattle.editor_state.specs.Adding.{Adds, Outgrows}
-use Rattle.editor_state.specs.Core.{Core}
-use Rattle.editor_state.specs.Edits.{NotPrepared}
-use Rattle.editor_state.specs.Exchanges.{may_begin}
-use Rattle.editor_state.specs.Vaults.{IsInside, IsInsideOr}
-use Rattle.editor_state.specs.Makes.{RefusedBrought, RefusedBroughtBy}
+use Rattle.block_writer.specs.Brought.{Brought}
+use Rattle.editor_state.specs.{Adding.Adds, Adding.Outgrows, Core.Core, Edits.NotPrepared, Exchanges.may_begin}
+use Rattle.editor_state.specs.{Vaults.IsInside, Vaults.IsInsideOr, Makes.RefusedBrought, Makes.RefusedBroughtBy}
 use Rattle.editor_state.proofs.Refusals.RefusalEffects.{IsPlain}
+use Rattle.pcm_base.specs.declared.refusal.Refusal.TheVariants as refusal
 
 -- a test tells of no vault
 abbrev AsksNone : Option Refusal → Type 0

@@ -5,11 +5,11 @@ ghost use Rattle.pcm_base.specs.declared.command.Call.TheVariants.{Line};
 ghost use Rattle.pcm_base.specs.Form.{IsInForm, IsTurn};
 ghost use Rattle.pcm_base.specs.Run.{Heard, name_in_line};
 ghost use Rattle.pin_turn.specs.Calls.{known};
-ghost use Rattle.editor_state.specs.Applied.{Applies, IsTold, move_of};
+ghost use Rattle.editor_state.specs.Applied.{Applies, IsTold, move_of, spanned};
 ghost use Rattle.editor_core.specs.Core.{core_of};
 ghost use Rattle.editor_state.specs.Vaults.{VaultCounted};
 ghost use Rattle.editor_state.specs.Studios.{IsStudio};
-ghost use Rattle.editor_state.specs.Took.{told_by};
+ghost use Rattle.editor_state.specs.Took.{as_reply};
 ghost use Rattle.studio_seats.specs.Desks.{IsAt, Says, asked, start_at, views};
 ghost use Rattle.studio_seats.specs.Stands.{origin};
 
@@ -45,7 +45,7 @@ impl<S: Store, V: Vault> Desk<S, V> {
         requires turn { IsTurn command.now }
         ensures same { IsAt self.now seat.new }
         ensures says { Says (origin S.Store V.Vault (start_at self.now))
-            (asked (Line command.now) (told_by (λ _. answer.new.reply) result.what)
+            (asked (Line command.now) (as_reply (λ _. answer.new.reply) result.what)
             (move_of (name_in_line command.now) (V.holds vault.old) (V.holds vault.new)))
             result (views (known seat.old) (known seat.new)) }
         ensures commit { (known seat.new).used_up ≡ false → answer.new.commit ≡ result.at }
@@ -68,19 +68,14 @@ impl<S: Store, V: Vault> Desk<S, V> {
                     requires studio { IsStudio S.Store (core_of held.old.studio) }
                     requires in_form { IsInForm command.now }
                     requires turn { IsTurn command.now }
-                    ensures applied { Applies S.Store (record {
-                      old = core_of held.old.studio;
-                      new = core_of held.new.studio;
-                      tells = V.tells vault.entry.now;
-                      old_sounds = V.holds vault.entry.now;
-                      new_sounds = V.holds vault.exit.now;
-                    }) (Line command.entry.now) result.what answer.exit.now }
+                    ensures applied { Applies S.Store (spanned (V.tells vault.entry.now) (core_of held.old.studio)
+                        (core_of held.new.studio) (V.holds vault.entry.now) (V.holds vault.exit.now))
+                        (Line command.entry.now) result.what answer.exit.now }
                     ensures at { result.at ≡ (core_of held.new.studio).commit_number }
                     ensures tells { V.tells vault.exit.now ≡ V.tells vault.entry.now }
                     ensures faults { IsSome (name_in_line command.entry.now) → VaultCounted result.what
                         (V.fault_count vault.entry.now) (V.fault_count vault.exit.now) }
-                    ensures untouched { name_in_line command.entry.now ≡ None
-                        → vault.exit.now ≡ vault.entry.now }
+                    ensures untouched { name_in_line command.entry.now ≡ None → vault.exit.now ≡ vault.entry.now }
                 {
                     let what = held.studio.apply(alloc, vault, command, answer);
                     let at = held.studio.commit_number();

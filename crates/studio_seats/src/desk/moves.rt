@@ -6,7 +6,7 @@ ghost use Rattle.pcm_base.specs.declared.command.Command.TheVariants.{Undo, Redo
 ghost use Rattle.pin_turn.specs.Calls.{known};
 ghost use Rattle.editor_core.specs.Core.{core_of};
 ghost use Rattle.editor_state.specs.Studios.{IsStudio};
-ghost use Rattle.editor_state.specs.Took.{Took, quietly, silent, told_by};
+ghost use Rattle.editor_state.specs.Took.{Took, quietly, silent, as_reply};
 ghost use Rattle.studio_seats.specs.Desks.{IsAt, Says, asked, start_at, views};
 ghost use Rattle.studio_seats.specs.Stands.{origin};
 
@@ -30,7 +30,7 @@ impl<S: Store, V: Vault> Desk<S, V> {
         requires { IsAt self.now seat.old }
         ensures same { IsAt self.now seat.new }
         ensures says { Says (origin S.Store V.Vault (start_at self.now))
-            (asked (Line Undo) (told_by (λ _. Done) result.what) silent)
+            (asked (Line Undo) (as_reply (λ _. Done) result.what) silent)
             result (views (known seat.old) (known seat.new)) }
         ensures number { IfOk result.what (λ n. n ≡ result.at) }
     {
@@ -41,7 +41,7 @@ impl<S: Store, V: Vault> Desk<S, V> {
                 &mut |held: &mut Held<S, V>| -> Said<u64>
                     requires { IsStudio S.Store (core_of held.old.studio) }
                     ensures took { Took S.Store (core_of held.old.studio)
-                        (quietly (Line Undo) (told_by (λ _. Done) result.what)) (core_of held.new.studio) }
+                        (quietly (Line Undo) (as_reply (λ _. Done) result.what)) (core_of held.new.studio) }
                     ensures at { result.at ≡ (core_of held.new.studio).commit_number }
                     ensures number { IfOk result.what (λ n. n ≡ result.at) }
                 {
@@ -62,7 +62,7 @@ impl<S: Store, V: Vault> Desk<S, V> {
         requires { IsAt self.now seat.old }
         ensures same { IsAt self.now seat.new }
         ensures says { Says (origin S.Store V.Vault (start_at self.now))
-            (asked (Line Redo) (told_by (λ _. Done) result.what) silent)
+            (asked (Line Redo) (as_reply (λ _. Done) result.what) silent)
             result (views (known seat.old) (known seat.new)) }
         ensures number { IfOk result.what (λ n. n ≡ result.at) }
     {
@@ -73,7 +73,7 @@ impl<S: Store, V: Vault> Desk<S, V> {
                 &mut |held: &mut Held<S, V>| -> Said<u64>
                     requires { IsStudio S.Store (core_of held.old.studio) }
                     ensures took { Took S.Store (core_of held.old.studio)
-                        (quietly (Line Redo) (told_by (λ _. Done) result.what)) (core_of held.new.studio) }
+                        (quietly (Line Redo) (as_reply (λ _. Done) result.what)) (core_of held.new.studio) }
                     ensures at { result.at ≡ (core_of held.new.studio).commit_number }
                     ensures number { IfOk result.what (λ n. n ≡ result.at) }
                 {
@@ -94,7 +94,7 @@ impl<S: Store, V: Vault> Desk<S, V> {
         requires { IsAt self.now seat.old }
         ensures same { IsAt self.now seat.new }
         ensures says { Says (origin S.Store V.Vault (start_at self.now))
-            (asked (Line (Purge count)) (told_by (λ _. Done) result.what) silent)
+            (asked (Line (Purge count)) (as_reply (λ _. Done) result.what) silent)
             result (views (known seat.old) (known seat.new)) }
         ensures number { IfOk result.what (λ n. n ≡ result.at) }
     {
@@ -105,7 +105,7 @@ impl<S: Store, V: Vault> Desk<S, V> {
                 &mut |held: &mut Held<S, V>| -> Said<u64>
                     requires { IsStudio S.Store (core_of held.old.studio) }
                     ensures took { Took S.Store (core_of held.old.studio)
-                        (quietly (Line (Purge count)) (told_by (λ _. Done) result.what)) (core_of held.new.studio) }
+                        (quietly (Line (Purge count)) (as_reply (λ _. Done) result.what)) (core_of held.new.studio) }
                     ensures at { result.at ≡ (core_of held.new.studio).commit_number }
                     ensures number { IfOk result.what (λ n. n ≡ result.at) }
                 {
@@ -133,7 +133,7 @@ impl<S: Store, V: Vault> Desk<S, V> {
         requires { IsAt self.now seat.old }
         ensures same { IsAt self.now seat.new }
         ensures says { Says (origin S.Store V.Vault (start_at self.now))
-            (asked (Line (PurgeTo bytes)) (told_by Purged result.what) silent)
+            (asked (Line (PurgeTo bytes)) (as_reply Purged result.what) silent)
             result (views (known seat.old) (known seat.new)) }
     {
         said_by(
@@ -143,7 +143,7 @@ impl<S: Store, V: Vault> Desk<S, V> {
                 &mut |held: &mut Held<S, V>| -> Said<u64>
                     requires { IsStudio S.Store (core_of held.old.studio) }
                     ensures took { Took S.Store (core_of held.old.studio)
-                        (quietly (Line (PurgeTo bytes)) (told_by Purged result.what)) (core_of held.new.studio) }
+                        (quietly (Line (PurgeTo bytes)) (as_reply Purged result.what)) (core_of held.new.studio) }
                     ensures at { result.at ≡ (core_of held.new.studio).commit_number }
                 {
                     let what = held.studio.purge_to(alloc, bytes);

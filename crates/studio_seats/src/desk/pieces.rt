@@ -6,7 +6,7 @@ ghost use Rattle.pcm_base.specs.declared.command.Call.TheVariants.{Piece};
 ghost use Rattle.pin_turn.specs.Calls.{known};
 ghost use Rattle.editor_core.specs.Core.{core_of};
 ghost use Rattle.editor_state.specs.Studios.{IsStudio};
-ghost use Rattle.editor_state.specs.Took.{Took, quietly, silent, told_by};
+ghost use Rattle.editor_state.specs.Took.{Took, quietly, silent, as_reply};
 ghost use Rattle.studio_seats.specs.Deeds.{number_after};
 ghost use Rattle.studio_seats.specs.Desks.{IsAt, Says, asked, start_at, views};
 ghost use Rattle.studio_seats.specs.Stands.{origin};
@@ -20,6 +20,14 @@ use pcm_base::{CHUNK_SAMPLES, Said};
 use std::alloc::Global;
 use std::marker::Brand;
 use std::sync::Wait;
+
+/// The next samples of a recording: to which track they come, with the recording's number as their tag.
+#[derive(Clone, Copy)]
+pub struct NextSamples<'s> {
+    pub track: u64,
+    pub tag: u64,
+    pub samples: &'s [i16],
+}
 
 /// How many samples of a recording were added or refused together, and what was answered.
 #[derive(Drop)]
@@ -41,24 +49,22 @@ impl<S: Store, V: Vault> Desk<S, V> {
         rt: &R,
         alloc: Global,
         seat: &mut DeskSeat<S, V>,
-        track: u64,
-        tag: u64,
-        samples: &[i16],
+        next: NextSamples<'_>,
     ) -> SaidPieces
         requires seat { IsAt self.now seat.old }
-        requires tag { (1 ≤ tag)
-            × (tag ≤ number_after (start_at self.now).commit_number (known seat.old).seen) }
-        requires few { length samples.now ≤ BATCH_SAMPLES }
+        requires tag { (1 ≤ next.tag)
+            × (next.tag ≤ number_after (start_at self.now).commit_number (known seat.old).seen) }
+        requires few { length next.samples.now ≤ BATCH_SAMPLES }
         ensures same { IsAt self.now seat.new }
         ensures says { Says (origin S.Store V.Vault (start_at self.now))
-            (asked (Piece track tag (take result.count samples.now)) (told_by (λ _. Done) result.said.what) silent)
-            result.said (views (known seat.old) (known seat.new)) }
+            (asked (Piece next.entry.track next.entry.tag (take result.count next.entry.samples.now))
+            (as_reply (λ _. Done) result.said.what) silent) result.said (views (known seat.old) (known seat.new)) }
         ensures number { IfOk result.said.what (λ n. n ≡ result.said.at) }
-        ensures count { (result.count ≡ length samples.now)
-            ⊎ ((result.count ≡ CHUNK_SAMPLES) × (CHUNK_SAMPLES < length samples.now)) }
+        ensures count { (result.count ≡ length next.entry.samples.now)
+            ⊎ ((result.count ≡ CHUNK_SAMPLES) × (CHUNK_SAMPLES < length next.entry.samples.now)) }
     {
-        let mut count = samples.len();
-        let said = self.try_pieces(rt, alloc, seat, track, tag, samples, &mut count);
+        let mut count = next.samples.len();
+        let said = self.try_pieces(rt, alloc, seat, next, &mut count);
         SaidPieces { count, said }
     }
 
@@ -68,24 +74,27 @@ impl<S: Store, V: Vault> Desk<S, V> {
         rt: &R,
         alloc: Global,
         seat: &mut DeskSeat<S, V>,
-        track: u64,
-        tag: u64,
-        samples: &[i16],
+        next: NextSamples<'_>,
         count: &mut usize,
     ) -> Said<u64>
         requires seat { IsAt self.now seat.old }
-        requires tag { (1 ≤ tag)
-            × (tag ≤ number_after (start_at self.now).commit_number (known seat.old).seen) }
-        requires few { length samples.now ≤ BATCH_SAMPLES }
-        requires whole { count.old ≡ length samples.now }
+        requires tag { (1 ≤ next.tag)
+            × (next.tag ≤ number_after (start_at self.now).commit_number (known seat.old).seen) }
+        requires few { length next.samples.now ≤ BATCH_SAMPLES }
+        requires whole { count.old ≡ length next.samples.now }
         ensures same { IsAt self.now seat.new }
         ensures says { Says (origin S.Store V.Vault (start_at self.now))
-            (asked (Piece track tag (take count.new samples.now)) (told_by (λ _. Done) result.what) silent)
-            result (views (known seat.old) (known seat.new)) }
+            (asked (Piece next.entry.track next.entry.tag (take count.new next.entry.samples.now))
+            (as_reply (λ _. Done) result.what) silent) result (views (known seat.old) (known seat.new)) }
         ensures number { IfOk result.what (λ n. n ≡ result.at) }
-        ensures count { (count.new ≡ length samples.now)
-            ⊎ ((count.new ≡ CHUNK_SAMPLES) × (CHUNK_SAMPLES < length samples.now)) }
+        ensures count { (count.new ≡ length next.entry.samples.now)
+            ⊎ ((count.new ≡ CHUNK_SAMPLES) × (CHUNK_SAMPLES < length next.entry.samples.now)) }
     {
+        let NextSamples {
+            track,
+            tag,
+            samples,
+        } = next;
         said_by(
             self.turn.with::<R, Said<u64>, _, Brand>(
                 rt,
@@ -96,7 +105,7 @@ impl<S: Store, V: Vault> Desk<S, V> {
                     requires few { length samples.now ≤ BATCH_SAMPLES }
                     ensures took { Took S.Store (core_of held.old.studio)
                         (quietly (Piece track tag (take count.exit.now samples.entry.now))
-                        (told_by (λ _. Done) result.what)) (core_of held.new.studio) }
+                        (as_reply (λ _. Done) result.what)) (core_of held.new.studio) }
                     ensures at { result.at ≡ (core_of held.new.studio).commit_number }
                     ensures number { IfOk result.what (λ n. n ≡ result.at) }
                     ensures count { (count.exit.now ≡ length samples.entry.now)

@@ -8,7 +8,7 @@ ghost use Rattle.pin_turn.specs.Calls.{known};
 ghost use Rattle.editor_core.specs.Core.{core_of};
 ghost use Rattle.editor_views.specs.Loads.{HasLoaded};
 ghost use Rattle.editor_state.specs.Studios.{IsStudio};
-ghost use Rattle.editor_state.specs.Took.{Took, quietly, silent, told_by};
+ghost use Rattle.editor_state.specs.Took.{Took, quietly, silent, as_reply};
 ghost use Rattle.studio_seats.specs.Deeds.{entries_of};
 ghost use Rattle.studio_seats.specs.Desks.{IsAt, Says, asked, start_at, views};
 ghost use Rattle.studio_seats.specs.Pins.{is_made};
@@ -34,7 +34,7 @@ impl<S: Store, V: Vault> Desk<S, V> {
         requires { IsAt self.now seat.old }
         ensures same { IsAt self.now seat.new }
         ensures says { Says (origin S.Store V.Vault (start_at self.now))
-            (asked call.Pin (told_by reply.Pinned result.what) silent)
+            (asked call.Pin (as_reply reply.Pinned result.what) silent)
             result (views (known seat.old) (known seat.new)) }
         ensures made { IfOk result.what (λ pin. IsTrue (is_made pin (entries_of (known seat.new).seen))) }
     {
@@ -45,7 +45,7 @@ impl<S: Store, V: Vault> Desk<S, V> {
                 &mut |held: &mut Held<S, V>| -> Said<u64>
                     requires { IsStudio S.Store (core_of held.old.studio) }
                     ensures took { Took S.Store (core_of held.old.studio)
-                        (quietly call.Pin (told_by reply.Pinned result.what)) (core_of held.new.studio) }
+                        (quietly call.Pin (as_reply reply.Pinned result.what)) (core_of held.new.studio) }
                     ensures at { result.at ≡ (core_of held.new.studio).commit_number }
                 {
                     let what = held.studio.pin();
@@ -65,7 +65,7 @@ impl<S: Store, V: Vault> Desk<S, V> {
         requires { IsAt self.now seat.old }
         ensures same { IsAt self.now seat.new }
         ensures says { Says (origin S.Store V.Vault (start_at self.now))
-            (asked (call.Unpin pin) (told_by (λ _. reply.Done) result.what) silent)
+            (asked (call.Unpin pin) (as_reply (λ _. reply.Done) result.what) silent)
             result (views (known seat.old) (known seat.new)) }
     {
         said_by(
@@ -75,7 +75,7 @@ impl<S: Store, V: Vault> Desk<S, V> {
                 &mut |held: &mut Held<S, V>| -> Said<()>
                     requires { IsStudio S.Store (core_of held.old.studio) }
                     ensures took { Took S.Store (core_of held.old.studio)
-                        (quietly (call.Unpin pin) (told_by (λ _. reply.Done) result.what)) (core_of held.new.studio) }
+                        (quietly (call.Unpin pin) (as_reply (λ _. reply.Done) result.what)) (core_of held.new.studio) }
                     ensures at { result.at ≡ (core_of held.new.studio).commit_number }
                 {
                     let what = held.studio.unpin(pin);
@@ -95,7 +95,7 @@ impl<S: Store, V: Vault> Desk<S, V> {
         requires { IsAt self.now seat.old }
         ensures same { IsAt self.now seat.new }
         ensures says { Says (origin S.Store V.Vault (start_at self.now))
-            (asked (call.PinLen pin) (told_by reply.Length result.what) silent)
+            (asked (call.PinLen pin) (as_reply reply.Length result.what) silent)
             result (views (known seat.old) (known seat.new)) }
     {
         said_by(
@@ -105,7 +105,7 @@ impl<S: Store, V: Vault> Desk<S, V> {
                 &mut |held: &mut Held<S, V>| -> Said<u64>
                     requires { IsStudio S.Store (core_of held.old.studio) }
                     ensures took { Took S.Store (core_of held.old.studio)
-                        (quietly (call.PinLen pin) (told_by reply.Length result.what)) (core_of held.new.studio) }
+                        (quietly (call.PinLen pin) (as_reply reply.Length result.what)) (core_of held.new.studio) }
                     ensures at { result.at ≡ (core_of held.new.studio).commit_number }
                 {
                     let what = held.studio.pin_len(pin);
@@ -134,7 +134,7 @@ impl<S: Store, V: Vault> Desk<S, V> {
         ensures same { IsAt self.now seat.new }
         ensures says { Says (origin S.Store V.Vault (start_at self.now))
             (asked (call.ReadPin pin from (length out.old))
-            (told_by (λ n. reply.Frames (take n out.new)) result.what) silent)
+            (as_reply (λ n. reply.Frames (take n out.new)) result.what) silent)
             result (views (known seat.old) (known seat.new)) }
         ensures bound { IfOk result.what (λ n. n ≤ length out.new) }
         ensures limit { IfOk result.what (λ n. 0 < n → from + n ≤ MAX_CELLS) }
@@ -148,7 +148,7 @@ impl<S: Store, V: Vault> Desk<S, V> {
                     requires { IsStudio S.Store (core_of held.old.studio) }
                     ensures took { Took S.Store (core_of held.old.studio)
                         (quietly (call.ReadPin pin from (length out.entry.now))
-                        (told_by (λ n. reply.Frames (take n out.exit.now)) result.what))
+                        (as_reply (λ n. reply.Frames (take n out.exit.now)) result.what))
                         (core_of held.new.studio) }
                     ensures at { result.at ≡ (core_of held.new.studio).commit_number }
                     ensures bound { IfOk result.what (λ n. n ≤ length out.exit.now) }
@@ -183,7 +183,7 @@ impl<S: Store, V: Vault> Desk<S, V> {
         ensures same { IsAt self.now seat.new }
         ensures says { Says (origin S.Store V.Vault (start_at self.now))
             (asked (call.LoadPin pin from n)
-            (told_by (λ _. reply.Loaded (tracks_in loaded.new)) result.what) silent)
+            (as_reply (λ _. reply.Loaded (tracks_in loaded.new)) result.what) silent)
             result (views (known seat.old) (known seat.new)) }
         ensures loaded { IfOk result.what (λ count. HasLoaded n count loaded.new) }
         ensures spent { (known seat.new).used_up ≡ true → loaded.new ≡ loaded.old }
@@ -198,7 +198,7 @@ impl<S: Store, V: Vault> Desk<S, V> {
                     requires few { from + n < 2 ^ 64 }
                     ensures took { Took S.Store (core_of held.old.studio)
                         (quietly (call.LoadPin pin from n)
-                        (told_by (λ _. reply.Loaded (tracks_in loaded.exit.now)) result.what))
+                        (as_reply (λ _. reply.Loaded (tracks_in loaded.exit.now)) result.what))
                         (core_of held.new.studio) }
                     ensures at { result.at ≡ (core_of held.new.studio).commit_number }
                     ensures loaded { IfOk result.what (λ count. HasLoaded n count loaded.exit.now) }

@@ -7,7 +7,7 @@ ghost use Rattle.pin_turn.specs.Calls.{known};
 ghost use Rattle.editor_core.specs.Core.{core_of};
 ghost use Rattle.editor_cleanup.specs.Frees.{Reclaims};
 ghost use Rattle.editor_state.specs.Studios.{IsStudio};
-ghost use Rattle.editor_state.specs.Took.{silent, told_by};
+ghost use Rattle.editor_state.specs.Took.{silent, as_reply};
 ghost use Rattle.studio_seats.specs.Desks.{IsAt, Says, asked, start_at, views};
 ghost use Rattle.studio_seats.specs.Stands.{origin};
 
@@ -36,7 +36,7 @@ impl<S: Store, V: Vault> Desk<S, V> {
         requires { IsAt self.now seat.old }
         ensures same { IsAt self.now seat.new }
         ensures says { Says (origin S.Store V.Vault (start_at self.now))
-            (asked (Line (Reclaim limit)) (told_by Freed result.what) silent)
+            (asked (Line (Reclaim limit)) (as_reply Freed result.what) silent)
             result (views (known seat.old) (known seat.new)) }
     {
         said_by(

@@ -1,9 +1,9 @@
 -- The whole page is read and kept, and a part of it is answered.
-use Rattle.std.proofs.Common.{◌*◌, ◌/◌, ◌%◌, length, subst, sym, ◌∙◌, arith, Bool, inl, inr, ⊎_elim}
+use Rattle.std.proofs.Common.{◌*◌, ◌/◌, ◌%◌, length, ◌∙◌, arith, inl, inr, ⊎_elim}
 use Rattle.std.proofs.lemmas.Grind.{common_steps}
-use Rattle.std.specs.Prelude.{IsTrue}
 use Rattle.block_cache.proofs.CacheLaws.{keeps_frames, keeps_turn}
 use Rattle.block_cache.proofs.PageLaws.{frame_page_read, frame_part_read}
+use Rattle.disk_model.proofs.Frames.{tells_on}
 use Rattle.block_cache.proofs.frames.load_page.Goals as goal
 
 pub returns-clause-cache : goal.returns-clause-cache
@@ -12,11 +12,9 @@ returns-clause-cache g c = keeps_turn _ _ _ c.args.cache.now c.compare_kept.new.
     (keeps_frames _ _ c.args.level c.args.block (c.args.from / 256) c.read_compared_frames.new.out
     c.compare_kept.new.cache c.keep_frames.new.self
     (λ told.
-    let still : IsTrue (g.S.Store.tells c.compare_kept.new.store) =
-    subst (λ (b : Bool). IsTrue b) (sym c.compare_kept.ensures.kept.same_tells) told in
+    let still = tells_on c.compare_kept.ensures.kept told in
     frame_page_read (g.S.Store.reads c.args.store.now) (g.S.Store.reads c.compare_kept.new.store) c.args.level
-    c.args.block
-    (c.args.from / 256) (c.args.from / 256 * 256) _ c.read_compared_frames.new.out
+    c.args.block (c.args.from / 256) (c.args.from / 256 * 256) _ c.read_compared_frames.new.out
     c.compare_kept.ensures.kept.same_reads (omega arith) (c.in_default.ensures.header told)
     (c.in_default-read_compared_frames.ensures.whole still (grind (arith, common_steps)))
     (c.in_default-read_compared_frames.ensures.frames still))
@@ -25,8 +23,7 @@ returns-clause-cache g c = keeps_turn _ _ _ c.args.cache.now c.compare_kept.new.
 
 pub returns-clause-frames : goal.returns-clause-frames
 returns-clause-frames g c = λ told.
-    let still : IsTrue (g.S.Store.tells c.compare_kept.new.store) =
-    subst (λ (b : Bool). IsTrue b) (sym c.compare_kept.ensures.kept.same_tells) told in
+    let still = tells_on c.compare_kept.ensures.kept told in
     frame_part_read (g.S.Store.reads c.args.store.now) (g.S.Store.reads c.compare_kept.new.store) c.args.level
     c.args.block.id c.args.block.len
     (c.args.from / 256 * 256) c.args.from (c.args.from % 256) (length c.args.out.now) _ c.read_compared_frames.new.out _

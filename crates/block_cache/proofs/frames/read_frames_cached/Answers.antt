@@ -2,8 +2,7 @@
 use Rattle.std.proofs.Common.{ℕ, ◌+◌, ◌-◌, arith, length}
 use Rattle.peak_summary.specs.Peaks.{frame_count}
 use Rattle.block_store.specs.Reads.{frame_len}
-use Rattle.block_store.proofs.FaultLaws.{sound_result}
-use Rattle.block_store.proofs.FrameLaws.{frames_result, frames_within}
+use Rattle.block_store.proofs.{FaultLaws.valid_result, FrameLaws.frames_result, FrameLaws.frames_within}
 use Rattle.block_cache.specs.Pages.{page_end}
 use Rattle.block_cache.proofs.frames.read_frames_cached.Goals as goal
 
@@ -13,10 +12,10 @@ returns-clause-read g c = λ xs told block len.
     c.args.from (length c.args.out.now) xs c.read_pages.new.out block len c.requires.within
     (c.read_pages.ensures.frames told)
 
-pub returns-clause-sound : goal.returns-clause-sound
-returns-clause-sound g c = λ xs told block len.
+pub returns-clause-valid : goal.returns-clause-valid
+returns-clause-valid g c = λ xs told block len.
     let end : ℕ = page_end 256 (frame_count (frame_len c.args.level) c.args.block.len) (c.args.from + length
     c.args.out.now - 1) in
     let within = frames_within c.args.level c.args.block.len 0 end (omega arith) in
-    sound_result c.read_pages.result (g.S.Store.reads c.args.store.now) c.args.block.id c.args.block.len
+    valid_result c.read_pages.result (g.S.Store.reads c.args.store.now) c.args.block.id c.args.block.len
     _ xs block len (omega (arith, within)) (c.read_pages.ensures.damaged told)

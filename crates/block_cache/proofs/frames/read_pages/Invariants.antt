@@ -1,12 +1,10 @@
 -- The frames so far are those of the file, and nothing of the disk has changed.
 use Rattle.std.proofs.Common.{◌≡◌, ◌<◌, ◌≤◌, ◌+◌, ◌*◌, ◌-◌, take, length, [], ◌∷◌}
 use Rattle.std.specs.Prelude.{IsTrue}
-use Rattle.disk_model.specs.Disk.{bytes_of}
-use Rattle.disk_model.specs.Frames.{Kept}
+use Rattle.disk_model.specs.{Disk.bytes_of, Frames.Kept}
 use Rattle.peak_summary.specs.Peaks.{frame_count}
 use Rattle.block_store.specs.Reads.{HasHeader, frame_len, level_place, stored_frames}
-use Rattle.block_cache.specs.Pages.{page_end}
-use Rattle.block_cache.specs.Caches.{HasFrames, KeepsCache, SameCache}
+use Rattle.block_cache.specs.{Pages.page_end, Caches.HasFrames, Caches.KeepsCache, Caches.SameCache}
 use Rattle.block_cache.proofs.frames.read_pages.Given as goal
 
 abbrev pub invariant-pages : goal.invariant-pages

@@ -7,7 +7,7 @@ use Rattle.block_cache.proofs.PageLaws.{frame_page_header, frame_page_len, frame
 use Rattle.block_cache.proofs.frames_once.read_part.Goals as goal
 
 pub returns-then-copy_frames-clause-cache : goal.returns-then-copy_frames-clause-cache
-returns-then-copy_frames-clause-cache g c = keeps_same _ _ _ _ _ c.copy_frames.ensures.same
+returns-then-copy_frames-clause-cache g c = keeps_same c.copy_frames.ensures.same
 
 pub returns-then-copy_frames-clause-frames : goal.returns-then-copy_frames-clause-frames
 returns-then-copy_frames-clause-frames g c = λ told.
@@ -36,7 +36,7 @@ read_alone-requires-clause-cached g c = λ told. right_same _ _ _ c.copy_frames.
 
 pub returns-clause-cache : goal.returns-clause-cache
 returns-clause-cache g c = keeps_turn _ _ _ c.args.cache.now c.copy_frames.new.self c.read_alone.new.cache
-    (keeps_same _ _ _ _ _ c.copy_frames.ensures.same) c.read_alone.ensures.cache
+    (keeps_same c.copy_frames.ensures.same) c.read_alone.ensures.cache
 
 pub returns-then-copy_frames-clause-whole : goal.returns-then-copy_frames-clause-whole
 returns-then-copy_frames-clause-whole g c = λ told.

@@ -1,8 +1,7 @@
 -- The frames so far are those of the file, and nothing of the disk has changed.
 use Rattle.std.proofs.Common.{◌≡◌, ◌<◌, ◌≤◌, ◌+◌, ◌*◌, ◌-◌, take, length, [], ◌∷◌}
 use Rattle.std.specs.Prelude.{IsTrue}
-use Rattle.disk_model.specs.Disk.{bytes_of}
-use Rattle.disk_model.specs.Frames.{Kept}
+use Rattle.disk_model.specs.{Disk.bytes_of, Frames.Kept}
 use Rattle.block_store.specs.Reads.{HasHeader, level_place, stored_frames}
 use Rattle.block_cache.specs.Caches.{HasFrames, KeepsCache, SameCache}
 use Rattle.block_cache.proofs.frames_once.read_parts.Given as goal

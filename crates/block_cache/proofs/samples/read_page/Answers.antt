@@ -5,7 +5,7 @@ use Rattle.block_cache.proofs.samples.read_page.Goals as goal
 
 pub returns-clause-cache : goal.returns-clause-cache
 returns-clause-cache g c = keeps_turn _ _ _ c.args.cache.now c.take_page.new.cache c.release_read.new.cache
-    c.take_page.ensures.cache (keeps_same _ _ _ _ _ c.release_read.ensures)
+    c.take_page.ensures.cache (keeps_same c.release_read.ensures)
 
 pub returns-clause-hit : goal.returns-clause-hit
 returns-clause-hit g c = λ has.

@@ -1,7 +1,7 @@
 -- What stands in the file of a block of the disk are its samples.
 use Rattle.std.proofs.Common.{◌+◌, ◌-◌, ◌*◌, ◌≤◌, arith, length}
 use Rattle.sample_block.specs.Spelling.{size_of}
-use Rattle.block_store.proofs.FaultLaws.{sound_result, read_result}
+use Rattle.block_store.proofs.FaultLaws.{valid_result, read_result}
 use Rattle.block_cache.specs.Pages.{page_end}
 use Rattle.block_cache.proofs.samples.read_samples_cached.Goals as goal
 
@@ -10,9 +10,9 @@ returns-clause-read g c = λ xs told block len.
     read_result c.read_pages.result (g.S.Store.reads c.args.store.now) c.args.block.id c.args.block.len c.args.from
     (length c.args.out.now) xs c.read_pages.new.out block len c.requires.within (c.read_pages.ensures.samples told)
 
-pub returns-clause-sound : goal.returns-clause-sound
-returns-clause-sound g c = λ xs told block len.
+pub returns-clause-valid : goal.returns-clause-valid
+returns-clause-valid g c = λ xs told block len.
     let within : 16 + 2 * page_end 4096 c.args.block.len (c.args.from + length c.args.out.now - 1) ≤ size_of
     c.args.block.len = omega arith in
-    sound_result c.read_pages.result (g.S.Store.reads c.args.store.now) c.args.block.id c.args.block.len
+    valid_result c.read_pages.result (g.S.Store.reads c.args.store.now) c.args.block.id c.args.block.len
     _ xs block len within (c.read_pages.ensures.damaged told)

@@ -7,7 +7,7 @@ use Rattle.block_cache.proofs.PageLaws.{page_header, page_samples}
 use Rattle.block_cache.proofs.samples.take_page.Goals as goal
 
 pub returns-then-copy_samples-clause-cache : goal.returns-then-copy_samples-clause-cache
-returns-then-copy_samples-clause-cache g c = keeps_same _ _ _ _ _ c.copy_samples.ensures.same
+returns-then-copy_samples-clause-cache g c = keeps_same c.copy_samples.ensures.same
 
 pub returns-then-copy_samples-clause-samples : goal.returns-then-copy_samples-clause-samples
 returns-then-copy_samples-clause-samples g c = λ told.
@@ -36,4 +36,4 @@ load_page-requires-clause-cached g c = λ told. right_same _ _ _ c.copy_samples.
 
 pub returns-clause-cache : goal.returns-clause-cache
 returns-clause-cache g c = keeps_turn _ _ _ c.args.cache.now c.copy_samples.new.self c.load_page.new.cache
-    (keeps_same _ _ _ _ _ c.copy_samples.ensures.same) c.load_page.ensures.cache
+    (keeps_same c.copy_samples.ensures.same) c.load_page.ensures.cache

@@ -1,7 +1,7 @@
 -- What stands in the file of a block of the disk are its samples.
 use Rattle.std.proofs.Common.{◌+◌, ◌*◌, ◌≤◌, arith, length}
 use Rattle.sample_block.specs.Spelling.{size_of}
-use Rattle.block_store.proofs.FaultLaws.{sound_result, read_result}
+use Rattle.block_store.proofs.FaultLaws.{valid_result, read_result}
 use Rattle.block_cache.proofs.samples_once.read_samples_once.Goals as goal
 
 pub returns-clause-read : goal.returns-clause-read
@@ -9,9 +9,9 @@ returns-clause-read g c = λ xs told block len.
     read_result c.read_parts.result (g.S.Store.reads c.args.store.now) c.args.block.id c.args.block.len c.args.from
     (length c.args.out.now) xs c.read_parts.new.out block len c.requires.within (c.read_parts.ensures.samples told)
 
-pub returns-clause-sound : goal.returns-clause-sound
-returns-clause-sound g c = λ xs told block len.
+pub returns-clause-valid : goal.returns-clause-valid
+returns-clause-valid g c = λ xs told block len.
     let within : 16 + 2 * (c.args.from + length c.args.out.now) ≤ size_of c.args.block.len =
     omega (arith, c.requires.within) in
-    sound_result c.read_parts.result (g.S.Store.reads c.args.store.now) c.args.block.id c.args.block.len
+    valid_result c.read_parts.result (g.S.Store.reads c.args.store.now) c.args.block.id c.args.block.len
     _ xs block len within (c.read_parts.ensures.damaged told)

@@ -1,8 +1,7 @@
 -- The goals of `cut_off` that the search leaves open.
 use Rattle.std.proofs.Common.{◌≡◌, ◌+◌, ◌≤◌, ◌++◌, List, [], ◌∷◌, get_or, ap, ◌∙◌, ℤ, arith}
-use Rattle.pcm_base.specs.declared.piece.Piece.{Piece}
-use Rattle.pcm_base.specs.declared.piece.Piece.TheVariants.{Old}
 use Rattle.pcm_base.specs.Pieces.{all_samples, piece_len, part_of}
+use Rattle.pcm_base.specs.{declared.piece.Piece.Piece, declared.piece.Piece.TheVariants.Old}
 use Rattle.pcm_base.proofs.Pieces.{total-append, piece_len-part, IsValid-part, Fits-part, AllValid-append}
 use Rattle.pcm_base.proofs.Pieces.{AllFit-append}
 use Rattle.block_sequence.proofs.Rest.{valid_at, fits_at, below, total_next, samples_next, samples_part, samples_push}

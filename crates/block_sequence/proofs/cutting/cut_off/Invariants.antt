@@ -2,8 +2,7 @@
 use Rattle.std.proofs.Common.{◌≡◌, ℕ, List, ◌+◌, ◌-◌, ◌≤◌, ◌++◌, length, drop}
 use Rattle.pcm_base.specs.Pieces.{Sources, all_samples, total, AllValid, AllFit}
 use Rattle.pcm_base.specs.declared.block.BlockRef.{BlockRef}
-use Rattle.block_sequence.specs.Origins.{AllFrom}
-use Rattle.block_sequence.specs.Places.{samples_from, total_from}
+use Rattle.block_sequence.specs.{Origins.AllFrom, Places.samples_from, Places.total_from}
 use Rattle.block_sequence.proofs.cutting.cut_off.Given as goal
 
 abbrev pub invariant-loop-left : goal.invariant-loop-left

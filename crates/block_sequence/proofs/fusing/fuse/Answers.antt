@@ -1,15 +1,10 @@
 -- The goals of `fuse` that the search leaves open.
 use Rattle.std.proofs.Common.{List, sym, subst, ap, ◌∙◌, filter}
-use Rattle.pcm_base.specs.Pieces.{all_samples}
+use Rattle.pcm_base.specs.{Pieces.all_samples, declared.piece.Piece.Piece}
 use Rattle.block_sequence.proofs.HalfFull.{AllValid-filter, AllFit-filter, total-filter, samples-filter}
 use Rattle.block_sequence.proofs.HalfFull.{IsHalfFull-fused}
-use Rattle.block_sequence.proofs.Count.{count_fused}
-use Rattle.block_sequence.proofs.Room.{room_fused}
-use Rattle.block_sequence.proofs.Rule.{laid_out}
-use Rattle.block_sequence.specs.Fuse.{is_not_empty}
-use Rattle.pcm_base.specs.declared.piece.Piece.{Piece}
-use Rattle.block_sequence.specs.Origins.{AllFrom}
-use Rattle.block_sequence.proofs.Origins.{AllFrom-filter}
+use Rattle.block_sequence.proofs.{Count.count_fused, Room.room_fused, Rule.laid_out, Origins.AllFrom-filter}
+use Rattle.block_sequence.specs.{Fuse.is_not_empty, Origins.AllFrom}
 use Rattle.block_sequence.proofs.fusing.fuse.Goals as goal
 
 pub lay_apart-requires-clause-valid : goal.lay_apart-requires-clause-valid

@@ -1,22 +1,19 @@
 -- The goals of `lay_clip` that the search leaves open.
 use Rattle.std.proofs.Common.{◌≡◌, ℕ, Bool, ◌+◌, ◌++◌, get_or, drop, List, ◌∷◌, sym, ap, ap₂, ◌∙◌, arith}
 use Rattle.std.proofs.lemmas.List.{drop_more}
-use Rattle.pcm_base.specs.declared.piece.Piece.{Piece}
-use Rattle.pcm_base.specs.Pieces.{whole, all_samples}
-use Rattle.block_sequence.specs.Fuse as layout
-use Rattle.block_sequence.specs.Laying as laying
-use Rattle.block_sequence.specs.Laid.{no_piece, parts, all_laid_samples}
-use Rattle.block_sequence.specs.declared.types.Laid.TheVariants.{Keep}
+use Rattle.pcm_base.specs.{declared.piece.Piece.Piece, Pieces.whole, Pieces.all_samples}
+use Rattle.block_sequence.specs.{Laid.no_piece, Laid.parts, Laid.all_laid_samples, declared.types.Laid.TheVariants.Keep}
 use Rattle.block_sequence.proofs.Rest.{total_next, total_rest, valid_at, fits_at}
 use Rattle.block_sequence.proofs.Out.{AllMade-push}
-use Rattle.block_sequence.proofs.Clip.{laid_from, goes_on, stops, kept_parts, kept_samples, kept_is_made}
-use Rattle.block_sequence.proofs.Clip.{sound_is_whole}
+use Rattle.block_sequence.proofs.Clip.{laid_from, goes_on, stops, kept_parts, kept_samples, kept_is_made, full_is_whole}
 use Rattle.block_sequence.proofs.Origins.{from_at, AllLaidFrom-push, block_from}
-use Rattle.block_sequence.proofs.fusing.lay_clip.Goals as goal
 use Rattle.block_sequence.proofs.fusing.lay_clip.Goals.{then-ends_run+in_ok-lay_between+in_ok-push, else-ends_run}
+use Rattle.block_sequence.specs.Fuse as layout
+use Rattle.block_sequence.specs.Laying as laying
+use Rattle.block_sequence.proofs.fusing.lay_clip.Goals as goal
 
 pub block_of-block-requires : goal.block_of-block-requires
-block_of-block-requires c = sound_is_whole c.args.m _ _ _ (sym c.ends_run.ensures ∙ c.if-ends_run.true)
+block_of-block-requires c = full_is_whole c.args.m _ _ _ (sym c.ends_run.ensures ∙ c.if-ends_run.true)
 
 pub overflow_add-run : goal.overflow_add-run
 overflow_add-run c =

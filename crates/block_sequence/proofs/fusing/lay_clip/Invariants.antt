@@ -1,11 +1,9 @@
 -- What the loop of `lay_clip` keeps.
 use Rattle.std.proofs.Common.{◌≡◌, ℕ, List, ◌+◌, ◌≤◌, ◌++◌, drop}
-use Rattle.pcm_base.specs.Pieces.{Sources, all_samples, total}
-use Rattle.pcm_base.specs.declared.block.BlockRef.{BlockRef}
-use Rattle.block_sequence.specs.Origins.{AllFrom, AllLaidFrom}
-use Rattle.block_sequence.specs.Laying as laying
-use Rattle.block_sequence.specs.Laid.{parts, all_laid_samples, AllMade}
+use Rattle.pcm_base.specs.{Pieces.Sources, Pieces.all_samples, Pieces.total, declared.block.BlockRef.BlockRef}
+use Rattle.block_sequence.specs.{Origins.AllFrom, Origins.AllLaidFrom, Laid.parts, Laid.all_laid_samples, Laid.AllMade}
 use Rattle.block_sequence.proofs.Clip.{laid_from}
+use Rattle.block_sequence.specs.Laying as laying
 use Rattle.block_sequence.proofs.fusing.lay_clip.Given as goal
 
 abbrev pub invariant-loop-i : goal.invariant-loop-i

@@ -1,14 +1,11 @@
 -- The goals of `lay_run` that the search leaves open.
 use Rattle.std.proofs.Common.{◌≡◌, ◌+◌, ◌<◌, ◌++◌, length, drop, List, ◌∷◌, ℤ, refl, sym, ap, ◌∙◌, arith}
-use Rattle.block_sequence.specs.Fuse as layout
-use Rattle.block_sequence.specs.Fuse.{added}
 use Rattle.block_sequence.specs.Laid.{parts, all_laid_samples}
-use Rattle.block_sequence.specs.declared.types.Laid.{Laid}
-use Rattle.block_sequence.specs.declared.types.Laid.TheVariants.{Make}
+use Rattle.block_sequence.specs.{Fuse.added, declared.types.Laid.Laid, declared.types.Laid.TheVariants.Make}
 use Rattle.block_sequence.proofs.Sizes.{made, made_next, added_next, added_sizes, added_all}
-use Rattle.block_sequence.proofs.Rest.{none_left}
 use Rattle.block_sequence.proofs.Out.{made_is_run, AllMade-push, parts_push, samples_push_laid}
-use Rattle.block_sequence.proofs.Origins.{AllLaidFrom-push}
+use Rattle.block_sequence.proofs.{Rest.none_left, Origins.AllLaidFrom-push}
+use Rattle.block_sequence.specs.Fuse as layout
 use Rattle.block_sequence.proofs.fusing.lay_run.Goals as goal
 
 pub loop-k-init : goal.loop-k-init

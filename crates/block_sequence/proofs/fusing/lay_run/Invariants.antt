@@ -1,14 +1,11 @@
 -- What the loop of `lay_run` keeps.
 use Rattle.std.proofs.Common.{◌≡◌, ℕ, List, ◌≤◌, ◌++◌, drop}
-use Rattle.pcm_base.specs.Pieces.{Sources, all_samples, total}
-use Rattle.block_sequence.specs.Fuse as layout
-use Rattle.block_sequence.specs.Fuse.{added}
-use Rattle.block_sequence.specs.Laying as laying
-use Rattle.pcm_base.specs.declared.block.BlockRef.{BlockRef}
-use Rattle.block_sequence.specs.Origins.{AllFrom, AllLaidFrom}
-use Rattle.block_sequence.specs.Places.{samples_from, total_from}
-use Rattle.block_sequence.specs.Laid.{parts, all_laid_samples, AllMade}
+use Rattle.pcm_base.specs.{Pieces.Sources, Pieces.all_samples, Pieces.total, declared.block.BlockRef.BlockRef}
+use Rattle.block_sequence.specs.{Fuse.added, Origins.AllFrom, Origins.AllLaidFrom, Places.samples_from}
+use Rattle.block_sequence.specs.{Places.total_from, Laid.parts, Laid.all_laid_samples, Laid.AllMade}
 use Rattle.block_sequence.proofs.Sizes.{made}
+use Rattle.block_sequence.specs.Fuse as layout
+use Rattle.block_sequence.specs.Laying as laying
 use Rattle.block_sequence.proofs.fusing.lay_run.Given as goal
 
 abbrev pub invariant-loop-k : goal.invariant-loop-k

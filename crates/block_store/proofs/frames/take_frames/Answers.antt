@@ -1,7 +1,6 @@
 -- One frame more is stored.
 use Rattle.std.proofs.Common.{◌≡◌, ◌*◌, ◌+◌, ℕ, ℤ, arith, refl}
-use Rattle.std.proofs.lemmas.List.{take_more_set}
-use Rattle.std.proofs.lemmas.List.FromFn.{map-range_with_len_more}
+use Rattle.std.proofs.{lemmas.List.take_more_set, lemmas.List.FromFn.map-range_with_len_more}
 use Rattle.peak_summary.specs.declared.stretch.Summary.{Summary}
 use Rattle.sample_block.specs.Faults.{frame_in}
 use Rattle.block_store.specs.Reads.{frame_samples}

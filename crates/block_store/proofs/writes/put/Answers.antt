@@ -1,6 +1,5 @@
 -- A write and then a sync.
-use Rattle.std.proofs.Common.{◌≡◌, ◌^◌, ◌∙◌, ap, arith, Option, None, List, ℕ, nat_le, nat_lt, ◌&&◌}
-use Rattle.std.proofs.Common.{if◌then◌else◌}
+use Rattle.std.proofs.Common.{◌≡◌, ◌^◌, ◌∙◌, ap, arith, Option, None, List, ℕ, nat_le, nat_lt, ◌&&◌, if◌then◌else◌}
 use Rattle.std.specs.Option.{option_and_then}
 use Rattle.disk_model.specs.Disk.{Files}
 use Rattle.disk_model.proofs.Frames.{changed_then_stays}
@@ -23,15 +22,11 @@ returns-clause-durable g c = λ told absent files left.
     ∙ ap (λ (f : Files). blocks f c.args.id) c.sync_block.ensures.reads ∙ c.in_ok-write_block.ensures.stored told absent
 
 pub returns-clause-changed : goal.returns-clause-changed
-returns-clause-changed g c = changed_then_stays (record {
-  files = omega arith;
-  bytes = omega arith;
-  calls = omega arith;
-}) c.write_block.ensures.changed c.sync_block.ensures.changed
+returns-clause-changed g c =
+    changed_then_stays (record { files = omega arith; bytes = omega arith; calls = omega arith })
+    c.write_block.ensures.changed c.sync_block.ensures.changed
 
 pub returns-in_err-sync_block-clause-changed : goal.returns-in_err-sync_block-clause-changed
-returns-in_err-sync_block-clause-changed g c = changed_then_stays (record {
-  files = omega arith;
-  bytes = omega arith;
-  calls = omega arith;
-}) c.write_block.ensures.changed c.sync_block.ensures.changed
+returns-in_err-sync_block-clause-changed g c =
+    changed_then_stays (record { files = omega arith; bytes = omega arith; calls = omega arith })
+    c.write_block.ensures.changed c.sync_block.ensures.changed

@@ -1,11 +1,8 @@
 -- The file that was written is the spelling of the block.
 use Rattle.std.proofs.Common.{◌≡◌, ◌≤◌, ◌∙◌, ap, arith, length, Option, Some, None, List, ℕ, ℤ}
-use Rattle.disk_model.specs.Disk.{Files, bytes_of, written}
-use Rattle.disk_model.specs.Room.{files_made}
-use Rattle.disk_model.proofs.Frames.{changed_wider}
-use Rattle.disk_model.proofs.Writes.{written_new}
-use Rattle.sample_block.specs.Spelling.{IsBlock, IsSpelled}
-use Rattle.sample_block.specs.Blocks.{blocks}
+use Rattle.disk_model.specs.{Disk.Files, Disk.bytes_of, Disk.written, Room.files_made}
+use Rattle.disk_model.proofs.{Frames.changed_wider, Writes.written_new}
+use Rattle.sample_block.specs.{Spelling.IsBlock, Spelling.IsSpelled, Blocks.blocks}
 use Rattle.sample_block.proofs.BlockLaws.{blocks_put}
 use Rattle.block_store.proofs.writes.write_block.Goals as goal
 

@@ -1,7 +1,6 @@
 -- One more digit.
 use Rattle.std.proofs.Common.{arith, sym, ap, ◌∙◌, length, get_or, drop, ◌<◌, ◌≡◌, ◌*◌, ◌+◌, ◌-◌}
-use Rattle.std.proofs.lemmas.List.{drop_more, drop_all}
-use Rattle.std.proofs.lemmas.Grind.{common_steps}
+use Rattle.std.proofs.{lemmas.List.drop_more, lemmas.List.drop_all, lemmas.Grind.common_steps}
 use Rattle.script_text.proofs.WordLemmas.{number_after, number_after-start, number_after-digit, number_after-large}
 use Rattle.script_text.proofs.WordLemmas.{number_after-end}
 use Rattle.call_words.proofs.number.number_up_to.Goals as goal

@@ -1,12 +1,10 @@
 -- clap's walk over the words is the grammar.
 use Rattle.std.proofs.Common.{◌≡◌, ◌∙◌, sym, ap, false, true, Bool, codes, true≢false, Result, Ok, Err}
-use Rattle.clap.specs.Words.{app_of, found_of, is_simple, rows_of}
-use Rattle.clap.specs.Faults.{is_simple_and_free}
+use Rattle.clap.specs.{Words.app_of, Words.found_of, Words.is_simple, Words.rows_of, Faults.is_simple_and_free}
 use Rattle.clap.proofs.WalkLemmas.{first_value-rows}
 use Rattle.call_words.specs.declared.asked.WordsFault.{WordsFault}
 use Rattle.call_words.specs.declared.asked.WordsFault.TheVariants.{Usage, NoMemory}
-use Rattle.call_words.proofs.NewOptions.{is_plain}
-use Rattle.call_words.proofs.OptionLemmas.{told, untold}
+use Rattle.call_words.proofs.{NewOptions.is_plain, OptionLemmas.told, OptionLemmas.untold}
 use Rattle.call_words.proofs.options.read_options.Goals as goal
 
 abbrev is_usage : WordsFault → Bool

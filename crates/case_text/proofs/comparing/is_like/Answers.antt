@@ -1,7 +1,7 @@
 -- Around three dots, or as numbered.
 use Rattle.std.proofs.Common.{◌≡◌, ◌++◌, inl, inr, true, None, Some}
-use Rattle.std.specs.Prelude.{codes}
 use Rattle.std.proofs.lemmas.Str.Pattern.{split_text_parts}
+use Rattle.std.specs.Prelude.{codes}
 use Rattle.case_text.specs.Alike.{is_numbered}
 use Rattle.case_text.proofs.comparing.is_like.Goals as goal
 

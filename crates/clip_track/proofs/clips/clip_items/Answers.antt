@@ -1,10 +1,8 @@
 -- The goals of `clip_items` that the search leaves open.
 use Rattle.std.proofs.Common.{◌+◌, ◌-◌, ◌++◌, List, ◌∷◌, drop, sym, ap, subst, ◌∙◌, append_assoc, arith}
 use Rattle.std.proofs.lemmas.List.{drop_more}
-use Rattle.clip_track.specs.declared.items.Item.{Item}
-use Rattle.clip_track.specs.declared.clips.Clip.{Clip}
-use Rattle.clip_track.specs.Items.{gap_items}
 use Rattle.clip_track.specs.Clips.{items_from, sound_items, end_of, clip_end, AreClips}
+use Rattle.clip_track.specs.{declared.items.Item.Item, declared.clips.Clip.Clip, Items.gap_items}
 use Rattle.clip_track.proofs.Layouts.{AreClips-next, end_within}
 use Rattle.clip_track.proofs.clips.clip_items.Goals as goal
 

@@ -2,13 +2,12 @@
 use Rattle.std.proofs.Common.{◌≡◌, ℕ, ◌+◌, ◌-◌, ◌≤◌, ◌++◌, min, List, length, get_or, drop, sym, ap, ◌∙◌, append_assoc}
 use Rattle.std.proofs.Common.{arith}
 use Rattle.std.proofs.lemmas.List.{drop_more, length-take, take-append-le}
-use Rattle.clip_track.specs.declared.items.Item.{Item}
-use Rattle.clip_track.specs.declared.items.Item.TheVariants.{Gap}
 use Rattle.clip_track.specs.Items.{item_len, part_items}
+use Rattle.clip_track.specs.{declared.items.Item.Item, declared.items.Item.TheVariants.Gap}
 use Rattle.clip_track.proofs.Strips.{part_none, part_past, part_within}
-use Rattle.clip_track.proofs.items.append_items.Goals as goal
 use Rattle.clip_track.proofs.items.append_items.Goals.{then-left-gt0+then-len-skip}
 use Rattle.clip_track.proofs.items.append_items.Goals.{then-left-gt0+else-len-skip+in_ok-push, else-left-gt0}
+use Rattle.clip_track.proofs.items.append_items.Goals as goal
 
 pub loop-item-preserved : goal.loop-item-preserved
 loop-item-preserved c =

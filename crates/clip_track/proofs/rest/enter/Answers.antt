@@ -1,7 +1,6 @@
 -- The clip is the first, and lies within the track.
 use Rattle.std.proofs.Common.{arith}
-use Rattle.clip_track.proofs.Layouts.{AreClips-next, end_within}
-use Rattle.clip_track.proofs.RestItems.{within_none}
+use Rattle.clip_track.proofs.{Layouts.AreClips-next, Layouts.end_within, RestItems.within_none}
 use Rattle.clip_track.proofs.rest.enter.Goals as goal
 
 pub overflow_add-result : goal.overflow_add-result

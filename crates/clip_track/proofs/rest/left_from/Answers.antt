@@ -1,10 +1,8 @@
 -- One clip more is passed.
 use Rattle.std.proofs.Common.{◌≡◌, ◌-◌, ◌≤◌, ◌∷◌, List, length, take, drop, sym, ap, subst, ◌∙◌, arith}
-use Rattle.clip_track.specs.declared.clips.Clip.{Clip}
-use Rattle.clip_track.specs.Items.{items_after}
 use Rattle.clip_track.specs.Clips.{AreClips, end_of, clip_end, items_from}
-use Rattle.clip_track.proofs.Layouts.{AreClips-next, end_within}
-use Rattle.clip_track.proofs.RestItems.{first_of, past_clip}
+use Rattle.clip_track.specs.{declared.clips.Clip.Clip, Items.items_after}
+use Rattle.clip_track.proofs.{Layouts.AreClips-next, Layouts.end_within, RestItems.first_of, RestItems.past_clip}
 use Rattle.clip_track.proofs.rest.left_from.Goals as goal
 
 pub overflow_add-next : goal.overflow_add-next

@@ -2,16 +2,15 @@
 use Rattle.std.proofs.Common.{◌≡◌, ◌+◌, ◌-◌, ◌<◌, ◌++◌, List, [], ◌∷◌, drop, map, replicate, refl, sym, ap, subst, ◌∙◌}
 use Rattle.std.proofs.Common.{arith}
 use Rattle.std.proofs.lemmas.List.{drop_more}
-use Rattle.pcm_base.specs.declared.sound.Cell.TheVariants as cell
 use Rattle.pcm_base.specs.Pieces.{all_samples}
 use Rattle.pcm_base.proofs.Pieces.{total-append, AllValid-append}
-use Rattle.clip_track.specs.declared.items.Item.{Item}
-use Rattle.clip_track.specs.declared.items.Item.TheVariants.{Gap, Sound}
-use Rattle.clip_track.specs.Items.{AreItems, strip_len, strip_cells}
-use Rattle.clip_track.specs.StripClips as clips
+use Rattle.clip_track.specs.{declared.items.Item.Item, declared.items.Item.TheVariants.Gap}
+use Rattle.clip_track.specs.{declared.items.Item.TheVariants.Sound, Items.AreItems, Items.strip_len, Items.strip_cells}
 use Rattle.clip_track.proofs.StripClips.{gap_cells, sound_cells}
-use Rattle.clip_track.proofs.strip_clips.collect_clips.Goals as goal
 use Rattle.clip_track.proofs.strip_clips.collect_clips.Goals.{in-Gap+in_ok-close-in-Gap, in-Sound+in_ok-push-in-Sound}
+use Rattle.pcm_base.specs.declared.sound.Cell.TheVariants as cell
+use Rattle.clip_track.specs.StripClips as clips
+use Rattle.clip_track.proofs.strip_clips.collect_clips.Goals as goal
 
 pub loop-item-preserved : goal.loop-item-preserved
 loop-item-preserved c =
@@ -34,8 +33,7 @@ loop-item-preserved c =
             later = omega (arith, w.in_ok-close-in-Gap.ensures.later, some);
             rest_ok = ok.1;
             cells = λ src. gap_cells (clips.clips_cells src 0 w.close.new.out.items) _ _ w.in-Gap.len _
-                (strip_cells src rest) _
-                (omega (arith, w.in_ok-close-in-Gap.ensures.end))
+                (strip_cells src rest) _ (omega (arith, w.in_ok-close-in-Gap.ensures.end))
                 (w.in_ok-close-in-Gap.ensures.cells src)
                 (ap (λ (xs : List Item). clips.clips_cells src 0 c.loop-item.out.items
                 ++ replicate (c.loop-item.start - clips.clips_end 0 c.loop-item.out.items) cell.Gap

@@ -1,7 +1,6 @@
 -- The seat that closes the desk is the first, and none is away from it.
 use Rattle.std.proofs.Common.{◌∙◌}
-use Rattle.studio_seats.proofs.Grown.{leads}
-use Rattle.studio_seats.proofs.Turns.{seat_stays}
+use Rattle.studio_seats.proofs.{Grown.leads, Turns.seat_stays}
 use Rattle.desk_examples.proofs.desk_tests.two_threads_at_one_desk.Goals as goal
 
 pub close-studio-requires : goal.close-studio-requires

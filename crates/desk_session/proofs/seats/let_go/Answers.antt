@@ -1,7 +1,6 @@
 -- To let a pin go is one call of the seat.
 use Rattle.std.proofs.Common.{refl}
-use Rattle.desk_session.proofs.OpeningLemmas.{lets_go}
-use Rattle.desk_session.proofs.SideLemmas.{where_none, where_some}
+use Rattle.desk_session.proofs.{OpeningLemmas.lets_go, SideLemmas.where_none, SideLemmas.where_some}
 use Rattle.desk_session.proofs.seats.let_go.Goals as goal
 
 pub returns-in-Some-clause-goes : goal.returns-in-Some-clause-goes

@@ -1,16 +1,13 @@
 -- The goals of `close` that the search leaves open.
 use Rattle.std.proofs.Common.{◌≡◌, ℕ, ◌-◌, ℤ, List, [], ◌++◌, length, map, replicate, sym, ap, ◌∙◌, arith}
 use Rattle.std.proofs.lemmas.List.{nil_from_length, append-nil}
-use Rattle.pcm_base.specs.declared.sound.Cell.{Cell}
-use Rattle.pcm_base.specs.declared.sound.Cell.TheVariants as cell
-use Rattle.pcm_base.specs.Pieces.{all_samples}
+use Rattle.pcm_base.specs.{declared.sound.Cell.Cell, Pieces.all_samples}
 use Rattle.pcm_base.proofs.Pieces.{length-all_samples}
-use Rattle.block_sequence.specs.Laid.{sizes}
-use Rattle.edit_ops.specs.declared.types.LaidClip.{LaidClip}
-use Rattle.block_sequence.specs.Fuse.{added}
-use Rattle.edit_ops.specs.LaidClips.{laid_end, laid_cells}
+use Rattle.block_sequence.specs.{Laid.sizes, Fuse.added}
+use Rattle.edit_ops.specs.{declared.types.LaidClip.LaidClip, LaidClips.laid_end, LaidClips.laid_cells}
 use Rattle.edit_ops.proofs.LaidLists.{made_clips-push, length-all_laid, silent, laid_end-push, laid_next-push}
 use Rattle.edit_ops.proofs.LaidLists.{AreLaidClips-push, end_before_next, closed_cells, ClipsFrom-push}
+use Rattle.pcm_base.specs.declared.sound.Cell.TheVariants as cell
 use Rattle.edit_ops.proofs.laying.close.Goals as goal
 
 -- as many samples as there are pieces of

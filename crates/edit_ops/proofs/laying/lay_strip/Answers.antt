@@ -2,24 +2,20 @@
 use Rattle.std.proofs.Common.{◌≡◌, ◌+◌, ◌-◌, ◌<◌, ◌++◌, List, [], ◌∷◌, drop, map, replicate, refl, sym, ap, subst, ◌∙◌}
 use Rattle.std.proofs.Common.{arith}
 use Rattle.std.proofs.lemmas.List.{drop_more, drop_all, append-nil}
-use Rattle.pcm_base.specs.declared.sound.Cell.TheVariants as cell
-use Rattle.pcm_base.specs.Pieces.{all_samples}
-use Rattle.clip_track.specs.declared.items.Item.{Item}
-use Rattle.clip_track.specs.declared.items.Item.TheVariants.{Gap, Sound}
+use Rattle.pcm_base.specs.{Pieces.all_samples, declared.piece.Piece.Piece}
 use Rattle.clip_track.specs.Items.{ItemsFit, AreItems, strip_len, strip_cells}
-use Rattle.pcm_base.specs.declared.piece.Piece.{Piece}
+use Rattle.clip_track.specs.{declared.items.Item.Item, declared.items.Item.TheVariants.Gap}
+use Rattle.clip_track.specs.{declared.items.Item.TheVariants.Sound, Room.room_from, Rough.rough_from, Rough.ItemsShort}
 use Rattle.pcm_base.proofs.Pieces.{total-append, AllValid-append, AllFit-append}
-use Rattle.edit_ops.specs.LaidClips as clips
-use Rattle.block_sequence.specs.Fuse.{AllShort, rough}
-use Rattle.block_sequence.specs.Room.{clip_room}
-use Rattle.clip_track.specs.Room.{room_from}
-use Rattle.clip_track.specs.Rough.{rough_from, ItemsShort}
-use Rattle.edit_ops.proofs.LaidLists.{AllShort-append, gap_cells, sound_cells, ended_cells}
-use Rattle.block_sequence.specs.Origins.{AllFrom}
+use Rattle.block_sequence.specs.{Fuse.AllShort, Fuse.rough, Room.clip_room, Origins.AllFrom}
+use Rattle.edit_ops.proofs.LaidLists.{AllShort-append, ended_cells}
+use Rattle.edit_ops.proofs.laying.lay_strip.Goals.{in-Gap+in_ok-close-in-Gap, in-Sound+in_ok-push-in-Sound}
+use Rattle.clip_track.proofs.StripClips.{sound_cells, gap_cells}
 use Rattle.block_sequence.proofs.Origins.{AllFrom-append}
 use Rattle.edit_ops.specs.Strips.{ItemsFrom}
+use Rattle.pcm_base.specs.declared.sound.Cell.TheVariants as cell
+use Rattle.edit_ops.specs.LaidClips as clips
 use Rattle.edit_ops.proofs.laying.lay_strip.Goals as goal
-use Rattle.edit_ops.proofs.laying.lay_strip.Goals.{in-Gap+in_ok-close-in-Gap, in-Sound+in_ok-push-in-Sound}
 
 pub loop-item-preserved : goal.loop-item-preserved
 loop-item-preserved c =
@@ -68,8 +64,7 @@ loop-item-preserved c =
               w.in_ok-close-in-Gap.ensures.few_samples,
             );
             cells = λ src. gap_cells (clips.laid_cells src 0 w.close.new.out.items) _ _ w.in-Gap.len _
-                (strip_cells src rest) _
-                (omega (arith, w.in_ok-close-in-Gap.ensures.end))
+                (strip_cells src rest) _ (omega (arith, w.in_ok-close-in-Gap.ensures.end))
                 (w.in_ok-close-in-Gap.ensures.cells src)
                 (ap (λ (ps : List Piece). clips.laid_cells src 0 c.loop-item.out.items ++ replicate
                 (c.loop-item.start - clips.laid_end 0 c.loop-item.out.items) cell.Gap ++ map cell.Sample

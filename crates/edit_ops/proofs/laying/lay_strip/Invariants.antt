@@ -1,14 +1,12 @@
 -- What the loop of `lay_strip` keeps.
 use Rattle.std.proofs.Common.{◌≡◌, ℕ, List, ◌+◌, ◌-◌, ◌≤◌, ◌*◌, [], ◌++◌, drop, map, replicate}
-use Rattle.pcm_base.specs.declared.sound.Cell.TheVariants as cell
 use Rattle.pcm_base.specs.Pieces.{Sources, total, all_samples, AllValid, AllFit}
-use Rattle.clip_track.specs.Items.{ItemsFit, AreItems, strip_len, strip_cells}
-use Rattle.block_sequence.specs.Fuse.{AllShort}
-use Rattle.clip_track.specs.Room.{room_from}
-use Rattle.clip_track.specs.Rough.{rough_from, ItemsShort}
 use Rattle.pcm_base.specs.declared.block.BlockRef.{BlockRef}
-use Rattle.block_sequence.specs.Origins.{AllFrom}
+use Rattle.clip_track.specs.Items.{ItemsFit, AreItems, strip_len, strip_cells}
+use Rattle.clip_track.specs.{Room.room_from, Rough.rough_from, Rough.ItemsShort}
+use Rattle.block_sequence.specs.{Fuse.AllShort, Origins.AllFrom}
 use Rattle.edit_ops.specs.Strips.{ItemsFrom}
+use Rattle.pcm_base.specs.declared.sound.Cell.TheVariants as cell
 use Rattle.edit_ops.specs.LaidClips as clips
 use Rattle.edit_ops.proofs.laying.lay_strip.Given as goal
 

@@ -1,12 +1,8 @@
 -- The goals of `plan_placed` that the search leaves open.
 use Rattle.std.proofs.Common.{◌++◌, List, sym, ap, subst, ◌∙◌, arith}
-use Rattle.pcm_base.specs.Cells.{trimmed}
-use Rattle.pcm_base.specs.Edits.{placed}
-use Rattle.clip_track.specs.declared.items.Item.{Item}
-use Rattle.clip_track.specs.Items.{strip_cells, strip_blocks}
-use Rattle.edit_ops.proofs.Pastes.{tame_placed, cells_placed}
-use Rattle.edit_ops.proofs.Tame.{Tame, tame_layout}
-use Rattle.clip_track.specs.Clips.{layout_blocks}
+use Rattle.pcm_base.specs.{Cells.trimmed, Edits.placed}
+use Rattle.clip_track.specs.{declared.items.Item.Item, Items.strip_cells, Items.strip_blocks, Clips.layout_blocks}
+use Rattle.edit_ops.proofs.{Pastes.tame_placed, Pastes.cells_placed, Tame.Tame, Tame.tame_layout}
 use Rattle.edit_ops.proofs.placing.plan_placed.Goals as goal
 
 pub plan_strip-requires-clause-fit : goal.plan_strip-requires-clause-fit

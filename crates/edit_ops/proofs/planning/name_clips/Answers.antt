@@ -1,13 +1,11 @@
 -- The goals of `name_clips` that the search leaves open.
 use Rattle.std.proofs.Common.{◌≡◌, ◌++◌, List, [], ◌∷◌, refl, sym, ap, subst, ◌∙◌, append_assoc, arith}
-use Rattle.std.proofs.lemmas.Grind.{common_steps}
-use Rattle.std.proofs.lemmas.List.{append-nil}
+use Rattle.std.proofs.{lemmas.Grind.common_steps, lemmas.List.append-nil}
 use Rattle.std.specs.Vec.Iter.{into_iter_items}
-use Rattle.edit_ops.specs.declared.types.LaidClip.{LaidClip}
-use Rattle.edit_ops.specs.LaidClips.{named}
-use Rattle.edit_ops.specs.LaidClips as laid
+use Rattle.edit_ops.specs.{declared.types.LaidClip.LaidClip, LaidClips.named}
 use Rattle.edit_ops.proofs.Named.{AllLaid, AllLaid-from, count_laid_le, half_full_named, none_empty, len_named}
 use Rattle.edit_ops.proofs.Named.{next_after_le, IsLayout-named}
+use Rattle.edit_ops.specs.LaidClips as laid
 use Rattle.edit_ops.proofs.planning.name_clips.Goals as goal
 
 pub loop-clip-init : goal.loop-clip-init

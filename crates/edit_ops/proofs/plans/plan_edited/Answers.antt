@@ -1,15 +1,10 @@
 -- What a plan means and makes, by the edit.
 use Rattle.std.proofs.Common.{sym, subst, ℕ, ◌≤◌, List, length, Result, Ok, Err, IfOk, arith}
-use Rattle.pcm_base.specs.Counters.{blocks_of_edit}
-use Rattle.pcm_base.specs.declared.edits.RangeEdit.{RangeEdit}
-use Rattle.pcm_base.specs.declared.failed.NoMemory.{NoMemory}
 use Rattle.pcm_base.specs.Edits.{part, range_edited}
-use Rattle.pcm_base.specs.Pieces.{Sources}
-use Rattle.pcm_base.specs.Sizes.{blocks_of_tracks}
-use Rattle.clip_track.specs.declared.clips.Clip.{Clip}
-use Rattle.clip_track.specs.Clips.{layout_cells}
-use Rattle.edit_ops.specs.declared.types.Plan.{Plan}
-use Rattle.edit_ops.specs.Plans.{Means}
+use Rattle.pcm_base.specs.{Counters.blocks_of_edit, declared.edits.RangeEdit.RangeEdit}
+use Rattle.pcm_base.specs.{declared.failed.NoMemory.NoMemory, Pieces.Sources, Sizes.blocks_of_tracks}
+use Rattle.clip_track.specs.{declared.clips.Clip.Clip, Clips.layout_cells}
+use Rattle.edit_ops.specs.{declared.types.Plan.Plan, Plans.Means}
 use Rattle.edit_ops.proofs.plans.plan_edited.Goals as goal
 
 abbrev MeansEdited : (from to : ℕ) → List Clip → Result Plan NoMemory → RangeEdit → Type 0

@@ -1,14 +1,9 @@
 -- The goals of `plan_only_part` that the search leaves open.
 use Rattle.std.proofs.Common.{◌++◌, List, replicate, sym, ap, subst, ◌∙◌, arith}
-use Rattle.pcm_base.specs.declared.sound.Cell.{Cell}
+use Rattle.pcm_base.specs.{declared.sound.Cell.Cell, Cells.trimmed, Edits.part}
+use Rattle.clip_track.specs.{declared.items.Item.Item, Items.strip_cells, Clips.layout_blocks}
+use Rattle.edit_ops.proofs.{StripCells.cells_only_part, Tame.Tame, Tame.tame_layout, Tame.tame_only_part}
 use Rattle.pcm_base.specs.declared.sound.Cell.TheVariants as cell
-use Rattle.pcm_base.specs.Cells.{trimmed}
-use Rattle.pcm_base.specs.Edits.{part}
-use Rattle.clip_track.specs.declared.items.Item.{Item}
-use Rattle.clip_track.specs.Items.{strip_cells}
-use Rattle.edit_ops.proofs.StripCells.{cells_only_part}
-use Rattle.edit_ops.proofs.Tame.{Tame, tame_layout, tame_only_part}
-use Rattle.clip_track.specs.Clips.{layout_blocks}
 use Rattle.edit_ops.proofs.plans.plan_only_part.Goals as goal
 
 pub plan_strip-requires-clause-fit : goal.plan_strip-requires-clause-fit

@@ -1,20 +1,11 @@
 -- The goals of `plan_with_change` that the search leaves open.
 use Rattle.std.proofs.Common.{◌+◌, ◌*◌, ◌/◌, ◌≤◌, true, ◌++◌, List, length, take, drop, map, sym, ap, subst, ◌∙◌, arith}
-use Rattle.pcm_base.specs.declared.sound.Cell.{Cell}
-use Rattle.pcm_base.specs.Cells.{trimmed}
-use Rattle.pcm_base.specs.Edits.{part}
-use Rattle.clip_track.specs.declared.items.Item.{Item}
-use Rattle.clip_track.specs.Items.{strip_cells}
+use Rattle.pcm_base.specs.{declared.sound.Cell.Cell, Cells.trimmed, Edits.part, Sizes.sample_count, Sizes.clip_count}
+use Rattle.clip_track.specs.{declared.items.Item.Item, Items.strip_cells, Room.strip_room, Clips.layout_blocks}
 use Rattle.block_sequence.specs.Room.{First}
-use Rattle.clip_track.specs.Room.{strip_room}
-use Rattle.edit_ops.specs.Changes.{cell_change}
-use Rattle.pcm_base.specs.Sizes.{sample_count, clip_count}
-use Rattle.edit_ops.specs.Strips.{AllOld, ItemsFrom, with_change}
-use Rattle.edit_ops.proofs.ChangedItems.{AllOld-items}
-use Rattle.edit_ops.proofs.Roomy.{Smooth, few_changed}
-use Rattle.edit_ops.proofs.StripCells.{cells_with_change}
+use Rattle.edit_ops.specs.{Changes.cell_change, Strips.AllOld, Strips.ItemsFrom, Strips.with_change}
 use Rattle.edit_ops.proofs.Tame.{fit_change, from_change, ItemsFrom-layout}
-use Rattle.clip_track.specs.Clips.{layout_blocks}
+use Rattle.edit_ops.proofs.{ChangedItems.AllOld-items, Roomy.Smooth, Roomy.few_changed, StripCells.cells_with_change}
 use Rattle.edit_ops.proofs.plans.plan_with_change.Goals as goal
 
 pub plan_strip-requires-clause-fit : goal.plan_strip-requires-clause-fit

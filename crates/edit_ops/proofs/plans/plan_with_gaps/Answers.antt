@@ -1,13 +1,8 @@
 -- The goals of `plan_with_gaps` that the search leaves open.
 use Rattle.std.proofs.Common.{◌++◌, List, take, drop, map, sym, ap, subst, ◌∙◌, arith}
-use Rattle.pcm_base.specs.declared.sound.Cell.{Cell}
-use Rattle.pcm_base.specs.Cells.{trimmed}
-use Rattle.pcm_base.specs.Edits.{part, emptied}
-use Rattle.clip_track.specs.declared.items.Item.{Item}
-use Rattle.clip_track.specs.Items.{strip_cells}
-use Rattle.edit_ops.proofs.StripCells.{cells_with_gaps}
-use Rattle.edit_ops.proofs.Tame.{Tame, tame_layout, tame_with_gaps}
-use Rattle.clip_track.specs.Clips.{layout_blocks}
+use Rattle.pcm_base.specs.{declared.sound.Cell.Cell, Cells.trimmed, Edits.part, Edits.emptied}
+use Rattle.clip_track.specs.{declared.items.Item.Item, Items.strip_cells, Clips.layout_blocks}
+use Rattle.edit_ops.proofs.{StripCells.cells_with_gaps, Tame.Tame, Tame.tame_layout, Tame.tame_with_gaps}
 use Rattle.edit_ops.proofs.plans.plan_with_gaps.Goals as goal
 
 pub plan_strip-requires-clause-fit : goal.plan_strip-requires-clause-fit

@@ -2,14 +2,11 @@
 use Rattle.std.proofs.Common.{◌≡◌, ℕ, ◌+◌, ◌<◌, List, [], ◌∷◌, length, get_or, drop, sym, ap, ap₂, ◌∙◌, arith}
 use Rattle.std.proofs.lemmas.List.{drop_more}
 use Rattle.pcm_base.specs.Refusals.{length_limit, placed_length}
-use Rattle.clip_track.specs.declared.items.Item.{Item}
-use Rattle.clip_track.specs.declared.clips.Clip.{Clip}
-use Rattle.std.proofs.lemmas.Result.{err_from_is_err_and}
-use denote.Ref.{Bor}
-use Rattle.clip_track.specs.Clips.{end_of}
-use Rattle.clip_track.specs.Items.{strip_len}
+use Rattle.clip_track.specs.{declared.items.Item.Item, declared.clips.Clip.Clip, Clips.end_of, Items.strip_len}
+use Rattle.pcm_base.proofs.Exits.{exit_err}
 use Rattle.edit_ops.specs.Runs.{layouts, lengths_of}
 use Rattle.edit_ops.proofs.RunLists.{sum_at, layouts_at, layouts_left, length-layouts, limit_next, limit_first}
+use denote.Ref.{Bor}
 use Rattle.edit_ops.proofs.run_refusals.lengths.Goals as goal
 
 pub length-len-requires : goal.length-len-requires
@@ -22,8 +19,7 @@ length-len-requires c =
       arith,
       s,
       ap strip_len c.index-clip-i.is,
-      ap (end_of 0)
-          (layouts_at run c.loop-i.i t (omega arith) c.index-run-i.is),
+      ap (end_of 0) (layouts_at run c.loop-i.i t (omega arith) c.index-run-i.is),
       c.len.ensures,
       c.len-in-loop-i.ensures.value,
     )
@@ -50,8 +46,7 @@ returns-in_err-length c =
     (omega (arith, c.requires.wide, c.loop-i-test.true)) c.index-clip-i.is c.index-run-i.is in
     let n : c.length-len.result ≡ f (strip_len s) (end_of 0 t.now) =
     c.length-len.ensures ∙ ap₂ f c.len.ensures c.len-in-loop-i.ensures.value in
-    let p = err_from_is_err_and c.from_residual.result c.from_residual.ensures.1 in
-    rw (p.1, p.2) (sym c.loop-i.invariant ∙ ap length_limit e
+    rw (exit_err c.from_residual.result c.from_residual.ensures.1) (sym c.loop-i.invariant ∙ ap length_limit e
     ∙ limit_first (f (strip_len s) (end_of 0 t.now))
     (lengths_of f (drop (i + 1) clip) (drop (i + 1) (layouts run))) c.in_err-length.field-0.0
     (ap (λ k. length_limit (k ∷ [])) (sym n) ∙ c.in_err-length.ensures))

@@ -1,10 +1,7 @@
 -- The items so far.
-use Rattle.std.proofs.Common.{sym, subst, ◌+◌, take}
-use Rattle.std.proofs.lemmas.Option.{slice_get-get_or}
+use Rattle.std.proofs.{Common.sym, Common.subst, Common.◌+◌, Common.take, lemmas.Option.slice_get-get_or}
 use Rattle.block_ledger.specs.Entries.{count_of}
-use Rattle.clip_track.specs.declared.items.Item.{Item}
-use Rattle.clip_track.specs.declared.items.Item.TheVariants.{Gap}
-use Rattle.clip_track.specs.Items.{item_blocks}
+use Rattle.clip_track.specs.{declared.items.Item.Item, declared.items.Item.TheVariants.Gap, Items.item_blocks}
 use Rattle.editor_state.specs.Occurrences.{HasAll, Dropped}
 use Rattle.editor_tracks.proofs.CopyStrips.{strip_flat}
 use Rattle.layout_uses.proofs.Turns.{all_here, dropped_on}

@@ -2,14 +2,12 @@
 use Rattle.std.proofs.Common.{refl, sym, ap, subst, List, take, length, length-append, arith}
 use Rattle.std.proofs.lemmas.Option.{slice_get_read}
 use Rattle.block_ledger.specs.Entries.{count_of}
-use Rattle.clip_track.specs.declared.items.Item.{Item}
-use Rattle.clip_track.specs.Items.{strip_blocks}
+use Rattle.clip_track.specs.{declared.items.Item.Item, Items.strip_blocks}
 use Rattle.editor_tracks.specs.Copies.{strips_blocks}
 use Rattle.editor_state.specs.Occurrences.{HasIds, Held}
 use Rattle.editor_state.proofs.Blocks.BlockNumbers.{named_most}
 use Rattle.editor_tracks.proofs.CopyStrips.{items_few}
-use Rattle.layout_uses.proofs.Times.{Few}
-use Rattle.layout_uses.proofs.Turns.{there_here, held_on, next}
+use Rattle.layout_uses.proofs.{Times.Few, Turns.there_here, Turns.held_on, Turns.next}
 use Rattle.editor_core.proofs.clipboards.hold_strips.Goals as goal
 
 pub hold_items-requires-clause-there : goal.hold_items-requires-clause-there
@@ -31,8 +29,7 @@ hold_items-requires-clause-few c =
       c.loop-strip.invariant.0.counts id,
       named_most id front,
       c.loop-strip.invariant.1,
-      named_most
-          id mine,
+      named_most id mine,
       small,
       c.as_slice.ensures.small,
       c.requires.room id,

@@ -1,7 +1,6 @@
 -- One layout more, or none.
 use Rattle.std.proofs.Common.{sym, ap, ◌∙◌, List, [], ◌∷◌, ◌++◌, take}
-use Rattle.std.proofs.lemmas.Grind.{flat_map-append}
-use Rattle.std.proofs.lemmas.List.{append-nil}
+use Rattle.std.proofs.{lemmas.Grind.flat_map-append, lemmas.List.append-nil}
 use Rattle.clip_track.specs.declared.clips.Clip.{Clip}
 use Rattle.project_state.proofs.Points.{take_some}
 use Rattle.editor_tracks.specs.Copies.{layouts_at, run_of}

@@ -1,7 +1,7 @@
 -- The point at the cursor is the first after those before it.
 use Rattle.std.proofs.Common.{sym, ap, ◌∙◌, slice_get}
 use Rattle.pcm_base.specs.History.{points_of}
-use Rattle.editor_commits.proofs.CursorTracks.{at_cursor}
+use Rattle.record_body.proofs.SavedBounds.{at_cursor}
 use Rattle.editor_core.proofs.current.current_of.Goals as goal
 
 pub returns : goal.returns

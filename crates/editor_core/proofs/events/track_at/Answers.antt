@@ -1,8 +1,7 @@
 -- The place of its stretch, and what stands there.
 use Rattle.std.proofs.Common.{◌≤◌, ◌+◌, ◌*◌, ◌∙◌, List, length, Some, sym, ap, arith}
 use Rattle.std.proofs.Math.Nat.{mul-le-mul_right}
-use Rattle.pcm_base.specs.declared.lists.LoadedTrack.{LoadedTrack}
-use Rattle.pcm_base.specs.declared.sound.Cell.{Cell}
+use Rattle.pcm_base.specs.{declared.lists.LoadedTrack.LoadedTrack, declared.sound.Cell.Cell}
 use Rattle.mixdown.proofs.LoadLaws.{cut_at}
 use Rattle.editor_core.proofs.events.track_at.Goals as goal
 

@@ -1,11 +1,8 @@
 -- The plan of one channel.
 use Rattle.std.proofs.Common.{◌∙◌, sym, ap, subst, List, map}
-use Rattle.pcm_base.specs.Edits.{as_cells, inserted}
-use Rattle.pcm_base.specs.Pieces.{stretch}
-use Rattle.clip_track.specs.declared.clips.Clip.{Clip}
-use Rattle.clip_track.specs.Clips.{IsLayout, layout_blocks}
-use Rattle.edit_ops.specs.declared.types.NewBlock.{NewBlock}
-use Rattle.edit_ops.specs.Plans.{IsPlan, Means, start_of}
+use Rattle.pcm_base.specs.{Edits.as_cells, Edits.inserted, Pieces.stretch}
+use Rattle.clip_track.specs.{declared.clips.Clip.Clip, Clips.IsLayout, Clips.layout_blocks}
+use Rattle.edit_ops.specs.{declared.types.NewBlock.NewBlock, Plans.IsPlan, Plans.Means, Plans.start_of}
 use Rattle.editor_imports.specs.Imports.{AllFitBehind, block_behind}
 use Rattle.editor_imports.proofs.ChannelPlans.{channel_plan, fit_blocks}
 use Rattle.editor_core.proofs.growth.plan_channel.Goals as goal

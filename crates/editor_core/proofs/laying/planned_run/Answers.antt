@@ -1,16 +1,13 @@
 -- One track more.
 use Rattle.std.proofs.Common.{◌≡◌, refl, sym, ap, ◌∙◌, subst, ℕ, ◌+◌, ◌-◌, ◌≤◌, ◌<◌, List, [], ◌∷◌, ◌++◌, length, map}
 use Rattle.std.proofs.Common.{take, drop, append_assoc, arith, rules}
+use Rattle.std.proofs.{lemmas.List.length-map, lemmas.List.length-take, lemmas.List.map-append, lemmas.Option.same_Some}
 use Rattle.std.specs.Vec.Iter.{into_iter_items}
-use Rattle.std.proofs.lemmas.List.{length-map, length-take, map-append}
-use Rattle.std.proofs.lemmas.Option.{same_Some}
-use Rattle.project_state.specs.declared.track.Track.{Track}
-use Rattle.project_state.specs.Tracks.{AllBelow}
+use Rattle.project_state.specs.{declared.track.Track.Track, Tracks.AllBelow}
 use Rattle.project_state.proofs.Points.{drop_some, take_some, below_taken}
 use Rattle.layout_uses.specs.Drawing.{HasNumbers}
 use Rattle.layout_uses.proofs.Draws.{numbers_none}
-use Rattle.editor_tracks.specs.Copies.{run_of}
-use Rattle.editor_tracks.specs.RunEdits.{laid_from, laid_or, next_number}
+use Rattle.editor_tracks.specs.{Copies.run_of, RunEdits.laid_from, RunEdits.laid_or, RunEdits.next_number}
 use Rattle.editor_tracks.proofs.RunLayouts.{next_most, numbers_laid, place_among}
 use Rattle.editor_core.proofs.laying.planned_run.Goals as goal
 
@@ -54,8 +51,8 @@ loop-i-init c =
       count = search rules;
       fits = search rules;
       clip = refl;
-      numbers = subst (λ (z : List Track). HasNumbers ts c.args.first z c.args.first) (sym none)
-          (numbers_none ts c.args.first);
+      numbers = subst (λ (z : List Track). HasNumbers ts c.args.next.layout z c.args.next.layout) (sym none)
+          (numbers_none ts c.args.next.layout);
       least = omega arith;
       most = omega arith;
     }
@@ -113,10 +110,10 @@ loop-i-preserved c =
     let more = c.in_ok-add_laid.ensures old c.track_at.ensures in
     let number = c.number_after-number.ensures in
     let at : drop i ts ≡ old ∷ rest = drop_some ts i old c.track_at.ensures in
-    let numbers : HasNumbers ts c.args.first c.add_laid.new.point c.number_after-number.result =
-    subst (λ (n : ℕ). HasNumbers ts c.args.first c.add_laid.new.point n) (sym number)
-    (subst (λ (z : List Track). HasNumbers ts c.args.first z (next_number c.loop-i.number laid)) (sym more)
-    (numbers_laid ts c.args.first point c.loop-i.number c.loop-i.invariant.numbers old
+    let numbers : HasNumbers ts c.args.next.layout c.add_laid.new.point c.number_after-number.result =
+    subst (λ (n : ℕ). HasNumbers ts c.args.next.layout c.add_laid.new.point n) (sym number)
+    (subst (λ (z : List Track). HasNumbers ts c.args.next.layout z (next_number c.loop-i.number laid)) (sym more)
+    (numbers_laid ts c.args.next.layout point c.loop-i.number c.loop-i.invariant.numbers old
     (place_among i ts old c.track_at.ensures) laid c.in_ok-laid.ensures.number)) in
     record {
       len = c.in_ok-laid.ensures.len;
@@ -142,6 +139,6 @@ loop-i-preserved c =
 
 pub returns-clause-layouts : goal.returns-clause-layouts
 returns-clause-layouts c =
-    let same : c.loop-i.number ≡ c.args.first + (c.loop-i.number - c.args.first) =
+    let same : c.loop-i.number ≡ c.args.next.layout + (c.loop-i.number - c.args.next.layout) =
     omega (arith, c.loop-i.invariant.least) in
-    subst (λ (n : ℕ). HasNumbers c.args.project.now c.args.first c.loop-i.point n) same c.loop-i.invariant.numbers
+    subst (λ (n : ℕ). HasNumbers c.args.project.now c.args.next.layout c.loop-i.point n) same c.loop-i.invariant.numbers

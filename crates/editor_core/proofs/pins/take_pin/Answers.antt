@@ -1,7 +1,6 @@
 -- The pin, or none.
 use Rattle.std.proofs.Common.{◌+◌, ◌<◌, length, sym, ap, ◌∙◌, subst, take, drop, Vec, Global, Some, arith}
-use Rattle.std.proofs.lemmas.List.{get_or_default, take_all}
-use Rattle.std.proofs.lemmas.Option.{slice_get-get_or}
+use Rattle.std.proofs.{lemmas.List.get_or_default, lemmas.List.take_all, lemmas.Option.slice_get-get_or}
 use Rattle.project_state.proofs.Points.{take_some}
 use Rattle.editor_state.specs.declared.pin.Pin.{Pin}
 use Rattle.editor_views.specs.Pins.{LacksPin}

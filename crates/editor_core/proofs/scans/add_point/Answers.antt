@@ -2,8 +2,7 @@
 use Rattle.std.proofs.Common.{◌++◌, List, take, sym, ap, ◌∙◌, append_assoc}
 use Rattle.pcm_base.specs.declared.block.BlockRef.{BlockRef}
 use Rattle.clip_track.specs.Clips.{layout_blocks}
-use Rattle.project_state.specs.Meaning.{point_blocks}
-use Rattle.project_state.specs.declared.track.Track.{Track}
+use Rattle.project_state.specs.{Meaning.point_blocks, declared.track.Track.Track}
 use Rattle.layout_uses.proofs.Turns.{next}
 use Rattle.editor_core.proofs.scans.add_point.Goals as goal
 

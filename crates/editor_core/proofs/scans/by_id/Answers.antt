@@ -1,7 +1,6 @@
 -- Sorted, and then each once.
 use Rattle.std.proofs.Common.{rules, sym, subst}
-use Rattle.std.proofs.lemmas.List.Filters.{dedup_is}
-use Rattle.std.proofs.lemmas.List.Sorted.{IsNonDecreasingBy-from_sort_by_key}
+use Rattle.std.proofs.{lemmas.List.Filters.dedup_is, lemmas.List.Sorted.IsNonDecreasingBy-from_sort_by_key}
 use Rattle.pcm_base.specs.declared.block.BlockRef.{BlockRef}
 use Rattle.editor_views.specs.Scans.{AreListed}
 use Rattle.editor_views.proofs.SortedBlocks.{are_listed}

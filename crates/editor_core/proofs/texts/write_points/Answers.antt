@@ -1,13 +1,11 @@
 -- One point more is written.
 use Rattle.std.proofs.Common.{◌≡◌, ◌∙◌, ℕ, List, [], sym, ap, length, map, drop, arith}
-use Rattle.std.specs.Prelude.{slice_index}
-use Rattle.std.specs.List.{flat_map}
 use Rattle.std.proofs.lemmas.List.{drop_all, take_all}
+use Rattle.std.specs.{Prelude.slice_index, List.flat_map}
 use Rattle.pcm_base.specs.History.{tag_of}
-use Rattle.project_journal.specs.Journal.{points_size}
-use Rattle.project_journal.specs.Packing.{sized}
+use Rattle.project_journal.specs.{Journal.points_size, Packing.sized}
 use Rattle.project_state.specs.declared.track.Track.{Track}
-use Rattle.record_body.specs.Kept.{point_bytes}
+use Rattle.record_body.specs.Saved.{point_bytes}
 use Rattle.project_state.proofs.Points.{drop_some, take_some}
 use Rattle.record_body.proofs.Parts.{part_written}
 use Rattle.editor_cleanup.proofs.HeaderPoints.{row, rows, short_at, size_left, tagged}

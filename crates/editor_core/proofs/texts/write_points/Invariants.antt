@@ -2,7 +2,7 @@
 use Rattle.std.proofs.Common.{◌≡◌, ◌+◌, length, take, drop, map}
 use Rattle.std.specs.List.{flat_map}
 use Rattle.project_journal.specs.Journal.{points_size}
-use Rattle.record_body.specs.Kept.{point_bytes}
+use Rattle.record_body.specs.Saved.{point_bytes}
 use Rattle.editor_cleanup.proofs.HeaderPoints.{row}
 use Rattle.editor_core.proofs.texts.write_points.Given as goal
 

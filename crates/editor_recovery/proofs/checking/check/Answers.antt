@@ -1,8 +1,7 @@
 -- The list of the blocks, and then each of them.
 use Rattle.std.proofs.Common.{◌∙◌, List, Ok, Err, sym, ap, subst}
-use Rattle.std.specs.Prelude.{Contains}
-use Rattle.std.specs.List.{All}
-use Rattle.std.proofs.lemmas.Result.{err_from_is_err_and}
+use Rattle.std.specs.{Prelude.Contains, List.All}
+use Rattle.pcm_base.proofs.Exits.{after_err}
 use Rattle.pcm_base.specs.declared.block.BlockRef.{BlockRef}
 use Rattle.project_state.specs.Meaning.{history_blocks}
 use Rattle.editor_core.specs.Core.{core_of}
@@ -13,9 +12,8 @@ use Rattle.editor_recovery.proofs.checking.check.Goals as goal
 
 pub returns-in_err-blocks : goal.returns-in_err-blocks
 returns-in_err-blocks g c =
-    let p = err_from_is_err_and c.from_residual.result c.from_residual.ensures.1 in
     let s = core_of c.args.studio.now in
-    subst (λ r. ChecksStudio g.S.Store s r s) (sym (p.1 ∙ ap Err p.2))
+    after_err (λ r. ChecksStudio g.S.Store s r s) _ c.from_residual.result c.from_residual.ensures.1
     (checks_none g.S.Store s c.requires.studio c.requires.going (g.met.S.Store.may_fewer s.store))
 
 pub scan_all-requires-clause-named : goal.scan_all-requires-clause-named
@@ -30,8 +28,7 @@ returns-in-Ok g c =
     let listed = subst (λ (bs : List BlockRef). AreListed (history_blocks s.history) bs) (sym c.deref.ensures.value)
     c.in_ok-blocks.ensures in
     checks_studio g.S.Store s c.deref.result.now listed (Ok c.in-Ok.field-0) (Ok c.len.result)
-    (core_of c.scan_all.new.studio)
-    (ap Ok (c.len.ensures ∙ sym c.deref.ensures.len)) c.in-Ok.ensures
+    (core_of c.scan_all.new.studio) (ap Ok (c.len.ensures ∙ sym c.deref.ensures.len)) c.in-Ok.ensures
 
 pub returns : goal.returns
 returns g c =
@@ -39,5 +36,4 @@ returns g c =
     let listed = subst (λ (bs : List BlockRef). AreListed (history_blocks s.history) bs) (sym c.deref.ensures.value)
     c.in_ok-blocks.ensures in
     checks_studio g.S.Store s c.deref.result.now listed (Err c.in-Err.fault) (Err c.into.result)
-    (core_of c.scan_all.new.studio)
-    (ap Err c.into.ensures) c.in-Err.ensures
+    (core_of c.scan_all.new.studio) (ap Err c.into.ensures) c.in-Err.ensures

@@ -1,6 +1,5 @@
 -- One block after another.
-use Rattle.std.proofs.Common.{List, take, subst, arith}
-use Rattle.std.proofs.lemmas.List.{take_all}
+use Rattle.std.proofs.{Common.List, Common.take, Common.subst, Common.arith, lemmas.List.take_all}
 use Rattle.pcm_base.specs.declared.block.BlockRef.{BlockRef}
 use Rattle.editor_core.specs.Core.{core_of}
 use Rattle.editor_recovery.proofs.Checked.{SoFar, far_all, far_ends, far_more, far_named, far_none, far_studio}
@@ -14,8 +13,7 @@ loop-i-init g c =
 pub scan-requires-clause-studio : goal.scan-requires-clause-studio
 scan-requires-clause-studio g c =
     far_studio g.S.Store (core_of c.args.studio.now) c.requires.studio c.requires.going
-    (take c.loop-i.i c.args.blocks.now) (core_of c.loop-i.studio)
-    c.loop-i.invariant
+    (take c.loop-i.i c.args.blocks.now) (core_of c.loop-i.studio) c.loop-i.invariant
 
 pub scan-requires-clause-named : goal.scan-requires-clause-named
 scan-requires-clause-named g c =

@@ -1,11 +1,9 @@
 -- Calls that write nothing, and then the journal is made.
 use Rattle.std.proofs.Common.{ap, refl, ◌∙◌, arith}
-use Rattle.disk_model.specs.Disk.{Files}
-use Rattle.disk_model.specs.Room.{files_made}
+use Rattle.disk_model.specs.{Disk.Files, Room.files_made}
 use Rattle.disk_model.proofs.Frames.{changed_kept, changed_turn}
-use Rattle.editor_recovery.proofs.Alone.{none_after}
-use Rattle.editor_recovery.proofs.Counted.{causes_turn}
-use Rattle.editor_recovery.proofs.Created.{any_moment_both, any_or_none, still_honest, made_honest, made_done, left_turn}
+use Rattle.editor_recovery.proofs.{Alone.none_after, Counted.causes_turn, Created.any_moment_both, Created.any_or_none}
+use Rattle.editor_recovery.proofs.{Created.still_honest, Created.made_honest, Created.made_done, Created.left_turn}
 use Rattle.editor_recovery.proofs.creating.create.Goals as goal
 
 pub returns-in-Ok-clause-any_moment : goal.returns-in-Ok-clause-any_moment

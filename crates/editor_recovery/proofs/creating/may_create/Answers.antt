@@ -3,9 +3,7 @@ use Rattle.std.proofs.Common.{◌∙◌, subst}
 use Rattle.disk_model.specs.Disk.{Files}
 use Rattle.disk_model.proofs.Frames.{kept_turn}
 use Rattle.editor_recovery.specs.Creating.{HasNoForeign}
-use Rattle.editor_recovery.proofs.Alone.{none_false}
-use Rattle.editor_recovery.proofs.Counted.{causes_turn}
-use Rattle.editor_recovery.proofs.Created.{none_there}
+use Rattle.editor_recovery.proofs.{Alone.none_false, Counted.causes_turn, Created.none_there}
 use Rattle.editor_recovery.proofs.creating.may_create.Goals as goal
 
 pub returns-in-Ok-false-clause-kept : goal.returns-in-Ok-false-clause-kept

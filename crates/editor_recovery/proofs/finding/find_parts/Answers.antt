@@ -3,13 +3,9 @@ use Rattle.std.proofs.Common.{◌∙◌, List, ℕ, sym, subst}
 use Rattle.disk_model.specs.Disk.{Files}
 use Rattle.disk_model.proofs.Frames.{kept_turn}
 use Rattle.project_journal.specs.Reader.{reader_form}
-use Rattle.editor_recovery.specs.Found.{answer_in}
-use Rattle.editor_recovery.specs.Listing.{AreFiles}
-use Rattle.editor_recovery.specs.Opening.{Opens}
-use Rattle.editor_recovery.specs.Reading.{IsRead}
-use Rattle.editor_recovery.proofs.Counted.{causes_turn}
-use Rattle.editor_recovery.proofs.Opens.{not_folded, stored_read}
-use Rattle.editor_recovery.proofs.Resting.{rest_after, still_durable}
+use Rattle.editor_recovery.specs.{Found.answer_in, Listing.AreFiles, Opening.Opens, Reading.IsRead}
+use Rattle.editor_recovery.proofs.{Counted.causes_turn, Opens.not_folded, Opens.stored_read, Resting.rest_after}
+use Rattle.editor_recovery.proofs.{Resting.still_durable}
 use Rattle.editor_recovery.proofs.finding.find_parts.Goals as goal
 
 pub returns-in-Ok-clause-opens : goal.returns-in-Ok-clause-opens

@@ -1,10 +1,8 @@
 -- What the fold says of the journal, told of the disk.
 use Rattle.std.proofs.Common.{Ok, ap, subst}
-use Rattle.project_journal.specs.Header.{Form}
-use Rattle.project_journal.specs.declared.base.Base.{Base}
-use Rattle.editor_recovery.specs.declared.disk.Folded.{Folded}
-use Rattle.editor_recovery.specs.Finding.{FoldsDisk}
-use Rattle.editor_recovery.proofs.Folding.{folds, folded_sound, later_form, unfolded_as}
+use Rattle.project_journal.specs.{Header.Form, declared.base.Base.Base}
+use Rattle.editor_recovery.specs.{declared.disk.Folded.Folded, Finding.FoldsDisk}
+use Rattle.editor_recovery.proofs.Folding.{folds, folded_valid, later_form, unfolded_as}
 use Rattle.editor_recovery.proofs.finding.fold_disk.Goals as goal
 
 pub returns-in-Ok-clause-folds : goal.returns-in-Ok-clause-folds
@@ -24,9 +22,9 @@ returns-in-Ok-clause-folds g c =
     (folds g.S.Store c.fold_journal.new.store r f c.in-Ok.ensures.folds c.rate.ensures c.block_size.ensures c.end.ensures
     c.file.ensures c.version_in.ensures (ap (λ (b : Base). b.generation) c.base.ensures))
 
-pub returns-in-Ok-clause-sound : goal.returns-in-Ok-clause-sound
-returns-in-Ok-clause-sound g c =
-    folded_sound g.S.Store c.fold_journal.new.store c.fold_journal.new.reader
+pub returns-in-Ok-clause-valid : goal.returns-in-Ok-clause-valid
+returns-in-Ok-clause-valid g c =
+    folded_valid g.S.Store c.fold_journal.new.store c.fold_journal.new.reader
     (record {
       rate = c.rate.result;
       block_size = c.block_size.result;

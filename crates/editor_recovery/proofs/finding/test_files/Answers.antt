@@ -1,10 +1,7 @@
 -- By the sizes that were measured.
 use Rattle.editor_recovery.specs.Measured.{size_in}
-use Rattle.editor_recovery.proofs.Counted.{causes_none}
-use Rattle.editor_recovery.proofs.Measures.{named_listed, one_length}
-use Rattle.editor_recovery.proofs.Opens.{measured}
-use Rattle.editor_recovery.proofs.Points.{all_blocks}
-use Rattle.editor_recovery.proofs.Refusals.{measured_opens, refusal_opens}
+use Rattle.editor_recovery.proofs.{Counted.causes_none, Measures.named_listed, Measures.one_length, Opens.measured}
+use Rattle.editor_recovery.proofs.{Points.all_blocks, Refusals.measured_opens, Refusals.refusal_opens}
 use Rattle.editor_recovery.proofs.finding.test_files.Goals as goal
 
 pub returns-in-Ok-clause-tests : goal.returns-in-Ok-clause-tests

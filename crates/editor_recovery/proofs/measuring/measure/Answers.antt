@@ -1,15 +1,13 @@
 -- One file more is measured.
 use Rattle.std.proofs.Common.{◌≡◌, ℕ, get_or, inl, ap, ◌∙◌, arith, ◌==◌}
 use Rattle.std.specs.Prelude.{if◌then◌else◌}
-use Rattle.std.proofs.lemmas.Result.{err_from_is_err_and}
+use Rattle.pcm_base.proofs.Exits.{exit_err}
 use Rattle.disk_model.specs.Disk.{Files}
-use borrow.Author.Count.{below_more}
-use Rattle.editor_recovery.specs.declared.sizes.Sizes.{Sizes}
-use Rattle.editor_recovery.specs.Measured.{size_in}
-use Rattle.editor_recovery.specs.Sizes.{file_size}
+use Rattle.editor_recovery.specs.{declared.sizes.Sizes.Sizes, Measured.size_in, Sizes.file_size}
 use Rattle.disk_model.proofs.Frames.{kept_none, kept_turn}
 use Rattle.editor_recovery.proofs.Counted.{causes_handed, none_turn, no_fault}
 use Rattle.editor_recovery.proofs.Measures.{measured_right, measured_here, measured_still, listed_still, all_measured}
+use borrow.Author.Count.{below_more}
 use Rattle.editor_recovery.proofs.measuring.measure.Goals as goal
 
 pub loop-i-init : goal.loop-i-init
@@ -26,8 +24,7 @@ returns-in_err-measure_one-clause-kept g c = kept_turn c.loop-i.invariant.kept c
 
 pub returns-in_err-measure_one-clause-cause : goal.returns-in_err-measure_one-clause-cause
 returns-in_err-measure_one-clause-cause g c =
-    let p = err_from_is_err_and c.from_residual.result c.from_residual.ensures.1 in
-    rw (p.1, p.2) (causes_handed g.S.Store
+    rw (exit_err c.from_residual.result c.from_residual.ensures.1) (causes_handed g.S.Store
     (Unit {0}) Sizes c.args.store.now c.loop-i.store c.measure_one.new.store c.in_err-measure_one.field-0.0
     c.loop-i.invariant.no_fault c.in_err-measure_one.ensures.cause)
 

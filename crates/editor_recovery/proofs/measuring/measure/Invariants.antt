@@ -3,8 +3,7 @@ use Rattle.std.proofs.Common.{◌≡◌, ℕ, ◌<◌, get_or}
 use Rattle.std.specs.Prelude.{Contains, ◌⊎◌, IsTrue}
 use Rattle.disk_model.specs.Frames.{Kept}
 use Rattle.project_journal.specs.Answer.{NoFault}
-use Rattle.editor_recovery.specs.Measured.{size_in}
-use Rattle.editor_recovery.specs.Sizes.{file_size}
+use Rattle.editor_recovery.specs.{Measured.size_in, Sizes.file_size}
 use Rattle.editor_recovery.proofs.measuring.measure.Given as goal
 
 abbrev pub invariant-loop-i : goal.invariant-loop-i

@@ -3,15 +3,10 @@ use Rattle.std.proofs.Common.{◌∙◌, ◌≤◌, refl, sym, subst, arith}
 use Rattle.std.specs.Prelude.{IfOk}
 use Rattle.disk_model.specs.Disk.{Files}
 use Rattle.disk_model.proofs.Frames.{changed_kept, changed_then_stays}
-use Rattle.project_journal.specs.Header.{Form, IsForm}
 use Rattle.project_journal.specs.Journal.{Log, HasLog, IsAt}
-use Rattle.project_journal.specs.Opening.{IsOpened}
-use Rattle.editor_recovery.specs.Files.{NoForeign}
-use Rattle.editor_recovery.specs.Found.{answer_in}
-use Rattle.editor_recovery.specs.Listing.{AreFiles}
-use Rattle.editor_recovery.specs.Opening.{Opens}
-use Rattle.editor_recovery.proofs.Counted.{causes_turn}
-use Rattle.editor_recovery.proofs.Resting.{durable_after}
+use Rattle.project_journal.specs.{Header.Form, Header.IsForm, Opening.IsOpened}
+use Rattle.editor_recovery.specs.{Files.NoForeign, Found.answer_in, Listing.AreFiles, Opening.Opens}
+use Rattle.editor_recovery.proofs.{Counted.causes_turn, Resting.durable_after}
 use Rattle.editor_recovery.proofs.opening.open_parts.Goals as goal
 
 pub returns-in-Ok-clause-opens : goal.returns-in-Ok-clause-opens

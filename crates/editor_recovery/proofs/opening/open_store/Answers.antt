@@ -1,32 +1,25 @@
 -- A studio of what was found, and what an honest disk has of it.
 use Rattle.std.proofs.Common.{◌≤◌, Ok, Err, sym, ap, subst, ◌∙◌}
-use Rattle.disk_model.specs.Disk.{StaysStep}
-use Rattle.disk_model.specs.Frames.{Changed}
-use Rattle.project_journal.specs.Gate.{EachNow, IsDurable}
-use Rattle.project_journal.specs.Header.{Form, IsForm}
+use Rattle.disk_model.specs.{Disk.StaysStep, Frames.Changed}
 use Rattle.project_journal.specs.Journal.{Log, HasLog, IsAt}
+use Rattle.project_journal.specs.{Gate.EachNow, Gate.IsDurable, Header.Form, Header.IsForm}
 use Rattle.project_journal.proofs.Kept.{each_has}
-use Rattle.record_body.specs.Kept.{Keeps}
+use Rattle.record_body.specs.Saved.{Keeps}
 use Rattle.project_state.specs.Meaning.{history_blocks}
 use Rattle.editor_core.specs.Parts.{assembled}
 use Rattle.editor_views.specs.Scans.{HaveOneLength}
 use Rattle.editor_state.specs.Studios.{shown, studio_of}
-use Rattle.editor_recovery.specs.Causes.{Causes}
-use Rattle.editor_recovery.specs.Found.{IsNew, found_in}
-use Rattle.editor_recovery.specs.Honest.{FindsKept, IsHonest, OpensHonest}
-use Rattle.editor_recovery.specs.Opening.{Opens}
-use Rattle.editor_recovery.specs.Stores.{answer_of}
+use Rattle.editor_recovery.specs.Honest.{FindsSaved, IsHonest, OpensHonest}
+use Rattle.editor_recovery.specs.{Causes.Causes, Found.IsNew, Found.found_in, Opening.Opens, Stores.answer_of}
 use Rattle.editor_recovery.proofs.Assembled.{answers, each, new_studio, same_store, shows_found}
-use Rattle.editor_recovery.proofs.Created.{still_honest}
-use Rattle.editor_recovery.proofs.Honest.{found_kept, has_parts}
+use Rattle.editor_recovery.proofs.{Created.still_honest, Honest.found_saved, Honest.has_parts}
 use Rattle.editor_recovery.proofs.opening.open_store.Goals as goal
 
 pub returns-in-Ok-clause-opens : goal.returns-in-Ok-clause-opens
 returns-in-Ok-clause-opens g c = λ tells.
     let store = c.open_parts.new.store in
     answers store c.in-Ok.parts (Opens (g.S.Store.reads c.args.store)) c.make_studio.result
-    c.make_studio.ensures.fields c.make_studio.ensures.refused
-    (c.in-Ok.ensures.opens tells) tt
+    c.make_studio.ensures.fields c.make_studio.ensures.refused (c.in-Ok.ensures.opens tells) tt
 
 pub returns-in-Ok-clause-fresh : goal.returns-in-Ok-clause-fresh
 returns-in-Ok-clause-fresh g c =
@@ -36,8 +29,7 @@ returns-in-Ok-clause-fresh g c =
 pub returns-in-Ok-clause-one_length : goal.returns-in-Ok-clause-one_length
 returns-in-Ok-clause-one_length g c =
     each c.open_parts.new.store c.in-Ok.parts (λ s. HaveOneLength (history_blocks s.history)) c.make_studio.result
-    c.make_studio.ensures.fields
-    c.in-Ok.ensures.sound.one_length
+    c.make_studio.ensures.fields c.in-Ok.ensures.valid.one_length
 
 pub returns-in-Ok-clause-durable : goal.returns-in-Ok-clause-durable
 returns-in-Ok-clause-durable g c =
@@ -66,7 +58,7 @@ returns-in-Ok-clause-honest g c = λ honest.
     (sym (same_store store c.in-Ok.parts r c.make_studio.ensures.fields c.make_studio.ensures.refused))
     (answers store c.in-Ok.parts (OpensHonest g.S.Store old store) r c.make_studio.ensures.fields
     c.make_studio.ensures.refused
-    (found_kept g.S.Store old store honest stays.1 c.open_parts.ensures.changed.images (Ok (found_in c.in-Ok.parts))
+    (found_saved g.S.Store old store honest stays.1 c.open_parts.ensures.changed.images (Ok (found_in c.in-Ok.parts))
     (c.in-Ok.ensures.opens stays.0) (λ form log known few has f e. each_has (c.in-Ok.ensures.at_rest stays.0 form log known few has))) tt)
 
 pub returns-in-Ok-clause-held : goal.returns-in-Ok-clause-held
@@ -78,8 +70,7 @@ returns-in-Ok-clause-held g c = λ honest.
     let still = still_honest g.S.Store old store c.open_parts.ensures.changed.images
     c.open_parts.ensures.changed.model honest in
     c.make_studio.ensures.held (has_parts g.S.Store old store honest stays.1 c.open_parts.ensures.changed.images
-    c.in-Ok.parts opens
-    c.open_parts.ensures.reads (g.met.S.Store.may_stay store still.model).0
+    c.in-Ok.parts opens c.open_parts.ensures.reads (g.met.S.Store.may_stay store still.model).0
     (c.in-Ok.ensures.at_rest stays.0 opens.form opens.log opens.project.stands.known opens.project.stands.few
     opens.project.stands.there))
 
@@ -90,8 +81,8 @@ returns-in-Ok-clause-keeps g c = λ honest.
     let p = c.in-Ok.parts in
     let stays = g.met.S.Store.may_stay old honest.model in
     let opens = c.in-Ok.ensures.opens stays.0 in
-    let found : FindsKept g.S.Store old store (found_in p) =
-    found_kept g.S.Store old store honest stays.1 c.open_parts.ensures.changed.images (Ok (found_in p)) opens
+    let found : FindsSaved g.S.Store old store (found_in p) =
+    found_saved g.S.Store old store honest stays.1 c.open_parts.ensures.changed.images (Ok (found_in p)) opens
     (λ form log known few has f e. each_has (c.in-Ok.ensures.at_rest stays.0 form log known few has)) in
     each store p (λ s. EachNow g.S.Store s.store (λ image. Keeps image (shown (studio_of g.S.Store s))))
     c.make_studio.result c.make_studio.ensures.fields
@@ -136,9 +127,8 @@ returns-in-Ok-clause-changed g c =
 pub returns-in-Err-clause-honest : goal.returns-in-Err-clause-honest
 returns-in-Err-clause-honest g c = λ honest.
     let stays = g.met.S.Store.may_stay c.args.store honest.model in
-    found_kept g.S.Store c.args.store c.open_parts.new.store honest stays.1 c.open_parts.ensures.changed.images
-    (Err c.in-Err.fault)
-    (c.in-Err.ensures.opens stays.0) (λ form log known few has f e. absurd cc)
+    found_saved g.S.Store c.args.store c.open_parts.new.store honest stays.1 c.open_parts.ensures.changed.images
+    (Err c.in-Err.fault) (c.in-Err.ensures.opens stays.0) (λ form log known few has f e. absurd cc)
 
 pub returns-in-Err-clause-stays_honest : goal.returns-in-Err-clause-stays_honest
 returns-in-Err-clause-stays_honest g c = λ honest.

@@ -2,15 +2,11 @@
 use Rattle.std.proofs.Common.{◌∙◌, Err, refl, subst, arith}
 use Rattle.disk_model.specs.Disk.{Files}
 use Rattle.disk_model.proofs.Frames.{changed_kept, changed_then_stays}
+use Rattle.project_journal.specs.{declared.fault.JournalFault.JournalFault, declared.reader.Reader.Reader}
+use Rattle.editor_recovery.specs.{declared.disk.Disk.Disk, Listing.Lists, Reading.Refuses}
+use Rattle.editor_recovery.proofs.{Opens.with_fault, Opens.with_listing, Counted.causes_turn, Counted.journal_none}
+use Rattle.editor_recovery.proofs.{Resting.still_heading, Resting.durable_after}
 use Rattle.project_journal.specs.Opening as journal
-use Rattle.project_journal.specs.declared.fault.JournalFault.{JournalFault}
-use Rattle.project_journal.specs.declared.reader.Reader.{Reader}
-use Rattle.editor_recovery.specs.declared.disk.Disk.{Disk}
-use Rattle.editor_recovery.specs.Listing.{Lists}
-use Rattle.editor_recovery.specs.Reading.{Refuses}
-use Rattle.editor_recovery.proofs.Opens.{with_fault, with_listing}
-use Rattle.editor_recovery.proofs.Counted.{causes_turn, journal_none}
-use Rattle.editor_recovery.proofs.Resting.{still_heading, durable_after}
 use Rattle.editor_recovery.proofs.reading.read_disk.Goals as goal
 
 pub returns-in-Ok-clause-reads : goal.returns-in-Ok-clause-reads

@@ -1,17 +1,14 @@
 -- One clip more is searched.
 use Rattle.std.proofs.Common.{◌+◌, List, Option, refl, drop, sym, ap, subst, ◌∙◌}
-use Rattle.std.specs.List.{All}
 use Rattle.std.proofs.lemmas.Option.{slice_get_read}
 use Rattle.std.proofs.lemmas.List.Elements.{All-from_recursion, recursion_from_All}
+use Rattle.std.specs.List.{All}
 use Rattle.pcm_base.specs.declared.block.BlockRef.{BlockRef}
-use Rattle.clip_track.specs.declared.clips.Clip.{Clip}
-use Rattle.clip_track.specs.Clips.{layout_blocks}
-use Rattle.record_body.proofs.KeptBounds.{IsBlockRef}
+use Rattle.clip_track.specs.{declared.clips.Clip.Clip, Clips.layout_blocks}
+use Rattle.record_body.proofs.SavedBounds.{IsBlockRef}
 use Rattle.project_state.proofs.Points.{drop_some}
-use Rattle.editor_recovery.specs.Measured.{size_in}
-use Rattle.editor_recovery.specs.Sizes.{first_wrong}
-use Rattle.editor_recovery.proofs.Searched.{clip_part}
-use Rattle.editor_recovery.proofs.Wrong.{wrong_append}
+use Rattle.editor_recovery.specs.{Measured.size_in, Sizes.first_wrong}
+use Rattle.editor_recovery.proofs.{Searched.clip_part, Wrong.wrong_append}
 use Rattle.editor_recovery.proofs.sizes.wrong_clips.Goals as goal
 
 pub wrong_among-found-requires : goal.wrong_among-found-requires

@@ -1,9 +1,8 @@
 -- The frames but the last are joined, and the last stands alone.
 use Rattle.std.proofs.Common.{◌≡◌, ◌+◌, ◌-◌, ◌*◌, ◌∙◌, ◌≤◌, ℕ, List, take, drop, length, sym, subst, ap, arith}
+use Rattle.std.proofs.{lemmas.Grind.common_steps, lemmas.List.take_rest}
 use Rattle.std.specs.Prelude.{fold}
-use Rattle.std.proofs.lemmas.Result.{err_from_is_err_and}
-use Rattle.std.proofs.lemmas.Grind.{common_steps}
-use Rattle.std.proofs.lemmas.List.{take_rest}
+use Rattle.pcm_base.proofs.Exits.{exit_err}
 use Rattle.peak_summary.specs.declared.stretch.Summary.{Summary}
 use Rattle.peak_summary.specs.Peaks.{frame_count, frames_of, joined, nothing, summary_of}
 use Rattle.pcm_base.specs.Edits.{part}
@@ -39,8 +38,7 @@ returns-clause-read g c = λ told xs e len.
 
 pub returns-in_err-frames-clause-reads : goal.returns-in_err-frames-clause-reads
 returns-in_err-frames-clause-reads g c =
-    let p = err_from_is_err_and c.from_residual.result c.from_residual.ensures.1 in
-    rw (p.1, p.2) (reads_err _ _ _ _ c.in_err-frames.ensures.reads)
+    rw (exit_err c.from_residual.result c.from_residual.ensures.1) (reads_err c.in_err-frames.ensures.reads)
 
 pub returns-clause-reads : goal.returns-clause-reads
-returns-clause-reads g c = reads_ok _ _ _ _ _ c.in_ok-frames.ensures.reads
+returns-clause-reads g c = reads_ok c.in_ok-frames.ensures.reads

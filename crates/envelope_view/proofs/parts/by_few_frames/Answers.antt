@@ -1,7 +1,6 @@
 -- Frames that follow one another are joined.
-use Rattle.std.proofs.Common.{◌≤◌, ℕ, sym, subst, arith}
-use Rattle.std.proofs.lemmas.Result.{err_from_is_err_and}
-use Rattle.std.proofs.lemmas.Grind.{common_steps}
+use Rattle.std.proofs.{Common.◌≤◌, Common.ℕ, Common.sym, Common.subst, Common.arith, lemmas.Grind.common_steps}
+use Rattle.pcm_base.proofs.Exits.{exit_err}
 use Rattle.block_store.specs.Reads.{frame_len}
 use Rattle.block_cache.proofs.ReaderLaws.{reads_err, reads_ok}
 use Rattle.peak_summary.specs.Peaks.{frame_count}
@@ -20,8 +19,7 @@ returns-clause-read g c = λ told xs e len.
 
 pub returns-in_err-read_frames-clause-reads : goal.returns-in_err-read_frames-clause-reads
 returns-in_err-read_frames-clause-reads g c =
-    let p = err_from_is_err_and c.from_residual.result c.from_residual.ensures.1 in
-    rw (p.1, p.2) (reads_err _ _ _ _ c.in_err-read_frames.ensures.reads)
+    rw (exit_err c.from_residual.result c.from_residual.ensures.1) (reads_err c.in_err-read_frames.ensures.reads)
 
 pub returns-clause-reads : goal.returns-clause-reads
-returns-clause-reads g c = reads_ok _ _ _ _ _ c.in_ok-read_frames.ensures.reads
+returns-clause-reads g c = reads_ok c.in_ok-read_frames.ensures.reads

@@ -1,34 +1,25 @@
 -- One column more.
-use Rattle.std.proofs.Common.{◌≡◌, ℕ, ◌+◌, ◌-◌, ◌≤◌, List, [], ◌∷◌, ◌++◌, Option, take, drop, map, sym, ap, subst}
-use Rattle.std.proofs.Common.{◌∙◌, arith}
-use Rattle.std.proofs.lemmas.List.{drop-drop}
-use Rattle.std.proofs.lemmas.Grind.{common_steps}
-use Rattle.std.proofs.lemmas.Result.{err_from_is_err_and}
+use Rattle.std.proofs.Common.{◌≡◌, ℕ, ◌+◌, ◌-◌, ◌≤◌, List, [], ◌∷◌, ◌++◌, Option, take, drop, map, sym, ap, subst, ◌∙◌}
+use Rattle.std.proofs.Common.{arith}
+use Rattle.std.proofs.{lemmas.List.drop-drop, lemmas.Grind.common_steps}
+use Rattle.pcm_base.proofs.Exits.{exit_err}
 use Rattle.disk_model.specs.Disk.{Files}
-use Rattle.pcm_base.specs.Arithmetic.{counted_from}
-use Rattle.pcm_base.specs.Edits.{part}
-use Rattle.pcm_base.specs.Envelope.{edge, scan_of}
-use Rattle.pcm_base.specs.Pieces.{Sources}
-use Rattle.pcm_base.specs.declared.sound.Cell.{Cell}
-use Rattle.pcm_base.specs.declared.sound.Scan.{Scan}
+use Rattle.pcm_base.specs.{Arithmetic.counted_from, Edits.part, Envelope.edge, Envelope.scan_of, Pieces.Sources}
+use Rattle.pcm_base.specs.{declared.sound.Cell.Cell, declared.sound.Scan.Scan}
 use Rattle.sample_block.specs.Sources.{IsNamed, IsWhole, sources_of}
 use Rattle.block_cache.proofs.ReaderLaws.{reads_more, reads_none, reads_ok, reads_then, told_on}
 use Rattle.block_store.specs.Scans.{samples_among}
 use Rattle.peak_summary.specs.Peaks.{summary_of}
 use Rattle.clip_track.specs.Clips.{layout_blocks, layout_cells}
-use Rattle.envelope_view.specs.Ahead.{ahead_blocks, ahead_cells}
-use Rattle.envelope_view.specs.Halves.{IsKnown}
-use Rattle.envelope_view.specs.Named.{AreWhole}
-use Rattle.envelope_view.proofs.AnswerLaws.{reads_reason, reason_reads}
-use Rattle.envelope_view.proofs.EdgeLaws.{columns_more, first_edge}
-use Rattle.envelope_view.proofs.NamedLaws.{each_of}
+use Rattle.envelope_view.specs.{Ahead.ahead_blocks, Ahead.ahead_cells, Halves.IsKnown, Named.AreWhole}
+use Rattle.envelope_view.proofs.{AnswerLaws.reads_reason, AnswerLaws.reason_reads, EdgeLaws.columns_more}
+use Rattle.envelope_view.proofs.{EdgeLaws.first_edge, NamedLaws.each_of}
 use Rattle.envelope_view.proofs.scanning.scan_columns.Goals as goal
 
 -- there was no memory, and nothing was read
 pub returns-in_err-scans-clause-reads : goal.returns-in_err-scans-clause-reads
 returns-in_err-scans-clause-reads g c =
-    let p = err_from_is_err_and c.from_residual.result c.from_residual.ensures.1 in
-    rw (p.1, p.2) (reads_none _ _ tt (g.met.S.Store.may_fewer _))
+    rw (exit_err c.from_residual.result c.from_residual.ensures.1) (reads_none tt (g.met.S.Store.may_fewer _))
 
 pub rows-init : goal.rows-init
 rows-init g c = record {
@@ -36,7 +27,7 @@ rows-init g c = record {
   blocks = λ b there. c.rest.ensures.blocks b there;
   cells = λ src. c.rest.ensures.cells src ∙ ap (λ (k : ℕ). drop k (layout_cells src c.args.layout.now))
       (first_edge c.args.from c.args.to c.args.columns);
-  reads = reads_none _ _ tt (g.met.S.Store.may_fewer _);
+  reads = reads_none tt (g.met.S.Store.may_fewer _);
   known = λ told. tt;
   read = λ told whole. c.in_ok-scans.ensures.items;
 }
@@ -67,18 +58,18 @@ rows-preserved g c =
           ∙ ap (drop (end - begin)) (inv.cells src)
           ∙ drop-drop (end - begin) (edge a.from a.to a.columns i) cells
           ∙ ap (λ (k : ℕ). drop k cells) next;
-      reads = reads_then _ _ _ _ tt _ inv.reads
-          (reads_ok _ _ _ _ tt (reads_more (ahead_blocks c.rows.ahead) (layout_blocks a.layout.now) _ _ _ inv.blocks
+      reads = reads_then {x = tt} inv.reads
+          (reads_ok {y = tt} (reads_more (ahead_blocks c.rows.ahead) (layout_blocks a.layout.now) inv.blocks
           c.in_ok-summary.ensures.reads));
       known = λ told.
           subst (λ (f : Files). IsKnown f c.sweep.new.known) inv.reads.kept.same_reads
-          (c.sweep.ensures.known (told_on _ _ _ _ inv.reads told));
+          (c.sweep.ensures.known (told_on inv.reads told));
       read = λ told whole.
           let src : Sources = sources_of files in
           let cells : List Cell = layout_cells src a.layout.now in
           let F : ℕ → Option Scan =
           λ k. scan_of (part (edge a.from a.to a.columns k) (edge a.from a.to a.columns (k + 1)) cells) in
-          let still = told_on _ _ _ _ inv.reads told in
+          let still = told_on inv.reads told in
           let there : AreWhole files (ahead_blocks c.rows.ahead) =
           λ b is. each_of (IsWhole files) (layout_blocks a.layout.now) whole b (inv.blocks b is) in
           let here =
@@ -102,24 +93,23 @@ rows-preserved g c =
 pub returns-in_err-summary-clause-reads : goal.returns-in_err-summary-clause-reads
 returns-in_err-summary-clause-reads g c =
     let inv = c.rows.invariant in
-    let p = err_from_is_err_and c.from_residual-in_err-summary.result c.from_residual-in_err-summary.ensures.1 in
-    rw (p.1, p.2) (reads_then _ _ _ _ tt _ inv.reads
-    (reads_reason _ _ _ _ (reads_more (ahead_blocks c.rows.ahead) (layout_blocks c.args.layout.now) _ _ _ inv.blocks
+    rw (exit_err c.from_residual-in_err-summary.result c.from_residual-in_err-summary.ensures.1)
+    (reads_then {x = tt} inv.reads
+    (reads_reason (reads_more (ahead_blocks c.rows.ahead) (layout_blocks c.args.layout.now) inv.blocks
     c.in_err-summary.ensures.reads)))
 
 -- there was no memory after the reads
 pub returns-in_err-push-clause-reads : goal.returns-in_err-push-clause-reads
 returns-in_err-push-clause-reads g c =
     let inv = c.rows.invariant in
-    let p = err_from_is_err_and c.from_residual-in_err-push.result c.from_residual-in_err-push.ensures.1 in
-    rw (p.1, p.2) (reads_then _ _ _ _ tt _ inv.reads
-    (reads_ok _ _ _ _ tt (reads_more (ahead_blocks c.rows.ahead) (layout_blocks c.args.layout.now) _ _ _ inv.blocks
+    rw (exit_err c.from_residual-in_err-push.result c.from_residual-in_err-push.ensures.1)
+    (reads_then {x = tt} inv.reads
+    (reads_ok {y = tt} (reads_more (ahead_blocks c.rows.ahead) (layout_blocks c.args.layout.now) inv.blocks
     c.in_ok-summary.ensures.reads)))
 
 pub returns-in_err-summary-clause-reasons : goal.returns-in_err-summary-clause-reasons
 returns-in_err-summary-clause-reasons g c =
-    let p = err_from_is_err_and c.from_residual-in_err-summary.result c.from_residual-in_err-summary.ensures.1 in
-    rw (p.1, p.2) (reason_reads _)
+    rw (exit_err c.from_residual-in_err-summary.result c.from_residual-in_err-summary.ensures.1) (reason_reads _)
 
 pub returns-clause-reads : goal.returns-clause-reads
 returns-clause-reads g c = c.rows.invariant.reads

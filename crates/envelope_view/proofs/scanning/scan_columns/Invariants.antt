@@ -3,14 +3,10 @@ use Rattle.std.proofs.Common.{◌≡◌, ◌+◌, drop, map, Ok}
 use Rattle.std.specs.Prelude.{IsTrue, Contains}
 use Rattle.sample_block.specs.Sources.{AllWhole, sources_of}
 use Rattle.block_cache.specs.Readers.{Reads}
-use Rattle.pcm_base.specs.Arithmetic.{counted_from}
-use Rattle.pcm_base.specs.Edits.{part}
 use Rattle.pcm_base.specs.Envelope.{edge, scan_of}
-use Rattle.pcm_base.specs.Pieces.{Sources}
-use Rattle.pcm_base.specs.declared.block.BlockRef.{BlockRef}
+use Rattle.pcm_base.specs.{Arithmetic.counted_from, Edits.part, Pieces.Sources, declared.block.BlockRef.BlockRef}
 use Rattle.clip_track.specs.Clips.{layout_blocks, layout_cells}
-use Rattle.envelope_view.specs.Ahead.{IsInBlock, ahead_blocks, ahead_cells}
-use Rattle.envelope_view.specs.Halves.{IsKnown}
+use Rattle.envelope_view.specs.{Ahead.IsInBlock, Ahead.ahead_blocks, Ahead.ahead_cells, Halves.IsKnown}
 use Rattle.envelope_view.proofs.scanning.scan_columns.Given as goal
 
 abbrev pub invariant-rows : goal.invariant-rows

@@ -1,9 +1,8 @@
 -- The front that was known, and what was read after it.
 use Rattle.std.proofs.Common.{◌≡◌, ◌∙◌, ℕ, Some, length, sym, ap}
-use Rattle.std.proofs.lemmas.Result.{err_from_is_err_and}
+use Rattle.pcm_base.proofs.Exits.{exit_err}
 use Rattle.disk_model.specs.Disk.{Files}
-use Rattle.pcm_base.specs.declared.block.BlockRef.{BlockRef}
-use Rattle.pcm_base.specs.Edits.{part}
+use Rattle.pcm_base.specs.{declared.block.BlockRef.BlockRef, Edits.part}
 use Rattle.sample_block.specs.Blocks.{blocks}
 use Rattle.peak_summary.specs.Peaks.{summary_of}
 use Rattle.block_cache.proofs.ReaderLaws.{reads_err, reads_ok}
@@ -26,8 +25,7 @@ returns-clause-read g c = λ told xs e len.
 
 pub returns-in_err-back-clause-reads : goal.returns-in_err-back-clause-reads
 returns-in_err-back-clause-reads g c =
-    let p = err_from_is_err_and c.from_residual.result c.from_residual.ensures.1 in
-    rw (p.1, p.2) (reads_err _ _ _ _ c.in_err-back.ensures.reads)
+    rw (exit_err c.from_residual.result c.from_residual.ensures.1) (reads_err c.in_err-back.ensures.reads)
 
 pub returns-clause-reads : goal.returns-clause-reads
-returns-clause-reads g c = reads_ok _ _ _ _ _ c.in_ok-back.ensures.reads
+returns-clause-reads g c = reads_ok c.in_ok-back.ensures.reads

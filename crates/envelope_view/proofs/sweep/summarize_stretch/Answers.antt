@@ -1,6 +1,6 @@
 -- Gaps have no sample, and a block has those of its part.
 use Rattle.std.proofs.Common.{sym, ap, subst, arith}
-use Rattle.std.proofs.lemmas.Result.{err_from_is_err_and}
+use Rattle.pcm_base.proofs.Exits.{exit_err}
 use Rattle.sample_block.specs.Sources.{sources_of}
 use Rattle.peak_summary.specs.Peaks.{summary_of}
 use Rattle.block_cache.proofs.ReaderLaws.{reads_err, reads_more, reads_none}
@@ -25,15 +25,14 @@ returns-in_ok-summary-in-Block-clause-read g c = λ told whole.
 
 pub returns-in_ok-summary-in-Block-clause-reads : goal.returns-in_ok-summary-in-Block-clause-reads
 returns-in_ok-summary-in-Block-clause-reads g c =
-    reads_more _ (stretch_blocks c.args.stretch) _ _ _ (blocks_one c.args.stretch _ _ c.in-Block.is)
+    reads_more _ (stretch_blocks c.args.stretch) (blocks_one c.args.stretch _ _ c.in-Block.is)
     c.in_ok-summary-in-Block.ensures.reads
 
 pub returns-in_err-summary-in-Block-clause-reads : goal.returns-in_err-summary-in-Block-clause-reads
 returns-in_err-summary-in-Block-clause-reads g c =
-    let p = err_from_is_err_and c.from_residual.result c.from_residual.ensures.1 in
-    rw (p.1, p.2) (reads_err _ _ _ _
-    (reads_more _ (stretch_blocks c.args.stretch) _ _ _ (blocks_one c.args.stretch _ _ c.in-Block.is)
+    rw (exit_err c.from_residual.result c.from_residual.ensures.1) (reads_err
+    (reads_more _ (stretch_blocks c.args.stretch) (blocks_one c.args.stretch _ _ c.in-Block.is)
     c.in_err-summary-in-Block.ensures.reads))
 
 pub returns-in-Gaps-clause-reads : goal.returns-in-Gaps-clause-reads
-returns-in-Gaps-clause-reads g c = reads_none _ _ _ (g.met.S.Store.may_fewer _)
+returns-in-Gaps-clause-reads g c = reads_none _ (g.met.S.Store.may_fewer _)

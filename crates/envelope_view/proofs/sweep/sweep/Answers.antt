@@ -1,23 +1,17 @@
 -- Some cells more, and what is left where all of them are swept or none is left.
 use Rattle.std.proofs.Common.{◌≡◌, ◌∷◌, ◌-◌, ◌≤◌, ℕ, ℤ, List, [], ◌++◌, take, drop, refl, sym, ap, subst, ◌∙◌, arith}
-use Rattle.std.specs.Prelude.{Contains}
 use Rattle.std.proofs.lemmas.List.Elements.{Contains-append_left}
-use Rattle.std.proofs.lemmas.Result.{err_from_is_err_and}
+use Rattle.std.specs.Prelude.{Contains}
+use Rattle.pcm_base.proofs.Exits.{exit_err}
 use Rattle.disk_model.specs.Disk.{Files}
-use Rattle.pcm_base.specs.declared.block.BlockRef.{BlockRef}
-use Rattle.pcm_base.specs.declared.sound.Cell.{Cell}
-use Rattle.pcm_base.specs.Pieces.{Sources}
+use Rattle.pcm_base.specs.{declared.block.BlockRef.BlockRef, declared.sound.Cell.Cell, Pieces.Sources}
 use Rattle.sample_block.specs.Sources.{sources_of}
 use Rattle.block_cache.proofs.ReaderLaws.{reads_err, reads_more, reads_none, reads_ok, reads_then, told_on}
 use Rattle.block_store.specs.Scans.{samples_among}
-use Rattle.peak_summary.specs.declared.stretch.Summary.{Summary}
-use Rattle.peak_summary.specs.Peaks.{summary_of}
-use Rattle.clip_track.specs.declared.rest.Stretch.{Stretch}
-use Rattle.clip_track.specs.Items.{strip_blocks, strip_cells}
-use Rattle.clip_track.specs.Rests.{stretch_item}
+use Rattle.peak_summary.specs.{declared.stretch.Summary.Summary, Peaks.summary_of}
+use Rattle.clip_track.specs.{declared.rest.Stretch.Stretch, Items.strip_blocks, Items.strip_cells, Rests.stretch_item}
 use Rattle.envelope_view.specs.Ahead.{IsInBlock, ahead_blocks, ahead_cells, stretch_blocks, stretch_cells, stretch_len}
-use Rattle.envelope_view.specs.Halves.{IsKnown}
-use Rattle.envelope_view.specs.Named.{AreWhole}
+use Rattle.envelope_view.specs.{Halves.IsKnown, Named.AreWhole}
 use Rattle.envelope_view.proofs.AheadLaws.{among_few, front_fits, step_heard, step_passed, none_heard, none_passed}
 use Rattle.envelope_view.proofs.Running.{Running, running_start, running_more, running_end}
 use Rattle.envelope_view.proofs.sweep.sweep.Goals as goal
@@ -28,7 +22,7 @@ stretches-init g c = record {
   stretch = c.requires.stretch;
   blocks = λ b there. there;
   passed = λ src. refl;
-  reads = reads_none _ _ tt (g.met.S.Store.may_fewer _);
+  reads = reads_none tt (g.met.S.Store.may_fewer _);
   known = c.requires.known;
   read = λ told whole. running_start _ _;
 }
@@ -77,15 +71,15 @@ stretches-preserved g c =
           (subst (λ (bs : List BlockRef). Contains (bs ++ strip_blocks rest) b) c.behind-ahead.ensures.blocks is);
       passed = λ src. step_passed src s c.behind-ahead.result rest (ahead_cells src c.stretches.ahead) left size within
           part c.behind-ahead.ensures.item (cells src) ∙ inv.passed src;
-      reads = reads_then _ _ _ _ tt _ inv.reads
-          (reads_ok _ _ _ _ tt (reads_more (stretch_blocks s) (ahead_blocks c.args.ahead.now) _ _ _
+      reads = reads_then {x = tt} inv.reads
+          (reads_ok {y = tt} (reads_more (stretch_blocks s) (ahead_blocks c.args.ahead.now)
           (λ b is. there b (Contains-append_left (stretch_blocks s) (strip_blocks rest) b is))
           c.in_ok-part.ensures.reads));
       known = λ told.
           subst (λ (f : Files). IsKnown f c.summarize_stretch.new.known) inv.reads.kept.same_reads
-          (c.summarize_stretch.ensures.known (told_on _ _ _ _ inv.reads told));
+          (c.summarize_stretch.ensures.known (told_on inv.reads told));
       read = λ told whole.
-          let still = told_on _ _ _ _ inv.reads told in
+          let still = told_on inv.reads told in
           let whole_s : AreWhole files (stretch_blocks s) =
           λ b is. whole b (there b (Contains-append_left (stretch_blocks s) (strip_blocks rest) b is)) in
           let here = subst (λ (f : Files). AreWhole f (stretch_blocks s)) (sym inv.reads.kept.same_reads) whole_s in
@@ -142,16 +136,15 @@ returns-in_err-part-clause-reads g c =
     let inv = c.stretches.invariant in
     let s : Stretch = c.in-Some.stretch in
     let rest = strip_blocks c.next.new.self.rest in
-    let p = err_from_is_err_and c.from_residual.result c.from_residual.ensures.1 in
-    rw (p.1, p.2) (reads_then _ _ _ _ tt _ inv.reads
-    (reads_err _ _ _ _ (reads_more (stretch_blocks s) (ahead_blocks c.args.ahead.now) _ _ _
+    rw (exit_err c.from_residual.result c.from_residual.ensures.1) (reads_then {x = tt} inv.reads
+    (reads_err (reads_more (stretch_blocks s) (ahead_blocks c.args.ahead.now)
     (λ b is. inv.blocks b (c.next.ensures.blocks b
     (subst (λ (x : Stretch). Contains (stretch_blocks x ++ rest) b) c.in-Some.ensures.found.0
     (Contains-append_left (stretch_blocks s) rest b is))))
     c.in_err-part.ensures.reads)))
 
 pub returns-in_default-clause-reads : goal.returns-in_default-clause-reads
-returns-in_default-clause-reads g c = reads_ok _ _ _ tt _ c.stretches.invariant.reads
+returns-in_default-clause-reads g c = reads_ok {x = tt} c.stretches.invariant.reads
 
 pub returns-clause-reads : goal.returns-clause-reads
-returns-clause-reads g c = reads_ok _ _ _ tt _ c.stretches.invariant.reads
+returns-clause-reads g c = reads_ok {x = tt} c.stretches.invariant.reads

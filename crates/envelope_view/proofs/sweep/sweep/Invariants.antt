@@ -4,11 +4,8 @@ use Rattle.std.specs.Prelude.{IsTrue, Contains}
 use Rattle.sample_block.specs.Sources.{sources_of}
 use Rattle.block_cache.specs.Readers.{Reads}
 use Rattle.block_store.specs.Scans.{samples_among}
-use Rattle.pcm_base.specs.Pieces.{Sources}
-use Rattle.pcm_base.specs.declared.block.BlockRef.{BlockRef}
-use Rattle.envelope_view.specs.Ahead.{IsInBlock, ahead_blocks, ahead_cells}
-use Rattle.envelope_view.specs.Halves.{IsKnown}
-use Rattle.envelope_view.specs.Named.{AreWhole}
+use Rattle.pcm_base.specs.{Pieces.Sources, declared.block.BlockRef.BlockRef}
+use Rattle.envelope_view.specs.{Ahead.IsInBlock, Ahead.ahead_blocks, Ahead.ahead_cells, Halves.IsKnown, Named.AreWhole}
 use Rattle.envelope_view.proofs.Running.{Running}
 use Rattle.envelope_view.proofs.sweep.sweep.Given as goal
 

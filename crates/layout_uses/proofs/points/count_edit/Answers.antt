@@ -1,8 +1,7 @@
 -- A point comes after the current one, and others go.
 use Rattle.std.proofs.Common.{◌≡◌, sym, subst, ◌∙◌, ap, ℕ, ◌+◌, ◌-◌, ◌≤◌, take, drop, arith}
 use Rattle.pcm_base.specs.History.{points_of}
-use Rattle.layout_uses.specs.Layouts.{points_tracks}
-use Rattle.layout_uses.specs.Tallies.{Goes, Has}
+use Rattle.layout_uses.specs.{Layouts.points_tracks, Tallies.Goes, Tallies.Has}
 use Rattle.layout_uses.proofs.Histories.{became_edited, has_last, has_oldest, rest_is}
 use Rattle.layout_uses.proofs.points.count_edit.Goals as goal
 

@@ -1,12 +1,9 @@
 -- One file more.
 use Rattle.std.proofs.Common.{rules, ◌≡◌, [], ℕ, List, length, get_or, refl, sym, ◌∙◌, subst, arith}
-use Rattle.memory_disk.specs.Images.{IsLeft, image_of}
 use Rattle.memory_disk.specs.Calls.{AllHeld, history_of, items_of}
-use Rattle.memory_disk.specs.ByFile.{calls_of}
-use Rattle.memory_disk.specs.declared.call.Call.{Call}
-use Rattle.memory_disk.proofs.Builds.{held_start, built_start, built_next}
-use Rattle.memory_disk.proofs.FileCalls.{held_own, is_left_own}
-use Rattle.memory_disk.proofs.Rising.{starts, goes_on, is_image}
+use Rattle.memory_disk.specs.{Images.IsLeft, Images.image_of, ByFile.calls_of, declared.call.Call.Call}
+use Rattle.memory_disk.proofs.{Builds.held_start, Builds.built_start, Builds.built_next, FileCalls.held_own}
+use Rattle.memory_disk.proofs.{FileCalls.is_left_own, Rising.starts, Rising.goes_on, Rising.is_image}
 use Rattle.memory_disk.proofs.build.build_all.Goals as goal
 
 pub loop-file-init : goal.loop-file-init

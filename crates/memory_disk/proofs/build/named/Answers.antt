@@ -1,7 +1,6 @@
 -- One call more.
 use Rattle.std.proofs.Common.{◌≡◌, None, List, sym, subst, arith}
-use Rattle.memory_disk.specs.History.{Step, reads_of}
-use Rattle.memory_disk.specs.Images.{IsUnnamed}
+use Rattle.memory_disk.specs.{History.Step, History.reads_of, Images.IsUnnamed}
 use Rattle.memory_disk.proofs.CallsLemmas.{history_next}
 use Rattle.memory_disk.proofs.build.named.Goals as goal
 

@@ -1,10 +1,7 @@
 -- No other file was written or removed so far.
 use Rattle.std.proofs.Common.{◌≡◌, ℕ, None, false, take}
-use Rattle.std.specs.Ordering.{nat_cmp}
-use Rattle.std.specs.BTreeSet.{contains}
-use Rattle.memory_disk.specs.History.{reads_of}
-use Rattle.memory_disk.specs.Images.{IsUnnamed}
-use Rattle.memory_disk.specs.Calls.{history_of}
+use Rattle.std.specs.{Ordering.nat_cmp, BTreeSet.contains}
+use Rattle.memory_disk.specs.{History.reads_of, Images.IsUnnamed, Calls.history_of}
 use Rattle.memory_disk.proofs.build.named.Given as goal
 
 abbrev pub invariant-loop-call : goal.invariant-loop-call

@@ -1,9 +1,7 @@
 -- The file is removed, written and synced.
 use Rattle.std.proofs.Common.{◌≡◌, ◌∷◌, ℕ, Option, List, sym, subst, ap, ◌∙◌}
 use Rattle.memory_disk.specs.History.{Wrote, Synced, Removed}
-use Rattle.memory_disk.specs.Calls.{history_of, items_of}
-use Rattle.memory_disk.specs.Settled.{SetsFile}
-use Rattle.memory_disk.specs.declared.call.Call.{Call}
+use Rattle.memory_disk.specs.{Calls.history_of, Calls.items_of, Settled.SetsFile, declared.call.Call.Call}
 use Rattle.memory_disk.proofs.Builds.{sets_written}
 use Rattle.memory_disk.proofs.build.set_file.Goals as goal
 

@@ -2,8 +2,7 @@
 use Rattle.std.proofs.Common.{leb, ltb, ltb-true, arith, rules}
 use Rattle.std.proofs.lemmas.Bool.{ltb-false, leb-true, leb-false}
 use Rattle.std.proofs.lemmas.List.Sorted.{IsPartitionPoint-from_clause, IsPartitionedBy-ltb, IsPartitionedBy-leb}
-use Rattle.memory_disk.specs.Index.{no_call}
-use Rattle.memory_disk.specs.declared.call.Call.{Call}
+use Rattle.memory_disk.specs.{Index.no_call, declared.call.Call.Call}
 use Rattle.memory_disk.proofs.FileCalls.{in_order, own_part}
 use Rattle.memory_disk.proofs.by_file.file_calls.Goals as goal
 

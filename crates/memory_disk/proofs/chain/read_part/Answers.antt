@@ -3,10 +3,8 @@ use Rattle.std.proofs.Common.{◌≡◌, ◌++◌, ℕ, List, drop, length, ap, 
 use Rattle.std.proofs.lemmas.List.{length-take-le}
 use Rattle.std.specs.Option.{option_map, unwrap_or}
 use Rattle.disk_model.specs.Disk.{Files, bytes_of}
-use Rattle.memory_disk.specs.History.{reads_of}
-use Rattle.memory_disk.specs.Calls.{history_of}
-use Rattle.memory_disk.proofs.Windows.{window_part, size_of_absent}
-use Rattle.memory_disk.proofs.ReadChain.{reads_all}
+use Rattle.memory_disk.specs.{History.reads_of, Calls.history_of}
+use Rattle.memory_disk.proofs.{Windows.window_part, Windows.size_of_absent, ReadChain.reads_all}
 use Rattle.memory_disk.proofs.chain.read_part.Goals as goal
 
 pub returns-clause-read : goal.returns-clause-read

@@ -2,8 +2,7 @@
 use Rattle.std.proofs.Common.{◌≡◌, ◌≢◌, ℕ, ◌≤◌, ◌<◌, Option, None, List, length, get_or, refl, sym, ap, subst, ◌∙◌}
 use Rattle.std.proofs.Common.{arith}
 use Rattle.std.specs.Prelude.{IsSome}
-use Rattle.memory_disk.specs.Index.{AreRising, head_of, no_head}
-use Rattle.memory_disk.specs.declared.heads.Head.{Head}
+use Rattle.memory_disk.specs.{Index.AreRising, Index.head_of, Index.no_head, declared.heads.Head.Head}
 use Rattle.memory_disk.proofs.HeadLists.{not_falling, head_nowhere, head_replaced, head_inserted, rising_replaced}
 use Rattle.memory_disk.proofs.HeadLists.{rising_inserted}
 use Rattle.memory_disk.proofs.heads.put.Goals as goal

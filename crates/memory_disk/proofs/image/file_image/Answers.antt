@@ -1,9 +1,7 @@
 -- The calls up to the last sync and those from there on.
 use Rattle.std.proofs.Common.{Option, List, ℕ, sym, subst, take}
-use Rattle.memory_disk.specs.Images.{IsLeft}
-use Rattle.memory_disk.specs.Calls.{history_of}
-use Rattle.memory_disk.proofs.CallsLemmas.{held_take}
-use Rattle.memory_disk.proofs.LeftCalls.{held_rest, left_parts}
+use Rattle.memory_disk.specs.{Images.IsLeft, Calls.history_of}
+use Rattle.memory_disk.proofs.{CallsLemmas.held_take, LeftCalls.held_rest, LeftCalls.left_parts}
 use Rattle.memory_disk.proofs.image.file_image.Goals as goal
 
 pub content_of-requires : goal.content_of-requires

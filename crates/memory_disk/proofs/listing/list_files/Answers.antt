@@ -1,9 +1,6 @@
 -- What is listed is what is there.
-use Rattle.std.proofs.Common.{map, ap, ◌∙◌, arith}
-use Rattle.std.proofs.lemmas.List.{take_all}
-use Rattle.std.specs.List.{filter}
-use Rattle.std.specs.Prelude.{is_some}
-use Rattle.std.proofs.Common.{List}
+use Rattle.std.proofs.{Common.map, Common.ap, Common.◌∙◌, Common.arith, Common.List, lemmas.List.take_all}
+use Rattle.std.specs.{List.filter, Prelude.is_some}
 use Rattle.memory_disk.specs.declared.heads.Head.{Head}
 use Rattle.memory_disk.proofs.Listings.{files_listed, files_rise}
 use Rattle.memory_disk.proofs.listing.list_files.Goals as goal

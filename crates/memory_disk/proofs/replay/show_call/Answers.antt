@@ -1,8 +1,7 @@
 -- A write as the window shows it.
 use Rattle.std.proofs.Common.{ℕ, List, sym, subst, ap, ◌∙◌, arith}
 use Rattle.disk_model.specs.Disk.{bytes_of, written}
-use Rattle.memory_disk.specs.History.{reads_of}
-use Rattle.memory_disk.specs.Calls.{IsWindow}
+use Rattle.memory_disk.specs.{History.reads_of, Calls.IsWindow}
 use Rattle.memory_disk.proofs.Windows.{window_written, reads_call}
 use Rattle.memory_disk.proofs.replay.show_call.Goals as goal
 

@@ -8,8 +8,7 @@ returns-in-Ok c =
     let e = c.in-Ok.ensures in
     let empty = c.in_ok-store.ensures in
     is_made _ c.args.project.now c.requires c.in_ok-store.store c.create.new.store empty e.changed
-    (e.honest empty.honest)
-    (e.done refl).0 (e.done refl).1 (e.journal refl)
+    (e.honest empty.honest) (e.done refl).0 (e.done refl).1 (e.journal refl)
 
 pub want_of_memory-requires : goal.want_of_memory-requires
 want_of_memory-requires c =

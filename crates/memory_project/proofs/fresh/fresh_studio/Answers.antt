@@ -1,7 +1,6 @@
 -- A fresh project, opened.
 use Rattle.std.proofs.Common.{length}
-use Rattle.memory_disk.specs.Histories.{image_since, reads_is_image}
-use Rattle.memory_disk.specs.History.{reads_of}
+use Rattle.memory_disk.specs.{Histories.image_since, Histories.reads_is_image, History.reads_of}
 use Rattle.editor_core.specs.Core.{core_of}
 use Rattle.memory_project.proofs.OpenLemmas.{is_fresh, opening_wants}
 use Rattle.memory_project.proofs.fresh.fresh_studio.Goals as goal
@@ -27,5 +26,4 @@ pub want_of_memory-requires : goal.want_of_memory-requires
 want_of_memory-requires c =
     let e = c.in-Err.ensures in
     opening_wants _ c.args.project.now c.requires c.in_ok-store.store c.in_ok-store.ensures c.in-Err._store
-    c.in-Err.fault
-    e.honest e.cause e.changed
+    c.in-Err.fault e.honest e.cause e.changed

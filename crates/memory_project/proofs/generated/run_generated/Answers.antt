@@ -39,5 +39,4 @@ returns c =
     c.in_ok-studio.ensures in
     let ran = ran_at _ start end c.deref.result.now script c.deref.ensures.value c.in_ok-run_script.ensures in
     sum_ran _ c.args.number lines start fresh script e.script e.count e.valid e.needs end ran
-    (core_of c.sum_up.new.studio)
-    c.sum_up.result c.sum_up.ensures.sum c.sum_up.ensures.looks
+    (core_of c.sum_up.new.studio) c.sum_up.result c.sum_up.ensures.sum c.sum_up.ensures.looks

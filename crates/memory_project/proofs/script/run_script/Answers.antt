@@ -1,7 +1,6 @@
 -- A line more.
 use Rattle.std.proofs.Common.{◌+◌, drop, refl, subst}
-use Rattle.std.proofs.lemmas.Option.{slice_get_read}
-use Rattle.std.proofs.lemmas.List.{drop_all}
+use Rattle.std.proofs.{lemmas.Option.slice_get_read, lemmas.List.drop_all}
 use Rattle.pcm_base.specs.declared.command.Command.{Command}
 use Rattle.project_state.proofs.Points.{drop_some}
 use Rattle.editor_core.specs.Core.{core_of}

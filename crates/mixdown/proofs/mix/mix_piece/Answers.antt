@@ -1,44 +1,24 @@
 -- One track more is summed.
 use Rattle.std.proofs.Common.{◌≡◌, ◌<◌, ◌≤◌, ◌+◌, ◌*◌, ◌^◌, ℕ, ℤ, pos, ◌-◌, List, [], length, take, drop, replicate}
 use Rattle.std.proofs.Common.{get_or, length-drop, arith, refl, ap, ◌∙◌}
-use Rattle.std.specs.Prelude.{◌+ℤ◌, nat_abs}
-use Rattle.std.proofs.Math.Nat.{mul-le-mul_right}
-use Rattle.std.proofs.lemmas.Int.{ints}
 use Rattle.std.proofs.lemmas.List.{get_or-replicate, get_or-take, get_or-drop, length-take, drop_all}
-use Rattle.pcm_base.specs.declared.sound.Cell.{Cell}
-use Rattle.pcm_base.specs.declared.sound.Cell.TheVariants.{Gap}
-use Rattle.pcm_base.specs.declared.sound.Side.{Side}
-use Rattle.pcm_base.specs.declared.sound.Side.TheVariants.{Both}
-use Rattle.pcm_base.specs.Cells.{Project}
-use Rattle.pcm_base.specs.Mix.{weight, frame_at}
+use Rattle.std.proofs.{Math.Nat.mul-le-mul_right, lemmas.Int.ints}
+use Rattle.std.specs.Prelude.{◌+ℤ◌, nat_abs}
+use Rattle.pcm_base.specs.{declared.sound.Cell.Cell, declared.sound.Cell.TheVariants.Gap, declared.sound.Side.Side}
+use Rattle.pcm_base.specs.{declared.sound.Side.TheVariants.Both, Cells.Project, Mix.weight, Mix.frame_at}
+use Rattle.mixdown.specs.declared.sums.TheConstants.{PIECE}
 use Rattle.mixdown.specs.Laid.{laid, left_sum, right_sum}
 use Rattle.mixdown.specs.Sums.{sum_in, weight_in, limited, frame_in}
-use Rattle.mixdown.proofs.LaidLaws.{left_more, right_more}
+use Rattle.mixdown.proofs.LaidLaws.{left_start, left_more, left_end, right_start, right_more, right_end}
 use Rattle.mixdown.proofs.PieceLaws.{same_piece}
 use Rattle.mixdown.proofs.mix.mix_piece.Goals as goal
 
+-- a sum that has grown with one track more
+bound_more : (t a b : ℕ) → a ≤ b + 2 ^ 19 → b ≤ t * 2 ^ 19 → a ≤ (t + 1) * 2 ^ 19
+bound_more t a b grown so_far = omega (arith, grown, so_far)
+
 nothing_in : (xs : List ℤ) (n k : ℕ) → k < n → xs ≡ replicate n (pos 0) → sum_in xs k ≡ pos 0
 nothing_in xs n k lt is = ap (λ (ys : List ℤ). sum_in ys k) is ∙ get_or-replicate n k (pos 0) (pos 0) lt
-
-left_start : (len i : ℕ) (S : List Cell) (G : List ℕ) (D : List Side) (a b : ℤ) → a ≡ pos 0 → b ≡ pos 0
-    → (a +ℤ b) +ℤ left_sum (laid len (drop (0 * len) S) G D) i ≡ left_sum (laid len S G D) i
-left_start len i S G D a b ea eb =
-    let none : 0 * len ≡ 0 = omega arith in
-    let start : left_sum (laid len (drop (0 * len) S) G D) i ≡ left_sum (laid len S G D) i =
-    ap (λ (n : ℕ). left_sum (laid len (drop n S) G D) i) none in
-    omega (arith, ints, ea, eb, start)
-
-right_start : (len i : ℕ) (S : List Cell) (G : List ℕ) (D : List Side) (a b : ℤ) → a ≡ pos 0 → b ≡ pos 0
-    → (a +ℤ b) +ℤ right_sum (laid len (drop (0 * len) S) G D) i ≡ right_sum (laid len S G D) i
-right_start len i S G D a b ea eb =
-    let none : 0 * len ≡ 0 = omega arith in
-    let start : right_sum (laid len (drop (0 * len) S) G D) i ≡ right_sum (laid len S G D) i =
-    ap (λ (n : ℕ). right_sum (laid len (drop n S) G D) i) none in
-    omega (arith, ints, ea, eb, start)
-
--- a sum that has grown with one track more
-bound_more : (t a b : ℕ) → a ≤ b + 2 ^ 32 → b ≤ t * 2 ^ 32 → a ≤ (t + 1) * 2 ^ 32
-bound_more t a b grown so_far = omega (arith, grown, so_far)
 
 -- what a cell of a part weighs
 weighs_part : (g from n k at : ℕ) (S : List Cell) → k < n → from + k ≡ at
@@ -52,31 +32,14 @@ within_part : (from n k : ℕ) (S : List Cell) → k < n → from + n ≤ length
     → k < length (take (from + n - from) (drop from S))
 within_part from n k S lt le = omega (arith, lt, le, length-take (from + n - from) (drop from S), length-drop from S)
 
--- no track is left
-left_end : (len t i : ℕ) (S : List Cell) (G : List ℕ) (D : List Side) (a whole : ℤ) → length G ≤ t
-    → a +ℤ left_sum (laid len (drop (t * len) S) (drop t G) (drop t D)) i ≡ whole → a ≡ whole
-left_end len t i S G D a whole le so_far =
-    let none : drop t G ≡ [] = drop_all t G le in
-    let nothing : left_sum (laid len (drop (t * len) S) (drop t G) (drop t D)) i ≡ pos 0 =
-    ap (λ (gs : List ℕ). left_sum (laid len (drop (t * len) S) gs (drop t D)) i) none in
-    omega (arith, ints, nothing, so_far)
-
-right_end : (len t i : ℕ) (S : List Cell) (G : List ℕ) (D : List Side) (a whole : ℤ) → length G ≤ t
-    → a +ℤ right_sum (laid len (drop (t * len) S) (drop t G) (drop t D)) i ≡ whole → a ≡ whole
-right_end len t i S G D a whole le so_far =
-    let none : drop t G ≡ [] = drop_all t G le in
-    let nothing : right_sum (laid len (drop (t * len) S) (drop t G) (drop t D)) i ≡ pos 0 =
-    ap (λ (gs : List ℕ). right_sum (laid len (drop (t * len) S) gs (drop t D)) i) none in
-    omega (arith, ints, nothing, so_far)
-
 frame_is : (a b l r : ℤ) → a ≡ l → b ≡ r → limited a b ≡ limited l r
 frame_is a b l r el er = rw (el, er) refl
 
 pub loop-t-init : goal.loop-t-init
 loop-t-init c =
-    let zero_both = λ (k : ℕ) (lt : k < 256). nothing_in c.new-sums.result.both 256 k lt c.new-sums.ensures.both in
-    let zero_left = λ (k : ℕ) (lt : k < 256). nothing_in c.new-sums.result.left 256 k lt c.new-sums.ensures.left in
-    let zero_right = λ (k : ℕ) (lt : k < 256). nothing_in c.new-sums.result.right 256 k lt c.new-sums.ensures.right in
+    let zero_both = λ (k : ℕ) (lt : k < PIECE). nothing_in c.new-sums.result.both PIECE k lt c.new-sums.ensures.both in
+    let zero_left = λ (k : ℕ) (lt : k < PIECE). nothing_in c.new-sums.result.left PIECE k lt c.new-sums.ensures.left in
+    let zero_right = λ (k : ℕ) (lt : k < PIECE). nothing_in c.new-sums.result.right PIECE k lt c.new-sums.ensures.right in
     record {
       left = λ k lt. left_start c.args.len (c.args.at + k) c.args.stretches.now c.args.gains.now c.args.sides.now _ _
           (zero_both k (omega (arith, lt, c.requires.piece))) (zero_left k (omega (arith, lt, c.requires.piece)));
@@ -119,8 +82,7 @@ loop-t-preserved c =
           c.args.stretches.now c.args.gains.now c.args.sides.now Gap Both _ _ _ _ c.loop-t-test.true
           c.requires.sides (omega (arith, lt, c.requires.within)) refl c.requires.stretches
           (weighs_part gain from n k (c.loop-t.t * c.args.len + (c.args.at + k)) c.args.stretches.now lt (omega arith))
-          (c.loop-t.invariant.right k lt)
-          (c.add.ensures.right k (within_part from n k c.args.stretches.now lt fits));
+          (c.loop-t.invariant.right k lt) (c.add.ensures.right k (within_part from n k c.args.stretches.now lt fits));
       both_bound = λ k lt.
           bound_more c.loop-t.t _ _ (c.add.ensures.both_bound k (within_part from n k c.args.stretches.now lt fits))
           (c.loop-t.invariant.both_bound k lt);

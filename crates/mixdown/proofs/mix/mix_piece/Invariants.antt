@@ -1,8 +1,7 @@
 -- What is summed so far and what is left make the whole.
 use Rattle.std.proofs.Common.{◌≡◌, ◌<◌, ◌+◌, ◌*◌, ◌^◌, ℕ, drop, length}
 use Rattle.std.specs.Prelude.{◌+ℤ◌}
-use Rattle.mixdown.specs.Laid.{laid, left_sum, right_sum}
-use Rattle.mixdown.specs.Sums.{sum_in, AreWithin}
+use Rattle.mixdown.specs.{Laid.laid, Laid.left_sum, Laid.right_sum, Sums.sum_in, Sums.AreWithin}
 use Rattle.mixdown.proofs.mix.mix_piece.Given as goal
 
 abbrev pub invariant-loop-t : goal.invariant-loop-t
@@ -13,7 +12,7 @@ invariant-loop-t l = record {
   right : (k : ℕ) → k < length l.out → (sum_in l.sums.both k +ℤ sum_in l.sums.right k) +ℤ right_sum
       (laid l.len (drop (l.t * l.len) l.stretches) (drop l.t l.gains) (drop l.t l.sides)) (l.at + k)
       ≡ right_sum (laid l.len l.stretches l.gains l.sides) (l.at + k);
-  both_bound : AreWithin (l.t * 2 ^ 32) (length l.out) l.sums.both;
-  left_bound : AreWithin (l.t * 2 ^ 32) (length l.out) l.sums.left;
-  right_bound : AreWithin (l.t * 2 ^ 32) (length l.out) l.sums.right;
+  both_bound : AreWithin (l.t * 2 ^ 19) (length l.out) l.sums.both;
+  left_bound : AreWithin (l.t * 2 ^ 19) (length l.out) l.sums.left;
+  right_bound : AreWithin (l.t * 2 ^ 19) (length l.out) l.sums.right;
 }

@@ -1,9 +1,8 @@
 -- Eight samples are widened and multiplied, lane by lane.
 use Rattle.std.proofs.Common.{◌≡◌, ◌^◌, List, length, take, arith, ap, ◌∙◌, map, subst, sym}
-use Rattle.std.specs.Prelude.{ℤ}
 use Rattle.std.proofs.lemmas.List.{take_all}
-use Rattle.peak_summary.specs.Peaks.{square, AreSamples}
-use Rattle.peak_summary.specs.Lanes.{AreAtMost}
+use Rattle.std.specs.Prelude.{ℤ}
+use Rattle.peak_summary.specs.{Peaks.square, Peaks.AreSamples, Lanes.AreAtMost}
 use Rattle.peak_summary.proofs.LaneLaws.{samples_widen, samples_multiply, squares_unsigned, squares_are}
 use Rattle.peak_summary.proofs.LaneLaws.{squares_at_most}
 use Rattle.peak_summary.proofs.squares.eight_squares.Goals as goal

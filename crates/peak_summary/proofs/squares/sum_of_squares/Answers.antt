@@ -1,7 +1,7 @@
 -- The whole chunks, and what comes after them.
 use Rattle.std.proofs.Common.{◌≡◌, ◌*◌, ◌+◌, ◌-◌, ◌/◌, ℕ, arith, length, take, ap, ◌∙◌}
-use Rattle.std.specs.Prelude.{sum_by}
 use Rattle.std.proofs.lemmas.List.{take_all}
+use Rattle.std.specs.Prelude.{sum_by}
 use Rattle.peak_summary.specs.Peaks.{square}
 use Rattle.peak_summary.proofs.SumLaws.{sum_take, sum_fits_take}
 use Rattle.peak_summary.proofs.squares.sum_of_squares.Goals as goal

@@ -1,5 +1,4 @@
-use Rattle.std.proofs.lemmas.List.Filters.{dedup_is}
-use Rattle.std.proofs.lemmas.Map.Keys.{IsStrictlyIncreasing-dedup}
+use Rattle.std.proofs.{lemmas.List.Filters.dedup_is, lemmas.Map.Keys.IsStrictlyIncreasing-dedup}
 use Rattle.project_folder.proofs.listing.list_numbers.Goals as goal
 
 -- Sorted numbers without what is there twice rise.

@@ -2,8 +2,7 @@
 use Rattle.std.proofs.Common.{◌≡◌, refl, subst, None, Some, List}
 use Rattle.project_journal.specs.declared.fault.Damaged.{Damaged}
 use Rattle.project_journal.specs.Header.{base_tests, first_failed, last_tests, Tested}
-use Rattle.project_journal.proofs.Headers.{tested_more, some_first}
-use Rattle.project_journal.proofs.Padded.{tests_same, zeros_same}
+use Rattle.project_journal.proofs.{Headers.tested_more, Headers.some_first, Padded.tests_same, Padded.zeros_same}
 use Rattle.project_journal.proofs.base_header.test_base.Goals as goal
 
 pub returns-in-Ok : goal.returns-in-Ok

@@ -1,8 +1,8 @@
 -- The rows are records more.
 use Rattle.std.proofs.Common.{◌∙◌, refl, arith}
 use Rattle.disk_model.proofs.Frames.{changed_none, changed_wider}
-use Rattle.project_journal.proofs.Together as together
 use Rattle.project_journal.proofs.Together.{tail_is, tail_length}
+use Rattle.project_journal.proofs.Together as together
 use Rattle.project_journal.proofs.batches.append_records.Goals as goal
 
 pub returns-in_err-add-clause-any_moment : goal.returns-in_err-add-clause-any_moment

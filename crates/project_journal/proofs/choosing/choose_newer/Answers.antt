@@ -1,8 +1,7 @@
 -- The first test that fails, in the first file and then in the second.
 use Rattle.std.proofs.Common.{◌≡◌, ◌∙◌, ap₂, inr, refl, sym, subst, None, Some, List, ◌∷◌, [], ℕ}
-use Rattle.project_journal.specs.declared.fault.Damaged.{Damaged}
 use Rattle.project_journal.specs.Choice.{choice_tests, newer_test, newer_than}
-use Rattle.project_journal.specs.Header.{first_failed}
+use Rattle.project_journal.specs.{declared.fault.Damaged.Damaged, Header.first_failed}
 use Rattle.project_journal.proofs.Headers.{none_first, some_first}
 use Rattle.project_journal.proofs.choosing.choose_newer.Goals as goal
 

@@ -1,7 +1,6 @@
 -- A sync of file 1, and then the gate.
 use Rattle.std.proofs.Common.{◌∙◌, sym, ap, subst, inl, inr, arith}
-use Rattle.disk_model.specs.Disk.{Files}
-use Rattle.disk_model.specs.Room.{files_made}
+use Rattle.disk_model.specs.{Disk.Files, Room.files_made}
 use Rattle.project_journal.specs.Start.{IsUnset, NoProject}
 use Rattle.project_journal.proofs.Changes.{stays_changed, stays_then}
 use Rattle.project_journal.proofs.Starts.{settled, none_now, none_same, none_since, then_since}

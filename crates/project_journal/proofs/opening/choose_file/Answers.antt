@@ -1,7 +1,6 @@
 -- By the front of each file.
-use Rattle.std.proofs.Common.{◌≡◌, ◌∙◌, ap, arith, take}
-use Rattle.std.proofs.lemmas.List.{length-take}
-use Rattle.std.proofs.lemmas.Result.{err_from_is_err_and}
+use Rattle.std.proofs.{Common.◌≡◌, Common.◌∙◌, Common.ap, Common.arith, Common.take, lemmas.List.length-take}
+use Rattle.pcm_base.proofs.Exits.{exit_err}
 use Rattle.disk_model.specs.Disk.{Files, bytes_of}
 use Rattle.project_journal.specs.Opening.{two_files}
 use Rattle.project_journal.proofs.Choices.{chooses_fault, chooses_front, front_read, two_few, two_fronts}
@@ -10,13 +9,11 @@ use Rattle.project_journal.proofs.opening.choose_file.Goals as goal
 
 pub returns-in_err-one-clause-some : goal.returns-in_err-one-clause-some
 returns-in_err-one-clause-some g c =
-    let p = err_from_is_err_and c.from_residual.result c.from_residual.ensures.1 in
-    rw (p.1, p.2) chooses_fault
+    rw (exit_err c.from_residual.result c.from_residual.ensures.1) chooses_fault
 
 pub returns-in_err-two-clause-some : goal.returns-in_err-two-clause-some
 returns-in_err-two-clause-some g c =
-    let p = err_from_is_err_and c.from_residual-in_err-two.result c.from_residual-in_err-two.ensures.1 in
-    rw (p.1, p.2) chooses_fault
+    rw (exit_err c.from_residual-in_err-two.result c.from_residual-in_err-two.ensures.1) chooses_fault
 
 pub returns-clause-chooses : goal.returns-clause-chooses
 returns-clause-chooses g c = λ tells.

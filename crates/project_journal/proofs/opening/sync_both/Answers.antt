@@ -1,7 +1,6 @@
 -- What the first sync brought to the disk stays there.
 use Rattle.std.proofs.Common.{◌∙◌, ap, sym, arith}
-use Rattle.disk_model.specs.Disk.{Files}
-use Rattle.disk_model.specs.MomentLaws.{upto_refl}
+use Rattle.disk_model.specs.{Disk.Files, MomentLaws.upto_refl}
 use Rattle.disk_model.proofs.Frames.{changed_then_stays, changed_wider}
 use Rattle.project_journal.proofs.opening.sync_both.Goals as goal
 

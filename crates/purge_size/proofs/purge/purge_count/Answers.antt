@@ -2,10 +2,8 @@
 use Rattle.std.proofs.Common.{◌≡◌, sym, subst, ap, ◌∙◌, true, false, ℕ, ◌+◌, ◌-◌, drop, min, arith}
 use Rattle.pcm_base.specs.History.{points_of}
 use Rattle.layout_uses.specs.Layouts.{points_tracks}
-use Rattle.purge_size.specs.Fits.{HasTracks}
-use Rattle.purge_size.specs.Sizes.{IsPurgeTo}
-use Rattle.purge_size.proofs.Purging.{point_taken, purge_here, small_point}
-use Rattle.purge_size.proofs.Taking.{same_tracks}
+use Rattle.purge_size.specs.{Fits.HasTracks, Sizes.IsPurgeTo}
+use Rattle.purge_size.proofs.{Purging.point_taken, Purging.purge_here, Purging.small_point, Taking.same_tracks}
 use Rattle.purge_size.proofs.purge.purge_count.Goals as goal
 
 pub take_point-requires : goal.take_point-requires

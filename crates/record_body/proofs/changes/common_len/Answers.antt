@@ -10,6 +10,5 @@ returns-clause-value c =
       arith,
       c.loop-i.invariant,
       c.loop-i.auto.i-end,
-      common_ends c.args.old.now c.args.new.now c.loop-i.i
-          (omega (arith, c.min-most.ensures, past)),
+      common_ends c.args.old.now c.args.new.now c.loop-i.i (omega (arith, c.min-most.ensures, past)),
     )

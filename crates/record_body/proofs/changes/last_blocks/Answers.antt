@@ -2,8 +2,7 @@
 use Rattle.std.proofs.Common.{sym, ap, subst, ◌∙◌, arith, length}
 use Rattle.pcm_base.specs.Blocks.{NoneEmpty, blocks_len}
 use Rattle.clip_track.specs.declared.clips.Clip.{Clip}
-use Rattle.record_body.proofs.Commons.{last_at}
-use Rattle.record_body.proofs.Parts.{blocks_few}
+use Rattle.record_body.proofs.{Commons.last_at, Parts.blocks_few}
 use Rattle.record_body.proofs.changes.last_blocks.Goals as goal
 
 pub returns-clause-value : goal.returns-clause-value

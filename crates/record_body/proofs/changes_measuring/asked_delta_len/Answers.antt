@@ -1,8 +1,7 @@
 -- An edit whose fields all fit ends where they do.
 use Rattle.std.proofs.Common.{arith, length}
 use Rattle.record_body.specs.ChangePlaces.{delta_widths}
-use Rattle.record_body.proofs.Measured.{asked_edit_by}
-use Rattle.record_body.proofs.Reaching.{reach_whole}
+use Rattle.record_body.proofs.{Measured.asked_edit_by, Reaching.reach_whole}
 use Rattle.record_body.proofs.changes_measuring.asked_delta_len.Goals as goal
 
 pub returns-in-Ok : goal.returns-in-Ok

@@ -15,7 +15,5 @@ returns c =
     let blocks =
     subst (λ n. Reaches len c.in_ok-end.end (blocks_widths n) c.fit_blocks.result) count c.fit_blocks.ensures in
     reaches_on len (c.args.at + 9) c.in_ok-end.end (4 ∷ 4 ∷ [])
-    (blocks_widths (field (c.args.at + 13) 4 bytes)) c.fit_blocks.result
-    (omega (arith, c.in_ok-end.ensures.0))
-    c.in_ok-end.ensures.1
-    blocks
+    (blocks_widths (field (c.args.at + 13) 4 bytes)) c.fit_blocks.result (omega (arith, c.in_ok-end.ensures.0))
+    c.in_ok-end.ensures.1 blocks

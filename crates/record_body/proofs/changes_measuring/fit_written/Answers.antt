@@ -16,7 +16,5 @@ returns c =
     let clips = subst (λ ws. Reaches len c.in_ok-end.end ws c.fit_clips.result)
     (ap₂ (λ n at. clips_widths n at bytes) count end) c.fit_clips.ensures in
     reaches_on len (c.args.at + 8) c.in_ok-end.end (4 ∷ 1 ∷ 1 ∷ 4 ∷ [])
-    (clips_widths (field (c.args.at + 14) 4 bytes) (c.args.at + 18) bytes) c.fit_clips.result
-    (omega (arith, end))
-    c.in_ok-end.ensures.1
-    clips
+    (clips_widths (field (c.args.at + 14) 4 bytes) (c.args.at + 18) bytes) c.fit_clips.result (omega (arith, end))
+    c.in_ok-end.ensures.1 clips

@@ -1,16 +1,13 @@
 -- By the mark: the current track, one that is written out, or one whose end is another.
+use Rattle.pcm_base.proofs.Exits.{exit_err}
 use Rattle.std.proofs.Common.{◌≡◌, ℕ, ◌+◌, ◌*◌, Option, Some, Ok, refl, sym, subst, ◌∙◌, arith}
 use Rattle.std.proofs.lemmas.Result.{err_from_is_err_and}
-use Rattle.project_journal.specs.Fields.{field}
-use Rattle.project_journal.specs.Header.{first_failed}
-use Rattle.project_state.specs.declared.track.Track.{Track}
-use Rattle.project_state.specs.Tracks.{AllBelow}
-use Rattle.record_body.specs.ChangePlaces.{fresh_at, mark_at, told_size}
-use Rattle.record_body.specs.ChangeTests.{change_tests}
-use Rattle.record_body.specs.Places.{track_size}
+use Rattle.project_journal.specs.{Fields.field, Header.first_failed}
+use Rattle.project_state.specs.{declared.track.Track.Track, Tracks.AllBelow}
+use Rattle.record_body.specs.ChangePlaces.{fresh_at, mark_at, diff_size}
+use Rattle.record_body.specs.{ChangeTests.change_tests, Places.track_size}
 use Rattle.record_body.proofs.ToldAdds.{adds_found, adds_same, adds_tail, adds_whole, mark_fails, marks_pass}
-use Rattle.record_body.proofs.ToldSound.{has_clips}
-use Rattle.record_body.proofs.ToldTracks.{found_id, found_in}
+use Rattle.record_body.proofs.{DiffValid.has_clips, DiffTracks.found_id, DiffTracks.found_in}
 use Rattle.record_body.proofs.changes_reading.add_known.Goals as goal
 
 pub returns-in_err-test_mark : goal.returns-in_err-test_mark
@@ -21,7 +18,8 @@ returns-in_err-test_mark c =
     let bytes = c.args.bytes.now in
     let old : Track = c.track_at-old.result.now in
     let fault = c.in_err-test_mark.field-0.0 in
-    rw (p.1, p.2) (subst (λ (o : Option Track). first_failed (change_tests l o at bytes) ≡ Some fault)
+    rw (exit_err c.from_residual.result c.from_residual.ensures.1)
+    (subst (λ (o : Option Track). first_failed (change_tests l o at bytes) ≡ Some fault)
     (sym (c.requires.found old c.track_at-old.ensures))
     (mark_fails l at bytes old c.place.result c.wanted_mark.result c.u8_at-mark.result fault c.place.ensures
     c.wanted_mark.ensures c.u8_at-mark.ensures c.in_err-test_mark.ensures))
@@ -51,7 +49,7 @@ add_whole-requires-clause-within c =
     let at = c.args.at in
     let bytes = c.args.bytes.now in
     let one : mark_at at bytes ≡ 1 = sym c.u8_at-mark.ensures ∙ c.if-mark-eq1.true in
-    let size : told_size at bytes ≡ 1 + track_size (at + 1) bytes = rw one refl in
+    let size : diff_size at bytes ≡ 1 + track_size (at + 1) bytes = rw one refl in
     omega (arith, size, c.requires.within.1 (omega (arith, one)))
 
 pub add_whole-requires-clause-above : goal.add_whole-requires-clause-above
@@ -82,7 +80,7 @@ add_tail-requires-clause-within c =
     c.in_ok-test_mark.ensures.0 c.wanted_mark.ensures in
     let two : mark_at at bytes ≡ 2 =
     omega (arith, known.0, c.if-mark-eq0.false, c.if-mark-eq1.false, c.u8_at-mark.ensures) in
-    let size : told_size at bytes ≡ 17 + 12 * fresh_at at bytes = rw two refl in
+    let size : diff_size at bytes ≡ 17 + 12 * fresh_at at bytes = rw two refl in
     omega (arith, size, c.requires.within.1 (omega (arith, two)))
 
 pub add_tail-requires-clause-some : goal.add_tail-requires-clause-some

@@ -1,12 +1,10 @@
 -- The track that was read stands after the others.
+use Rattle.pcm_base.proofs.Exits.{exit_err}
 use Rattle.std.proofs.Common.{◌≡◌, ℕ, ◌+◌, [], ◌∷◌, ◌++◌, ap, sym, subst, refl, ◌∙◌}
 use Rattle.std.proofs.lemmas.Result.{err_from_is_err_and}
-use Rattle.project_state.specs.declared.track.Track.{Track}
-use Rattle.project_state.specs.Tracks.{AllBelow}
+use Rattle.project_state.specs.{declared.track.Track.Track, Tracks.AllBelow}
 use Rattle.record_body.specs.Changes.{last_blocks, last_start, tailed}
-use Rattle.record_body.specs.ChangePlaces.{fresh_at, gone_at}
-use Rattle.record_body.specs.ChangeTests.{tail_tests}
-use Rattle.record_body.specs.Places.{blocks_at}
+use Rattle.record_body.specs.{ChangePlaces.fresh_at, ChangePlaces.gone_at, ChangeTests.tail_tests, Places.blocks_at}
 use Rattle.record_body.proofs.Steps.{finds_alike}
 use Rattle.record_body.proofs.changes_reading.add_tail.Goals as goal
 
@@ -20,7 +18,8 @@ returns-in_err-track c =
     let new : Track = tailed (gone_at at bytes) (blocks_at (fresh_at at bytes) (at + 17) bytes) old in
     let read : Track → Type 0 = λ t. t ≡ new in
     let added : Unit {0} → Type 0 = λ _. c.args.point.now ≡ c.args.point.now ++ new ∷ [] in
-    rw (p.1, p.2) (finds_alike read added tests tests c.in_err-track.field-0.0 refl c.in_err-track.ensures)
+    rw (exit_err c.from_residual.result c.from_residual.ensures.1)
+    (finds_alike read added tests tests c.in_err-track.field-0.0 refl c.in_err-track.ensures)
 
 pub push-requires-clause-above : goal.push-requires-clause-above
 push-requires-clause-above c =

@@ -4,9 +4,8 @@ use Rattle.project_journal.specs.Fields.{field}
 use Rattle.project_state.specs.Tracks.{track_of}
 use Rattle.project_state.proofs.Points.{AllBelow-higher}
 use Rattle.record_body.specs.ChangeTests.{change_tests, id_tests}
-use Rattle.record_body.proofs.Passing.{all_pass}
-use Rattle.record_body.proofs.ToldAdds.{adds_found, adds_new}
-use Rattle.record_body.proofs.ToldTracks.{finds_on}
+use Rattle.project_journal.proofs.AnyFormats.{all_pass}
+use Rattle.record_body.proofs.{ToldAdds.adds_found, ToldAdds.adds_new, DiffTracks.finds_on}
 use Rattle.record_body.proofs.changes_reading.add_told.Goals as goal
 
 pub add_known-requires-clause-found : goal.add_known-requires-clause-found

@@ -1,10 +1,9 @@
 -- The track that was read stands after the others.
+use Rattle.pcm_base.proofs.Exits.{exit_err}
 use Rattle.std.proofs.Common.{◌≡◌, ℕ, [], ◌∷◌, ◌++◌, ap, sym, subst, refl, ◌∙◌}
 use Rattle.std.proofs.lemmas.Result.{err_from_is_err_and}
-use Rattle.project_state.specs.declared.track.Track.{Track}
-use Rattle.project_state.specs.Tracks.{AllBelow}
-use Rattle.record_body.specs.ChangeTests.{whole_tests}
-use Rattle.record_body.specs.Places.{track_at}
+use Rattle.project_state.specs.{declared.track.Track.Track, Tracks.AllBelow}
+use Rattle.record_body.specs.{ChangeTests.whole_tests, Places.track_at}
 use Rattle.record_body.proofs.Steps.{finds_alike}
 use Rattle.record_body.proofs.changes_reading.add_whole.Goals as goal
 
@@ -15,7 +14,8 @@ returns-in_err-track c =
     let whole : Track = record (track_at c.args.at c.args.bytes.now) { id = c.args.id } in
     let read : Track → Type 0 = λ t. t ≡ whole in
     let added : Unit {0} → Type 0 = λ _. c.args.point.now ≡ c.args.point.now ++ whole ∷ [] in
-    rw (p.1, p.2) (finds_alike read added tests tests c.in_err-track.field-0.0 refl c.in_err-track.ensures)
+    rw (exit_err c.from_residual.result c.from_residual.ensures.1)
+    (finds_alike read added tests tests c.in_err-track.field-0.0 refl c.in_err-track.ensures)
 
 pub push-requires-clause-above : goal.push-requires-clause-above
 push-requires-clause-above c =

@@ -1,7 +1,6 @@
 -- The track that was found is the one of the current point.
 use Rattle.std.proofs.Common.{Option, subst}
-use Rattle.project_state.specs.declared.track.Track.{Track}
-use Rattle.project_state.specs.Numbers.{AgreesIfAny}
+use Rattle.project_state.specs.{declared.track.Track.Track, Numbers.AgreesIfAny}
 use Rattle.record_body.proofs.changes_writing.choice_in.Goals as goal
 
 pub choose-requires : goal.choose-requires

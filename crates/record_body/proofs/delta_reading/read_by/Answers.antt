@@ -1,9 +1,8 @@
 -- The tests of the length and the kind passed.
 use Rattle.std.proofs.Common.{◌∷◌, []}
 use Rattle.record_body.specs.ChangeTests.{commit_test, delta_length_test, delta_kind_test}
-use Rattle.record_body.proofs.DeltaBodies.{finds_edit}
-use Rattle.record_body.proofs.Measured.{delta_size}
-use Rattle.record_body.proofs.Passing.{all_pass}
+use Rattle.record_body.proofs.{DeltaBodies.finds_edit, Measured.delta_size}
+use Rattle.project_journal.proofs.AnyFormats.{all_pass}
 use Rattle.record_body.proofs.delta_reading.read_by.Goals as goal
 
 pub read_edit_by-requires-clause-long : goal.read_edit_by-requires-clause-long

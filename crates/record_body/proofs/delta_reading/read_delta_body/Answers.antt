@@ -1,25 +1,15 @@
 -- Bytes whose tests pass say one body, which is valid; those of a valid body pass.
-use Rattle.std.proofs.Common.{◌≡◌, ◌≤◌, Result, Ok, Err, None, Some, MatchResult, IfOk, List, ℕ, ◌<◌, ◌^◌, sym, ◌∙◌, refl}
-use Rattle.std.proofs.Common.{subst, arith}
+use Rattle.std.proofs.Common.{◌≡◌, ◌≤◌, Result, Ok, Err, None, Some, MatchResult, IfOk, List, ℕ, ◌<◌, ◌^◌, sym, ◌∙◌}
+use Rattle.std.proofs.Common.{refl, subst, arith}
 use Rattle.project_journal.specs.Header.{first_failed}
-use Rattle.record_body.specs.declared.body.Body.{Body}
-use Rattle.record_body.specs.declared.limits.BadBody.{BadBody}
-use Rattle.record_body.specs.declared.limits.BadBody.TheVariants as bad
-use Rattle.record_body.specs.declared.limits.Before.{Before}
+use Rattle.record_body.specs.{declared.body.Body.Body, declared.limits.BadBody.BadBody, declared.limits.Before.Before}
+use Rattle.record_body.specs.{Changes.delta_spelling, ChangeTests.delta_tests, DeltaBodies.SaysBody, FirstFault.Finds}
+use Rattle.record_body.specs.{Laws.HasShortEnds, Numbers.unnumbered_body, Valid.IsValidBody, Valid.IsValidPoint}
+use Rattle.record_body.specs.{Told.BodyShares, Told.ReadsBody}
 use Rattle.project_state.specs.declared.track.Track.{Track}
-use Rattle.record_body.specs.Changes.{delta_spelling}
-use Rattle.record_body.specs.ChangeTests.{delta_tests}
-use Rattle.record_body.specs.DeltaBodies.{SaysBody}
-use Rattle.record_body.specs.FirstFault.{Finds}
-use Rattle.record_body.specs.Laws.{HasShortEnds}
-use Rattle.record_body.specs.Numbers.{unnumbered_body}
-use Rattle.record_body.specs.Sound.{IsSound, IsSoundPoint}
-use Rattle.record_body.specs.Told.{BodyShares, ReadsBody}
-use Rattle.record_body.proofs.DeltaBack.{delta_read_back}
-use Rattle.record_body.proofs.Numbers.{AreBytes}
-use Rattle.record_body.proofs.SaysOnce.{says_once}
-use Rattle.record_body.proofs.ToldBack.{are_short}
-use Rattle.record_body.proofs.ToldSound.{delta_sound}
+use Rattle.record_body.proofs.{DeltaBack.delta_read_back, SaysOnce.says_once, DiffBack.are_short, DiffValid.delta_valid}
+use Rattle.sample_block.proofs.Numerals.{IsBytes}
+use Rattle.record_body.specs.declared.limits.BadBody.TheVariants as bad
 use Rattle.record_body.proofs.delta_reading.read_delta_body.Goals as goal
 
 found_of : (m : ℕ) (b : Before) (current : List Track) (bytes : List ℕ) (r : Result Body BadBody)
@@ -34,24 +24,24 @@ shared_of : (m : ℕ) (b : Before) (current : List Track) (bytes : List ℕ) (r 
 shared_of m b current bytes (Ok body) found = found.1.1
 shared_of m b current bytes (Err e) found = tt
 
-valid : (m : ℕ) (b : Before) (current : List Track) (bytes : List ℕ) → AreBytes bytes → (r : Result Body BadBody)
+valid : (m : ℕ) (b : Before) (current : List Track) (bytes : List ℕ) → IsBytes bytes → (r : Result Body BadBody)
     → Finds (delta_tests m b current bytes) (ReadsBody current bytes) r → (next : ℕ)
-    → IsSoundPoint m b.next_block next current → IfOk r (λ x. IsSound m b (unnumbered_body x))
+    → IsValidPoint m b.next_block next current → IfOk r (λ x. IsValidBody m b (unnumbered_body x))
 valid m b current bytes fit (Ok body) found next is =
-    delta_sound m b next current bytes (unnumbered_body body) fit is found.0 found.1.0
+    delta_valid m b next current bytes (unnumbered_body body) fit is found.0 found.1.0
 valid m b current bytes fit (Err e) found next is = tt
 
 back : (m : ℕ) (b : Before) (current : List Track) (bytes : List ℕ) (body : Body) → delta_spelling current body ≡ bytes
-    → IsSound m b body → 4 ≤ m → m < 2 ^ 32 → b.commits < 2 ^ 62 → HasShortEnds current → (r : Result Body BadBody)
+    → IsValidBody m b body → 4 ≤ m → m < 2 ^ 32 → b.commits < 2 ^ 62 → HasShortEnds current → (r : Result Body BadBody)
     → Finds (delta_tests m b current bytes) (ReadsBody current bytes) r
     → MatchResult r (λ x. unnumbered_body x ≡ body) (λ e. e ≡ bad.NoMemory)
-back m b current bytes body e sound least most room short (Ok x) found =
-    let read = delta_read_back m b current body least most room (are_short current short) sound in
+back m b current bytes body e so_valid least most room short (Ok x) found =
+    let read = delta_read_back m b current body least most room (are_short current short) so_valid in
     says_once current bytes (unnumbered_body x) body found.1.0
     (subst (λ (bs : List ℕ). SaysBody current bs body) e read.says)
-back m b current bytes body e sound least most room short (Err bad.NoMemory) found = refl
-back m b current bytes body e sound least most room short (Err (bad.Damaged fault)) found =
-    let read = delta_read_back m b current body least most room (are_short current short) sound in
+back m b current bytes body e so_valid least most room short (Err bad.NoMemory) found = refl
+back m b current bytes body e so_valid least most room short (Err (bad.Damaged fault)) found =
+    let read = delta_read_back m b current body least most room (are_short current short) so_valid in
     let none : first_failed (delta_tests m b current bytes) ≡ None =
     subst (λ (bs : List ℕ). first_failed (delta_tests m b current bs) ≡ None) e read.tests in
     absurd (none_some (sym none ∙ found))
@@ -72,5 +62,5 @@ returns-clause-valid c = λ next is. valid c.args.m c.args.before c.args.current
     (record { below = λ i. omega (arith, c.type_inv.bytes i) }) c.read_by.result c.read_by.ensures next is
 
 pub returns-clause-back : goal.returns-clause-back
-returns-clause-back c = λ body e sound least room short. back c.args.m c.args.before c.args.current.now c.args.bytes.now body e
-    sound least (omega (arith, c.ranges.m)) room short c.read_by.result c.read_by.ensures
+returns-clause-back c = λ body e so_valid least room short. back c.args.m c.args.before c.args.current.now c.args.bytes.now body e
+    so_valid least (omega (arith, c.ranges.m)) room short c.read_by.result c.read_by.ensures

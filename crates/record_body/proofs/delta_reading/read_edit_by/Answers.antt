@@ -1,28 +1,24 @@
 -- The fields in front, and the tracks.
+use Rattle.pcm_base.proofs.Exits.{exit_err}
 use Rattle.std.proofs.Common.{◌≡◌, ℕ, List, ap, ap₂, ◌∙◌, sym, arith}
-use Rattle.std.proofs.lemmas.Result.{err_from_is_err_and}
 use Rattle.project_journal.specs.Header.{first_failed}
-use Rattle.record_body.specs.declared.limits.Limits.{Limits}
+use Rattle.record_body.specs.{declared.limits.Limits.Limits, ChangePlaces.all_diff_at, ChangeTests.all_diff_tests}
+use Rattle.record_body.specs.{ChangeTests.delta_edit_tests, FirstFault.head_tests, FirstFault.limits_at}
+use Rattle.record_body.specs.{Places.track_count, Told.AreDiff, Told.ReadsEdit}
 use Rattle.project_state.specs.declared.track.Track.{Track}
-use Rattle.record_body.specs.ChangePlaces.{all_told_at}
-use Rattle.record_body.specs.ChangeTests.{all_told_tests, delta_edit_tests}
-use Rattle.record_body.specs.FirstFault.{head_tests, limits_at}
-use Rattle.record_body.specs.Places.{track_count}
-use Rattle.record_body.specs.Told.{AreTold, ReadsEdit}
-use Rattle.record_body.proofs.Passing.{all_pass, passed, failed}
-use Rattle.record_body.proofs.SoundBodies.{few_tracks}
-use Rattle.record_body.proofs.Steps.{finds_alike}
+use Rattle.project_journal.proofs.{AnyFormats.all_pass, Headers.none_first, Headers.some_first}
+use Rattle.record_body.proofs.{ValidBodies.few_tracks, Steps.finds_alike}
 use Rattle.record_body.proofs.delta_reading.read_edit_by.Goals as goal
 
 pub returns-in_err-test_head : goal.returns-in_err-test_head
 returns-in_err-test_head c =
-    let p = err_from_is_err_and c.from_residual.result c.from_residual.ensures.1 in
     let bytes = c.args.bytes.now in
-    rw (p.1, p.2) (failed (head_tests c.args.before bytes) (all_told_tests (limits_at c.args.m c.args.before bytes)
+    rw (exit_err c.from_residual.result c.from_residual.ensures.1)
+    (some_first (head_tests c.args.before bytes) (all_diff_tests (limits_at c.args.m c.args.before bytes)
     c.args.current.now (track_count bytes) 0 29 bytes) c.in_err-test_head.field-0.0 c.in_err-test_head.ensures)
 
-pub read_all_told-requires-clause-few : goal.read_all_told-requires-clause-few
-read_all_told-requires-clause-few c =
+pub read_all_diff-requires-clause-few : goal.read_all_diff-requires-clause-few
+read_all_diff-requires-clause-few c =
     let bytes = c.args.bytes.now in
     omega (
       arith,
@@ -32,7 +28,6 @@ read_all_told-requires-clause-few c =
 
 pub returns-in_err-point : goal.returns-in_err-point
 returns-in_err-point c =
-    let p = err_from_is_err_and c.from_residual-in_err-point.result c.from_residual-in_err-point.ensures.1 in
     let bytes = c.args.bytes.now in
     let before = c.args.before in
     let now = c.args.current.now in
@@ -41,14 +36,15 @@ returns-in_err-point c =
     let l = limits c.u64_at-next_block.result c.u64_at-next_track.result in
     let same : l ≡ limits_at c.args.m before bytes =
     ap₂ limits c.u64_at-next_block.ensures c.u64_at-next_track.ensures in
-    let tests = all_told_tests l now c.u32_at.result 0 29 bytes in
+    let tests = all_diff_tests l now c.u32_at.result 0 29 bytes in
     let all : first_failed tests ≡ first_failed (delta_edit_tests c.args.m before now bytes) =
-    ap₂ (λ x n. first_failed (all_told_tests x now n 0 29 bytes)) same c.u32_at.ensures
-    ∙ sym (passed (head_tests before bytes)
-    (all_told_tests (limits_at c.args.m before bytes) now (track_count bytes) 0 29 bytes) c.in_ok-test_head.ensures.0)
+    ap₂ (λ x n. first_failed (all_diff_tests x now n 0 29 bytes)) same c.u32_at.ensures
+    ∙ sym (none_first (head_tests before bytes)
+    (all_diff_tests (limits_at c.args.m before bytes) now (track_count bytes) 0 29 bytes) c.in_ok-test_head.ensures.0)
     in
-    let found : List Track → Type 0 = λ x. AreTold now c.u32_at.result 29 bytes x in
-    rw (p.1, p.2) (finds_alike found (ReadsEdit now bytes) tests
+    let found : List Track → Type 0 = λ x. AreDiff now c.u32_at.result 29 bytes x in
+    rw (exit_err c.from_residual-in_err-point.result c.from_residual-in_err-point.ensures.1)
+    (finds_alike found (ReadsEdit now bytes) tests
     (delta_edit_tests c.args.m before now bytes) c.in_err-point.field-0.0 all c.in_err-point.ensures)
 
 pub returns : goal.returns
@@ -61,11 +57,11 @@ returns c =
     let l = limits c.u64_at-next_block.result c.u64_at-next_track.result in
     let same : l ≡ limits_at c.args.m before bytes =
     ap₂ limits c.u64_at-next_block.ensures c.u64_at-next_track.ensures in
-    let tests = all_told_tests l now c.u32_at.result 0 29 bytes in
+    let tests = all_diff_tests l now c.u32_at.result 0 29 bytes in
     let all : first_failed tests ≡ first_failed (delta_edit_tests c.args.m before now bytes) =
-    ap₂ (λ x n. first_failed (all_told_tests x now n 0 29 bytes)) same c.u32_at.ensures
-    ∙ sym (passed (head_tests before bytes)
-    (all_told_tests (limits_at c.args.m before bytes) now (track_count bytes) 0 29 bytes) c.in_ok-test_head.ensures.0)
+    ap₂ (λ x n. first_failed (all_diff_tests x now n 0 29 bytes)) same c.u32_at.ensures
+    ∙ sym (none_first (head_tests before bytes)
+    (all_diff_tests (limits_at c.args.m before bytes) now (track_count bytes) 0 29 bytes) c.in_ok-test_head.ensures.0)
     in
     let told = c.in_ok-point.ensures.1 in (
       sym all ∙ c.in_ok-point.ensures.0,
@@ -74,7 +70,7 @@ returns c =
           c.u64_at.ensures,
           c.u64_at-next_block.ensures,
           c.u64_at-next_track.ensures,
-          told.said ∙ ap (λ (n : ℕ). all_told_at now n 29 bytes) c.u32_at.ensures,
+          told.said ∙ ap (λ (n : ℕ). all_diff_at now n 29 bytes) c.u32_at.ensures,
         ),
         told.numbers,
       ),

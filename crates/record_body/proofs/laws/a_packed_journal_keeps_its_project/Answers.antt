@@ -1,5 +1,5 @@
 -- The law of the lemmas.
-use Rattle.record_body.proofs.KeptOnce.{either_keeps}
+use Rattle.record_body.proofs.SavedOnce.{either_keeps}
 use Rattle.record_body.proofs.laws.a_packed_journal_keeps_its_project.Goals as goal
 
 pub returns : goal.returns

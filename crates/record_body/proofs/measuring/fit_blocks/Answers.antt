@@ -11,6 +11,4 @@ pub returns : goal.returns
 returns c =
     blocks_past c.args.len c.args.at
     ((c.args.len - c.args.at) / 12) c.args.count c.fit_all.result c.if-count-whole.false
-    (omega (arith, c.requires.within))
-    (omega (arith, c.requires.within))
-    c.fit_all.ensures
+    (omega (arith, c.requires.within)) (omega (arith, c.requires.within)) c.fit_all.ensures

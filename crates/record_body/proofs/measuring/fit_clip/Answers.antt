@@ -15,6 +15,4 @@ returns c =
     subst (λ n. Reaches len c.in_ok-end.end (blocks_widths n) c.fit_blocks.result) count c.fit_blocks.ensures in
     reaches_on len c.args.at c.in_ok-end.end (8 ∷ 4 ∷ [])
     (blocks_widths (field (c.args.at + 8) 4 c.args.bytes.now)) c.fit_blocks.result
-    (omega (arith, c.in_ok-end.ensures.0))
-    c.in_ok-end.ensures.1
-    blocks
+    (omega (arith, c.in_ok-end.ensures.0)) c.in_ok-end.ensures.1 blocks

@@ -1,7 +1,6 @@
 -- The clips so far fit, and those that are left end where all of them do.
 use Rattle.std.proofs.Common.{◌≡◌, ◌+◌, ◌-◌, ◌≤◌, length}
-use Rattle.record_body.specs.Places.{clips_size}
-use Rattle.record_body.specs.Widths.{clips_widths, reach}
+use Rattle.record_body.specs.{Places.clips_size, Widths.clips_widths, Widths.reach}
 use Rattle.record_body.proofs.measuring.fit_clips.Given as goal
 
 abbrev pub invariant-loop : goal.invariant-loop

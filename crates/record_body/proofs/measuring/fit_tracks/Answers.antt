@@ -1,6 +1,6 @@
 -- The track at hand fits, or one of its fields does not.
 use Rattle.std.proofs.Common.{◌≡◌, ◌+◌, ◌-◌, ◌<◌, length, arith, ap, ◌∙◌, sym}
-use Rattle.std.proofs.lemmas.Result.{err_from_is_err_and}
+use Rattle.pcm_base.proofs.Exits.{exit_err}
 use Rattle.record_body.specs.Places.{track_size, tracks_size}
 use Rattle.record_body.proofs.Reaching.{sum_tracks, sum_track, tracks_past, tracks_fit}
 use Rattle.record_body.proofs.measuring.fit_tracks.Goals as goal
@@ -8,12 +8,11 @@ use Rattle.record_body.proofs.measuring.fit_tracks.Goals as goal
 pub returns-in_err-end : goal.returns-in_err-end
 returns-in_err-end c =
     let bytes = c.args.bytes.now in
-    let p = err_from_is_err_and c.from_residual.result c.from_residual.ensures.1 in
     let some : 0 < c.args.count - c.loop.counter = omega (arith, c.loop-test.true) in
     let past = c.in_err-end.ensures in
     let all = tracks_past (length bytes) c.loop.end (c.args.count - c.loop.counter) bytes some c.loop.invariant.0
     (omega (arith, past.0, past.1)) in
-    rw (p.1, p.2) (past.0 ∙ sym all ∙ c.loop.invariant.2, past.1)
+    rw (exit_err c.from_residual.result c.from_residual.ensures.1) (past.0 ∙ sym all ∙ c.loop.invariant.2, past.1)
 
 pub loop-preserved : goal.loop-preserved
 loop-preserved c =

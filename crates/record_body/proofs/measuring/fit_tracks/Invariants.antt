@@ -1,7 +1,6 @@
 -- The tracks so far fit, and those that are left end where all of them do.
 use Rattle.std.proofs.Common.{◌≡◌, ◌+◌, ◌-◌, ◌≤◌, length}
-use Rattle.record_body.specs.Places.{tracks_size}
-use Rattle.record_body.specs.Widths.{tracks_widths, reach}
+use Rattle.record_body.specs.{Places.tracks_size, Widths.tracks_widths, Widths.reach}
 use Rattle.record_body.proofs.measuring.fit_tracks.Given as goal
 
 abbrev pub invariant-loop : goal.invariant-loop

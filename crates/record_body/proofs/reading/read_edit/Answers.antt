@@ -1,22 +1,20 @@
 -- The fields in front, and the tracks.
 use Rattle.std.proofs.Common.{◌≡◌, ℕ, List, ap₂, ◌∙◌, sym, arith}
-use Rattle.std.proofs.lemmas.Result.{err_from_is_err_and}
+use Rattle.pcm_base.proofs.Exits.{exit_err}
 use Rattle.project_journal.specs.Header.{first_failed}
-use Rattle.record_body.specs.declared.body.Body.{Body}
-use Rattle.record_body.specs.declared.limits.Limits.{Limits}
-use Rattle.project_state.specs.declared.track.Track.{Track}
 use Rattle.record_body.specs.Places.{track_count, tracks_at, edit_at}
 use Rattle.record_body.specs.FirstFault.{head_tests, edit_tests, tracks_tests, limits_at}
-use Rattle.record_body.proofs.Passing.{all_pass, passed, failed}
-use Rattle.record_body.proofs.SoundBodies.{few_tracks}
-use Rattle.record_body.proofs.Steps.{finds_alike}
+use Rattle.record_body.specs.{declared.body.Body.Body, declared.limits.Limits.Limits}
+use Rattle.project_state.specs.declared.track.Track.{Track}
+use Rattle.project_journal.proofs.{AnyFormats.all_pass, Headers.some_first, Headers.none_first}
+use Rattle.record_body.proofs.{ValidBodies.few_tracks, Steps.finds_alike}
 use Rattle.record_body.proofs.reading.read_edit.Goals as goal
 
 pub returns-in_err-test_head : goal.returns-in_err-test_head
 returns-in_err-test_head c =
-    let p = err_from_is_err_and c.from_residual.result c.from_residual.ensures.1 in
     let bytes = c.args.bytes.now in
-    rw (p.1, p.2) (failed (head_tests c.args.before bytes) (tracks_tests (limits_at c.args.m c.args.before bytes)
+    rw (exit_err c.from_residual.result c.from_residual.ensures.1)
+    (some_first (head_tests c.args.before bytes) (tracks_tests (limits_at c.args.m c.args.before bytes)
     (track_count bytes) 0 29 bytes) c.in_err-test_head.field-0.0 c.in_err-test_head.ensures)
 
 pub read_tracks-requires-clause-few : goal.read_tracks-requires-clause-few
@@ -30,7 +28,6 @@ read_tracks-requires-clause-few c =
 
 pub returns-in_err-point : goal.returns-in_err-point
 returns-in_err-point c =
-    let p = err_from_is_err_and c.from_residual-in_err-point.result c.from_residual-in_err-point.ensures.1 in
     let bytes = c.args.bytes.now in
     let before = c.args.before in
     let limits : ℕ → ℕ → Limits =
@@ -41,9 +38,10 @@ returns-in_err-point c =
     let tests = tracks_tests l c.u32_at.result 0 29 bytes in
     let all : first_failed tests ≡ first_failed (edit_tests c.args.m before bytes) =
     ap₂ (λ x n. first_failed (tracks_tests x n 0 29 bytes)) same c.u32_at.ensures
-    ∙ sym (passed (head_tests before bytes)
+    ∙ sym (none_first (head_tests before bytes)
     (tracks_tests (limits_at c.args.m before bytes) (track_count bytes) 0 29 bytes) c.in_ok-test_head.ensures.0) in
     let found : List Track → Type 0 = λ x. x ≡ tracks_at c.u32_at.result 29 bytes in
     let body : Body → Type 0 = λ x. x ≡ edit_at bytes in
-    rw (p.1, p.2) (finds_alike found body tests
-    (edit_tests c.args.m before bytes) c.in_err-point.field-0.0 all c.in_err-point.ensures)
+    rw (exit_err c.from_residual-in_err-point.result c.from_residual-in_err-point.ensures.1)
+    (finds_alike found body tests (edit_tests c.args.m before bytes) c.in_err-point.field-0.0 all
+    c.in_err-point.ensures)

@@ -1,19 +1,15 @@
 -- The track at hand stands in front of those that are left.
 use Rattle.std.proofs.Common.{◌≡◌, List, ◌+◌, ◌-◌, ◌<◌, ◌++◌, ◌∷◌, [], length, refl, sym, ap, ap₂, subst, ◌∙◌, arith}
 use Rattle.std.proofs.Common.{length-append}
-use Rattle.std.proofs.lemmas.Result.{err_from_is_err_and}
+use Rattle.pcm_base.proofs.Exits.{exit_err}
 use Rattle.project_journal.specs.Fields.{field}
-use Rattle.project_state.specs.declared.track.Track.{Track}
+use Rattle.project_state.specs.{declared.track.Track.Track, Tracks.AllBelow}
 use Rattle.record_body.specs.Places.{track_at, track_size, tracks_at}
-use Rattle.record_body.specs.Spelling.{track_bytes}
-use Rattle.record_body.specs.FirstFault.{track_tests, tracks_tests}
-use Rattle.project_state.specs.Tracks.{AllBelow}
-use Rattle.record_body.proofs.Passing.{all_pass}
+use Rattle.record_body.specs.{Spelling.track_bytes, FirstFault.track_tests, FirstFault.tracks_tests}
+use Rattle.project_journal.proofs.AnyFormats.{all_pass}
 use Rattle.project_state.proofs.Points.{AllBelow-higher, AllBelow-push}
-use Rattle.record_body.proofs.Reaching.{tracks_behind}
-use Rattle.record_body.proofs.Sizes.{size_of_track}
-use Rattle.record_body.proofs.SoundBodies.{track_id}
 use Rattle.record_body.proofs.Steps.{step_passes, step_finds, finds_alike, step_adds}
+use Rattle.record_body.proofs.{Reaching.tracks_behind, Sizes.size_of_track, ValidBodies.track_id}
 use Rattle.record_body.proofs.reading.read_tracks.Goals as goal
 
 pub read_track-requires : goal.read_track-requires
@@ -26,7 +22,6 @@ read_track-requires c =
 
 pub returns-in_err-track : goal.returns-in_err-track
 returns-in_err-track c =
-    let p = err_from_is_err_and c.from_residual.result c.from_residual.ensures.1 in
     let bytes = c.args.bytes.now in
     let l = c.args.limits in
     let at = c.loop.next in
@@ -37,7 +32,7 @@ returns-in_err-track c =
     let here = step_finds (λ j. tracks_tests l j from at bytes) (λ j. tracks_tests l j (field at 8 bytes + 1)
     (at + track_size at bytes) bytes) (track_tests l from at bytes) (λ j. refl)
     found all n c.in_err-track.field-0.0 (omega (arith, c.loop-test.true)) c.in_err-track.ensures in
-    rw (p.1, p.2) (finds_alike all all (tracks_tests l n from at bytes)
+    rw (exit_err c.from_residual.result c.from_residual.ensures.1) (finds_alike all all (tracks_tests l n from at bytes)
     (tracks_tests l c.args.count 0 c.args.at bytes) c.in_err-track.field-0.0 c.loop.invariant.1 here)
 
 pub push-requires-clause-above : goal.push-requires-clause-above

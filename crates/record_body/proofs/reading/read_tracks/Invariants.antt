@@ -2,8 +2,7 @@
 -- decide.
 use Rattle.std.proofs.Common.{◌≡◌, ◌+◌, ◌-◌, ◌++◌, length}
 use Rattle.project_journal.specs.Header.{first_failed}
-use Rattle.record_body.specs.Places.{tracks_at, tracks_size}
-use Rattle.record_body.specs.FirstFault.{tracks_tests}
+use Rattle.record_body.specs.{Places.tracks_at, Places.tracks_size, FirstFault.tracks_tests}
 use Rattle.project_state.specs.Tracks.{AllBelow}
 use Rattle.record_body.proofs.reading.read_tracks.Given as goal
 

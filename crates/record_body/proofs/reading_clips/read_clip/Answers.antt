@@ -2,41 +2,31 @@
 use Rattle.std.proofs.Common.{◌+◌, ◌^◌, ◌≤◌, nat_lt, [], ◌∷◌, sym, ap, subst, arith}
 use Rattle.pcm_base.specs.Blocks.{NoneEmpty, IsHalfFull, block_lens, blocks_len}
 use Rattle.record_body.specs.FirstFault.{blocks_tests}
-use Rattle.record_body.proofs.Passing.{all_pass}
-use Rattle.record_body.proofs.SoundBodies.{sound_blocks, half_full, same_lens}
+use Rattle.project_journal.proofs.AnyFormats.{all_pass}
+use Rattle.record_body.proofs.ValidBodies.{valid_blocks, half_full, same_lens}
 use Rattle.record_body.proofs.reading_clips.read_clip.Goals as goal
 
-pub new-requires-clause-full : goal.new-requires-clause-full
-new-requires-clause-full c =
-    let count = c.u32_at-count.result in
-    let start = c.u64_at-start.result in
-    let tests = blocks_tests c.args.limits (nat_lt 1 count) count start (c.args.at + 12) c.args.bytes.now in
-    let full = half_full c.args.limits count start (c.args.at + 12) c.args.bytes.now
-    (all_pass tests c.in_ok-blocks.ensures.0) in (
-      c.args.limits.block_size,
-      subst (λ bs. IsHalfFull c.args.limits.block_size (block_lens bs)) (sym c.in_ok-blocks.ensures.1) full,
-    )
-
-pub new-requires-clause-none_empty : goal.new-requires-clause-none_empty
-new-requires-clause-none_empty c =
+pub new-requires : goal.new-requires
+new-requires c =
     let count = c.u32_at-count.result in
     let start = c.u64_at-start.result in
     let tests = blocks_tests c.args.limits (nat_lt 1 count) count start (c.args.at + 12) c.args.bytes.now in
     let head = all_pass (c.least.result ∷ c.most.result ∷ c.least-2.result ∷ []) c.in_ok-first_failure.ensures in
     let near : start ≤ 2 ^ 32 =
     omega (arith, head.1.0, ap (λ d. d.want) c.most.ensures, ap (λ d. d.have) c.most.ensures) in
-    let sound = sound_blocks c.args.limits (nat_lt 1 count) count start (c.args.at + 12) c.args.bytes.now near
-    (all_pass tests c.in_ok-blocks.ensures.0) in
-    subst NoneEmpty (sym c.in_ok-blocks.ensures.1) sound.1
-
-pub new-requires-clause-few : goal.new-requires-clause-few
-new-requires-clause-few c =
-    let count = c.u32_at-count.result in
-    let start = c.u64_at-start.result in
-    let tests = blocks_tests c.args.limits (nat_lt 1 count) count start (c.args.at + 12) c.args.bytes.now in
-    let head = all_pass (c.least.result ∷ c.most.result ∷ c.least-2.result ∷ []) c.in_ok-first_failure.ensures in
-    let near : start ≤ 2 ^ 32 =
-    omega (arith, head.1.0, ap (λ d. d.want) c.most.ensures, ap (λ d. d.have) c.most.ensures) in
-    let sound = sound_blocks c.args.limits (nat_lt 1 count) count start (c.args.at + 12) c.args.bytes.now near
-    (all_pass tests c.in_ok-blocks.ensures.0) in
-    omega (arith, sound.2, same_lens count (c.args.at + 12) c.args.bytes.now, ap blocks_len c.in_ok-blocks.ensures.1)
+    let valid = valid_blocks c.args.limits (nat_lt 1 count) count start (c.args.at + 12) c.args.bytes.now near
+    (all_pass tests c.in_ok-blocks.ensures.0) in record {
+      full =
+          let full = half_full c.args.limits count start (c.args.at + 12) c.args.bytes.now
+          (all_pass tests c.in_ok-blocks.ensures.0) in (
+            c.args.limits.block_size,
+            subst (λ bs. IsHalfFull c.args.limits.block_size (block_lens bs)) (sym c.in_ok-blocks.ensures.1) full,
+          );
+      none_empty = subst NoneEmpty (sym c.in_ok-blocks.ensures.1) valid.1;
+      few = omega (
+        arith,
+        valid.2,
+        same_lens count (c.args.at + 12) c.args.bytes.now,
+        ap blocks_len c.in_ok-blocks.ensures.1,
+      );
+    }

@@ -1,18 +1,14 @@
 -- The clip at hand stands in front of those that are left.
 use Rattle.std.proofs.Common.{◌≡◌, List, ◌+◌, ◌-◌, ◌<◌, ◌++◌, ◌∷◌, length, None, refl, sym, ap, ap₂, subst, ◌∙◌, arith}
 use Rattle.std.proofs.Common.{append-nil}
-use Rattle.std.proofs.lemmas.Result.{err_from_is_err_and}
-use Rattle.clip_track.specs.declared.clips.Clip.{Clip}
-use Rattle.clip_track.specs.Clips.{IsLayout, clip_end}
+use Rattle.pcm_base.proofs.Exits.{exit_err}
+use Rattle.clip_track.specs.{declared.clips.Clip.Clip, Clips.IsLayout, Clips.clip_end}
 use Rattle.project_journal.specs.Header.{first_failed}
 use Rattle.record_body.specs.Places.{block_count, clip_at, clip_end_at, clip_size, clips_at}
-use Rattle.record_body.specs.Spelling.{clip_bytes}
-use Rattle.record_body.specs.FirstFault.{clip_tests, clips_tests}
-use Rattle.record_body.proofs.Passing.{all_pass}
-use Rattle.record_body.proofs.Reaching.{clips_behind}
-use Rattle.record_body.proofs.Sizes.{size_of_clip}
-use Rattle.record_body.proofs.Steps.{step_passes, step_finds, finds_alike, step_adds}
-use Rattle.record_body.proofs.SoundBodies.{same_lens, sound_clips}
+use Rattle.record_body.specs.{Spelling.clip_bytes, FirstFault.clip_tests, FirstFault.clips_tests}
+use Rattle.project_journal.proofs.AnyFormats.{all_pass}
+use Rattle.record_body.proofs.{Reaching.clips_behind, Sizes.size_of_clip, Steps.step_passes, Steps.step_finds}
+use Rattle.record_body.proofs.{Steps.finds_alike, Steps.step_adds, ValidBodies.same_lens, ValidBodies.valid_clips}
 use Rattle.record_body.proofs.reading_clips.read_clips.Goals as goal
 
 pub read_clip-requires : goal.read_clip-requires
@@ -25,7 +21,6 @@ read_clip-requires c =
 
 pub returns-in_err-clip : goal.returns-in_err-clip
 returns-in_err-clip c =
-    let p = err_from_is_err_and c.from_residual-in_err-clip.result c.from_residual-in_err-clip.ensures.1 in
     let bytes = c.args.bytes.now in
     let l = c.args.limits in
     let at = c.loop.next in
@@ -36,7 +31,8 @@ returns-in_err-clip c =
     let here = step_finds (λ j. clips_tests l j from at bytes) (λ j. clips_tests l j (clip_end_at at bytes + 1)
     (at + clip_size at bytes) bytes) (clip_tests l from at bytes) (λ j. refl)
     found all n c.in_err-clip.field-0.0 (omega (arith, c.loop-test.true)) c.in_err-clip.ensures in
-    rw (p.1, p.2) (finds_alike all all (clips_tests l n from at bytes)
+    rw (exit_err c.from_residual-in_err-clip.result c.from_residual-in_err-clip.ensures.1)
+    (finds_alike all all (clips_tests l n from at bytes)
     (clips_tests l c.args.count 0 c.args.at bytes) c.in_err-clip.field-0.0 c.loop.invariant.1 here)
 
 pub overflow_add-next : goal.overflow_add-next
@@ -91,6 +87,6 @@ from_clips-requires c =
     ∙ c.loop.invariant.0 in
     let pass : first_failed (clips_tests l c.args.count 0 c.args.at bytes) ≡ None =
     sym c.loop.invariant.1 ∙ ap (λ j. first_failed (clips_tests l j c.loop.from c.loop.next bytes)) none in
-    let sound = sound_clips l c.args.count 0 0 c.args.at bytes (omega arith)
+    let valid = valid_clips l c.args.count 0 0 c.args.at bytes (omega arith)
     (all_pass (clips_tests l c.args.count 0 c.args.at bytes) pass) in
-    subst IsLayout (sym all) (record { apart = sound.0; few = sound.1 })
+    subst IsLayout (sym all) (record { apart = valid.0; few = valid.1 })

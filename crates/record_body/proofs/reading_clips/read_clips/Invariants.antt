@@ -1,8 +1,7 @@
 -- The clips so far, and those that are left; the tests so far pass, and those that are left decide.
 use Rattle.std.proofs.Common.{◌≡◌, ◌+◌, ◌-◌, ◌++◌}
 use Rattle.project_journal.specs.Header.{first_failed}
-use Rattle.record_body.specs.Places.{clips_at, clips_size}
-use Rattle.record_body.specs.FirstFault.{clips_tests}
+use Rattle.record_body.specs.{Places.clips_at, Places.clips_size, FirstFault.clips_tests}
 use Rattle.record_body.proofs.reading_clips.read_clips.Given as goal
 
 abbrev pub invariant-loop : goal.invariant-loop

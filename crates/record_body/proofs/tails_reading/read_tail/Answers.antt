@@ -2,10 +2,9 @@
 use Rattle.std.proofs.Common.{◌≡◌, ◌+◌, ◌^◌, ◌≤◌, sym, ap, subst, ◌∙◌, arith}
 use Rattle.pcm_base.specs.Blocks.{IsHalfFull, NoneEmpty, block_lens, blocks_len}
 use Rattle.clip_track.specs.Clips.{IsLayout}
-use Rattle.record_body.specs.Changes.{last_blocks, last_start, with_last}
-use Rattle.record_body.specs.ChangeTests.{tail_tests}
-use Rattle.record_body.proofs.Passing.{all_pass}
-use Rattle.record_body.proofs.Tails.{end_last, last_end, sound_tail, layout_with}
+use Rattle.record_body.specs.{Changes.last_blocks, Changes.last_start, Changes.with_last, ChangeTests.tail_tests}
+use Rattle.project_journal.proofs.AnyFormats.{all_pass}
+use Rattle.record_body.proofs.Tails.{end_last, last_end, valid_tail, layout_with}
 use Rattle.record_body.proofs.tails_reading.read_tail.Goals as goal
 
 pub read_tail_blocks-requires-clause-near : goal.read_tail_blocks-requires-clause-near
@@ -23,8 +22,8 @@ read_tail_blocks-requires-clause-near c =
     ) in
     near
 
-pub new-requires-clause-full : goal.new-requires-clause-full
-new-requires-clause-full c =
+pub new-requires : goal.new-requires
+new-requires c =
     let layout = c.args.old.now.layout in
     let same = c.as_slice-clips.ensures.value in
     let start : c.last_start.result ≡ last_start layout = c.last_start.ensures ∙ ap last_start same in
@@ -37,57 +36,19 @@ new-requires-clause-full c =
       c.as_slice-clips.ensures.apart.few,
     ) in
     let end = last_end c.args.limits.block_size 0 layout c.as_slice-clips.ensures.apart.apart c.requires.half_full in
-    let tail = sound_tail c.args.limits c.last_start.result c.last_blocks.result.now c.args.at c.args.bytes.now
+    let tail = valid_tail c.args.limits c.last_start.result c.last_blocks.result.now c.args.at c.args.bytes.now
     (subst (λ bs. IsHalfFull c.args.limits.block_size (block_lens bs)) (sym olds) end.half_full)
     (subst NoneEmpty (sym olds) end.none_empty) near
     (all_pass (tail_tests c.args.limits c.last_start.result c.last_blocks.result.now c.args.at c.args.bytes.now)
     c.in_ok-blocks.ensures.0) in
-    let are = sym c.in_ok-blocks.ensures.1 in
-    (c.args.limits.block_size, subst (λ bs. IsHalfFull c.args.limits.block_size (block_lens bs)) are tail.half_full)
-
-pub new-requires-clause-none_empty : goal.new-requires-clause-none_empty
-new-requires-clause-none_empty c =
-    let layout = c.args.old.now.layout in
-    let same = c.as_slice-clips.ensures.value in
-    let start : c.last_start.result ≡ last_start layout = c.last_start.ensures ∙ ap last_start same in
-    let olds : c.last_blocks.result.now ≡ last_blocks layout = c.last_blocks.ensures.value ∙ ap last_blocks same in
-    let near : c.last_start.result + blocks_len c.last_blocks.result.now ≤ 2 ^ 32 = omega (
-      arith,
-      start,
-      ap blocks_len olds,
-      end_last 0 layout c.requires.some,
-      c.as_slice-clips.ensures.apart.few,
-    ) in
-    let end = last_end c.args.limits.block_size 0 layout c.as_slice-clips.ensures.apart.apart c.requires.half_full in
-    let tail = sound_tail c.args.limits c.last_start.result c.last_blocks.result.now c.args.at c.args.bytes.now
-    (subst (λ bs. IsHalfFull c.args.limits.block_size (block_lens bs)) (sym olds) end.half_full)
-    (subst NoneEmpty (sym olds) end.none_empty) near
-    (all_pass (tail_tests c.args.limits c.last_start.result c.last_blocks.result.now c.args.at c.args.bytes.now)
-    c.in_ok-blocks.ensures.0) in
-    let are = sym c.in_ok-blocks.ensures.1 in
-    subst NoneEmpty are tail.none_empty
-
-pub new-requires-clause-few : goal.new-requires-clause-few
-new-requires-clause-few c =
-    let layout = c.args.old.now.layout in
-    let same = c.as_slice-clips.ensures.value in
-    let start : c.last_start.result ≡ last_start layout = c.last_start.ensures ∙ ap last_start same in
-    let olds : c.last_blocks.result.now ≡ last_blocks layout = c.last_blocks.ensures.value ∙ ap last_blocks same in
-    let near : c.last_start.result + blocks_len c.last_blocks.result.now ≤ 2 ^ 32 = omega (
-      arith,
-      start,
-      ap blocks_len olds,
-      end_last 0 layout c.requires.some,
-      c.as_slice-clips.ensures.apart.few,
-    ) in
-    let end = last_end c.args.limits.block_size 0 layout c.as_slice-clips.ensures.apart.apart c.requires.half_full in
-    let tail = sound_tail c.args.limits c.last_start.result c.last_blocks.result.now c.args.at c.args.bytes.now
-    (subst (λ bs. IsHalfFull c.args.limits.block_size (block_lens bs)) (sym olds) end.half_full)
-    (subst NoneEmpty (sym olds) end.none_empty) near
-    (all_pass (tail_tests c.args.limits c.last_start.result c.last_blocks.result.now c.args.at c.args.bytes.now)
-    c.in_ok-blocks.ensures.0) in
-    let are = sym c.in_ok-blocks.ensures.1 in
-    omega (arith, tail.end, ap blocks_len are)
+    let are = sym c.in_ok-blocks.ensures.1 in record {
+      full = (
+        c.args.limits.block_size,
+        subst (λ bs. IsHalfFull c.args.limits.block_size (block_lens bs)) are tail.half_full,
+      );
+      none_empty = subst NoneEmpty are tail.none_empty;
+      few = omega (arith, tail.end, ap blocks_len are);
+    }
 
 pub from_clips-requires : goal.from_clips-requires
 from_clips-requires c =
@@ -103,7 +64,7 @@ from_clips-requires c =
       c.as_slice-clips.ensures.apart.few,
     ) in
     let end = last_end c.args.limits.block_size 0 layout c.as_slice-clips.ensures.apart.apart c.requires.half_full in
-    let tail = sound_tail c.args.limits c.last_start.result c.last_blocks.result.now c.args.at c.args.bytes.now
+    let tail = valid_tail c.args.limits c.last_start.result c.last_blocks.result.now c.args.at c.args.bytes.now
     (subst (λ bs. IsHalfFull c.args.limits.block_size (block_lens bs)) (sym olds) end.half_full)
     (subst NoneEmpty (sym olds) end.none_empty) near
     (all_pass (tail_tests c.args.limits c.last_start.result c.last_blocks.result.now c.args.at c.args.bytes.now)

@@ -3,9 +3,8 @@ use Rattle.std.proofs.Common.{◌≡◌, ◌+◌, ◌*◌, arith, length, List, 
 use Rattle.sample_block.specs.Spelling.{size_of, level_fields, header_fields}
 use Rattle.sample_block.specs.Faults.{difference, damage_of, samples_in, size_difference, Gives, IsFoundAs}
 use Rattle.sample_block.specs.declared.damage.BadBlock.{BadBlock}
+use Rattle.sample_block.proofs.{Numerals.IsBytes, Laws.front_found, Laws.frames_found}
 use Rattle.sample_block.specs.declared.damage.BadBlock.TheVariants as bad
-use Rattle.sample_block.proofs.Numerals.{IsBytes}
-use Rattle.sample_block.proofs.Laws.{front_found, frames_found}
 use Rattle.sample_block.proofs.reading.read.Goals as goal
 
 pub returns-in-Err-clause-exact : goal.returns-in-Err-clause-exact

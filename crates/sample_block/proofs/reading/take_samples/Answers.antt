@@ -1,12 +1,9 @@
 -- The samples of one frame more are taken, and their frame is stored.
 use Rattle.std.proofs.Common.{◌≡◌, ◌∙◌, ℕ, ℤ, List, map, ◌≤◌, ◌<◌, ◌+◌, ◌*◌, ◌++◌, sym, ap, length, take, drop, arith}
 use Rattle.std.proofs.lemmas.List.{take_more_set, take_all}
-use Rattle.std.specs.Prelude.{set}
-use Rattle.std.specs.List.{range_with_len}
-use Rattle.std.proofs.lemmas.List.FromFn.{map-range_with_len_more}
-use Rattle.std.proofs.Math.Seq.{take-add}
-use Rattle.peak_summary.specs.declared.stretch.Summary.{Summary}
-use Rattle.peak_summary.specs.Peaks.{frame_of, frame_count, frames_of}
+use Rattle.std.proofs.{lemmas.List.FromFn.map-range_with_len_more, Math.Seq.take-add}
+use Rattle.std.specs.{Prelude.set, List.range_with_len}
+use Rattle.peak_summary.specs.{declared.stretch.Summary.Summary, Peaks.frame_of, Peaks.frame_count, Peaks.frames_of}
 use Rattle.sample_block.specs.Faults.{samples_in}
 use Rattle.sample_block.proofs.Laws.{length_samples}
 use Rattle.sample_block.proofs.reading.take_samples.Goals as goal

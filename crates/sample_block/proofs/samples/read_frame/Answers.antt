@@ -1,7 +1,6 @@
 -- The samples that were read are those of the frame.
 use Rattle.std.proofs.Common.{◌≡◌, ◌<◌, ◌+◌, ◌*◌, ◌-◌, ℕ, ℤ, List, length, min, take, drop, arith, ◌∙◌, ap, length-drop}
-use Rattle.std.proofs.lemmas.List.{take_min}
-use Rattle.std.proofs.lemmas.Grind.{common_steps}
+use Rattle.std.proofs.{lemmas.List.take_min, lemmas.Grind.common_steps}
 use Rattle.sample_block.specs.Faults.{samples_in}
 use Rattle.sample_block.proofs.Laws.{samples_stretch, length_samples}
 use Rattle.sample_block.proofs.samples.read_frame.Goals as goal

@@ -1,18 +1,13 @@
 -- The samples of one frame more are written, and their frame is stored.
 use Rattle.std.proofs.Common.{◌≡◌, ◌≤◌, ◌<◌, ◌+◌, ◌-◌, ◌*◌, ◌++◌, ℕ, List, length, min, take, drop, map, arith, sym, ap}
 use Rattle.std.proofs.Common.{◌∙◌, inl, inr}
-use Rattle.std.specs.Prelude.{ℤ, set}
-use Rattle.std.specs.List.{range_with_len, flat_map}
-use Rattle.std.proofs.lemmas.Bool.{cases_lt}
 use Rattle.std.proofs.lemmas.List.{take_more_set, take_all, length-take, length-drop, length-append}
-use Rattle.std.proofs.lemmas.List.FromFn.{map-range_with_len_more}
-use Rattle.std.proofs.lemmas.Grind.{flat_map-append}
-use Rattle.std.proofs.lemmas.Slice.{take-put_mid}
-use Rattle.std.proofs.Math.Seq.{take-add}
-use borrow.Rule.Slice.PartMut.{put_mid}
-use Rattle.peak_summary.specs.Peaks.{frame_of, summary_of}
-use Rattle.peak_summary.specs.declared.stretch.Summary.{Summary}
+use Rattle.std.proofs.{lemmas.Bool.cases_lt, lemmas.List.FromFn.map-range_with_len_more, lemmas.Grind.flat_map-append}
+use Rattle.std.proofs.{lemmas.Slice.take-put_mid, Math.Seq.take-add}
+use Rattle.std.specs.{Prelude.ℤ, Prelude.set, List.range_with_len, List.flat_map}
+use Rattle.peak_summary.specs.{Peaks.frame_of, Peaks.summary_of, declared.stretch.Summary.Summary}
 use Rattle.sample_block.specs.Spelling.{sample_bytes}
+use borrow.Rule.Slice.PartMut.{put_mid}
 use Rattle.sample_block.proofs.writing.write_samples.Goals as goal
 
 pub slice_bounds-write_i16_into-end : goal.slice_bounds-write_i16_into-end

@@ -1,7 +1,6 @@
 -- The product may wrap before the sum.
-use Rattle.std.proofs.Common.{ℕ, ◌*◌, ◌^◌, ap, ◌∙◌, arith}
+use Rattle.std.proofs.{Common.ℕ, Common.◌*◌, Common.◌^◌, Common.ap, Common.◌∙◌, Common.arith, Math.Nat.add-mod-mod}
 use Rattle.std.specs.Prelude.{◌%◌}
-use Rattle.std.proofs.Math.Nat.{add-mod-mod}
 use Rattle.script_gen.specs.Draws.{next_state}
 use Rattle.script_gen.proofs.draws.next_state.Goals as goal
 

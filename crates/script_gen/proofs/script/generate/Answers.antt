@@ -1,11 +1,9 @@
 -- One line more, and what is known of all lines.
 use Rattle.std.proofs.Common.{◌+◌, ◌-◌, ◌++◌, List, subst, sym, ap, ◌∙◌, arith}
 use Rattle.pcm_base.specs.declared.command.Command.{Command}
-use Rattle.script_gen.specs.Bounds.{IsPlace}
-use Rattle.script_gen.specs.Script.{lines_from, script_of}
+use Rattle.script_gen.specs.{Bounds.IsPlace, Script.lines_from, Script.script_of}
 use Rattle.script_gen.proofs.LineLists.{lines_from-more, lines_from-none}
-use Rattle.script_gen.proofs.Places.{line-bounds}
-use Rattle.script_gen.proofs.Scripts.{made-good}
+use Rattle.script_gen.proofs.{Places.line-bounds, Scripts.made-good}
 use Rattle.script_gen.proofs.script.generate.Goals as goal
 
 pub loop-made-preserved : goal.loop-made-preserved

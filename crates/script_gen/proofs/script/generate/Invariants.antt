@@ -1,7 +1,6 @@
 -- The lines so far, and those from here on.
 use Rattle.std.proofs.Common.{◌≡◌, ◌-◌, ◌++◌}
-use Rattle.script_gen.specs.Bounds.{IsPlace}
-use Rattle.script_gen.specs.Script.{script_of, lines_from}
+use Rattle.script_gen.specs.{Bounds.IsPlace, Script.script_of, Script.lines_from}
 use Rattle.script_gen.proofs.script.generate.Given as goal
 
 abbrev pub invariant-loop-made : goal.invariant-loop-made

@@ -1,9 +1,8 @@
 -- One column more.
 use Rattle.std.proofs.Common.{◌++◌, take, get_or, None, subst}
-use Rattle.std.specs.List.{flat_map}
 use Rattle.std.proofs.lemmas.List.{take_more, flat_map_more}
-use Rattle.script_text.specs.Gathering.{Said}
-use Rattle.script_text.specs.Text.{column_text}
+use Rattle.std.specs.List.{flat_map}
+use Rattle.script_text.specs.{Gathering.Said, Text.column_text}
 use Rattle.script_text.proofs.columns.put_columns.Goals as goal
 
 pub loop-column-preserved : goal.loop-column-preserved

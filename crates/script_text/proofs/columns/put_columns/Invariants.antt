@@ -1,8 +1,7 @@
 -- The columns so far stand after the text.
 use Rattle.std.proofs.Common.{take}
 use Rattle.std.specs.List.{flat_map}
-use Rattle.script_text.specs.Gathering.{Adds, Counts}
-use Rattle.script_text.specs.Text.{column_text}
+use Rattle.script_text.specs.{Gathering.Adds, Gathering.Counts, Text.column_text}
 use Rattle.script_text.proofs.columns.put_columns.Given as goal
 
 abbrev pub invariant-loop-column : goal.invariant-loop-column

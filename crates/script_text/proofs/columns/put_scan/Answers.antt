@@ -1,7 +1,6 @@
 -- One number after another.
 use Rattle.std.proofs.Common.{codes, w16, SFits, arith}
-use Rattle.std.proofs.lemmas.Grind.{common_steps}
-use Rattle.std.proofs.lemmas.Int.{to_z-of_z}
+use Rattle.std.proofs.{lemmas.Grind.common_steps, lemmas.Int.to_z-of_z}
 use Rattle.pcm_base.specs.Envelope.{rms_of}
 use Rattle.script_text.specs.Text.{with_number, with_signed}
 use Rattle.script_text.proofs.GatheringLemmas.{adds_then}

@@ -1,7 +1,6 @@
 -- Behind nothing, the count, and the last line.
 use Rattle.std.proofs.Common.{[], ◌++◌, codes}
-use Rattle.script_text.specs.Text.{with_number}
-use Rattle.script_text.specs.Project.{checked_text}
+use Rattle.script_text.specs.{Text.with_number, Project.checked_text}
 use Rattle.script_text.proofs.project.write_checked.Goals as goal
 
 pub returns-clause-bytes : goal.returns-clause-bytes

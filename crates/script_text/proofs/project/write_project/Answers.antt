@@ -1,8 +1,7 @@
 -- Behind nothing, one line after another.
 use Rattle.std.proofs.Common.{[], ◌++◌, codes}
 use Rattle.std.specs.List.{flat_map}
-use Rattle.script_text.specs.Text.{track_text}
-use Rattle.script_text.specs.Project.{shape_text, place_text, project_text}
+use Rattle.script_text.specs.{Text.track_text, Project.shape_text, Project.place_text, Project.project_text}
 use Rattle.script_text.proofs.project.write_project.Goals as goal
 
 pub returns-clause-bytes : goal.returns-clause-bytes

@@ -12,7 +12,7 @@ returns-in-NothingToRedo-clause-bytes g c =
 pub returns-in-RateDiffers-clause-bytes : goal.returns-in-RateDiffers-clause-bytes
 returns-in-RateDiffers-clause-bytes g c = λ start text said.
     rw c.in-RateDiffers.is
-    (rw (c.from.ensures, c.from-in-RateDiffers.ensures) at c.put_pair-in-RateDiffers.ensures.bytes start text said)
+    (rw (c.from.ensures, c.from-wanted.ensures) at c.put_pair-in-RateDiffers.ensures.bytes start text said)
 
 pub returns-in-RecordLimit-clause-bytes : goal.returns-in-RecordLimit-clause-bytes
 returns-in-RecordLimit-clause-bytes g c =

@@ -1,11 +1,9 @@
 -- One track more.
 use Rattle.std.proofs.Common.{◌++◌, take, get_or, false, subst}
-use Rattle.std.specs.List.{flat_map}
 use Rattle.std.proofs.lemmas.List.{take_more, flat_map_more}
-use Rattle.pcm_base.specs.declared.sound.Side.TheVariants.{Both}
-use Rattle.pcm_base.specs.declared.sound.TrackLine.{TrackLine}
-use Rattle.script_text.specs.Gathering.{Said}
-use Rattle.script_text.specs.Text.{track_text}
+use Rattle.std.specs.List.{flat_map}
+use Rattle.pcm_base.specs.{declared.sound.Side.TheVariants.Both, declared.sound.TrackLine.TrackLine}
+use Rattle.script_text.specs.{Gathering.Said, Text.track_text}
 use Rattle.script_text.proofs.tracks.put_tracks.Goals as goal
 
 abbrev none : TrackLine

@@ -1,8 +1,7 @@
 -- The tracks so far stand after the text.
 use Rattle.std.proofs.Common.{take}
 use Rattle.std.specs.List.{flat_map}
-use Rattle.script_text.specs.Gathering.{Adds, Counts}
-use Rattle.script_text.specs.Text.{track_text}
+use Rattle.script_text.specs.{Gathering.Adds, Gathering.Counts, Text.track_text}
 use Rattle.script_text.proofs.tracks.put_tracks.Given as goal
 
 abbrev pub invariant-loop-track : goal.invariant-loop-track

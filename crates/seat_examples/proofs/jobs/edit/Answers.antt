@@ -1,10 +1,9 @@
 -- One ramp more.
 use Rattle.std.proofs.Common.{arith}
 use Rattle.pin_turn.specs.Calls.{known}
-use Rattle.studio_seats.proofs.OnwardLemmas.{onward_on, onward_self}
+use Rattle.studio_seats.proofs.{OnwardLemmas.onward_on, OnwardLemmas.onward_self, WorkLemmas.onward_as}
 use Rattle.seat_examples.specs.Jobs.{IsRampIn}
 use Rattle.seat_examples.proofs.CallLemmas.{done_ok}
-use Rattle.studio_seats.proofs.WorkLemmas.{onward_as}
 use Rattle.seat_examples.proofs.jobs.edit.Goals as goal
 
 pub lines-init : goal.lines-init

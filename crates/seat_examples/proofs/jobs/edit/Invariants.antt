@@ -1,8 +1,7 @@
 -- The seat went on by ramps.
 use Rattle.std.proofs.Common.{◌≡◌, ◌+◌, length}
 use Rattle.pin_turn.specs.Calls.{known}
-use Rattle.studio_seats.specs.Desks.{IsAt}
-use Rattle.studio_seats.specs.Onward.{Onward}
+use Rattle.studio_seats.specs.{Desks.IsAt, Onward.Onward}
 use Rattle.seat_examples.specs.Jobs.{IsRampIn}
 use Rattle.seat_examples.proofs.jobs.edit.Given as goal
 

@@ -1,9 +1,7 @@
 -- Frames are compared one by one.
-use Rattle.std.proofs.Common.{rules, ◌≡◌}
+use Rattle.std.proofs.{Common.rules, Common.◌≡◌, lemmas.Slice.Eq.slice_eq-Decides}
 use Rattle.std.specs.Bool.{Decides}
-use Rattle.std.proofs.lemmas.Slice.Eq.{slice_eq-Decides}
-use Rattle.pcm_base.specs.declared.sound.Frame.{Frame}
-use Rattle.pcm_base.specs.contracts.sound.FramePartialEq.TheImpl.{eq-value}
+use Rattle.pcm_base.specs.{declared.sound.Frame.Frame, contracts.sound.FramePartialEq.TheImpl.eq-value}
 use Rattle.seat_examples.proofs.jobs.is_mix.Goals as goal
 
 frame_decides : (a b : Frame) → Decides (eq-value.it a b) (a ≡ b)

@@ -1,16 +1,12 @@
 -- One read more.
 use Rattle.std.proofs.Common.{rules, ◌≡◌, ◌∙◌, ◌<◌, ℕ, List, Result, refl, sym, ap, subst, take, length, arith}
-use Rattle.std.specs.Prelude.{IfOk}
 use Rattle.std.proofs.lemmas.List.{length-take, take_all}
-use Rattle.pcm_base.specs.declared.refusal.Refusal.{Refusal}
-use Rattle.pcm_base.specs.declared.sound.Frame.{Frame}
+use Rattle.std.specs.Prelude.{IfOk}
+use Rattle.pcm_base.specs.{declared.refusal.Refusal.Refusal, declared.sound.Frame.Frame}
 use Rattle.pin_turn.specs.Calls.{known}
-use Rattle.studio_seats.specs.Desks.{IsAt, start_at}
 use Rattle.studio_seats.specs.Onward.{IsReadOf, Onward, worker}
-use Rattle.studio_seats.specs.Shows.{IsMixOf}
-use Rattle.studio_seats.specs.Stands.{origin}
-use Rattle.studio_seats.proofs.OnwardLemmas.{onward_on}
-use Rattle.studio_seats.proofs.ReadLemmas.{reads_self}
+use Rattle.studio_seats.specs.{Desks.IsAt, Desks.start_at, Shows.IsMixOf, Stands.origin}
+use Rattle.studio_seats.proofs.{OnwardLemmas.onward_on, ReadLemmas.reads_self}
 use Rattle.seat_examples.proofs.jobs.play.Goals as goal
 
 -- what was read with room to spare is all that there is

@@ -2,10 +2,7 @@
 use Rattle.std.proofs.Common.{◌≡◌, ◌<◌, List}
 use Rattle.pcm_base.specs.declared.sound.Frame.{Frame}
 use Rattle.pin_turn.specs.Calls.{known}
-use Rattle.studio_seats.specs.Desks.{start_at}
-use Rattle.studio_seats.specs.Onward.{IsReadOf, Onward}
-use Rattle.studio_seats.specs.Shows.{IsMixOf}
-use Rattle.studio_seats.specs.Stands.{origin}
+use Rattle.studio_seats.specs.{Desks.start_at, Onward.IsReadOf, Onward.Onward, Shows.IsMixOf, Stands.origin}
 use Rattle.seat_examples.specs.Jobs.{IsPinOf}
 use Rattle.seat_examples.proofs.jobs.play.Given as goal
 

@@ -1,9 +1,7 @@
 -- The seat went on by reclaims.
 use Rattle.std.proofs.Common.{◌≡◌, ◌+◌, length}
 use Rattle.pin_turn.specs.Calls.{known}
-use Rattle.studio_seats.specs.Desks.{IsAt}
-use Rattle.studio_seats.specs.Onward.{Onward}
-use Rattle.studio_seats.specs.Freeing.{IsFullReclaim}
+use Rattle.studio_seats.specs.{Desks.IsAt, Onward.Onward, Freeing.IsFullReclaim}
 use Rattle.seat_examples.proofs.jobs.reclaim.Given as goal
 
 abbrev pub invariant-rounds : goal.invariant-rounds

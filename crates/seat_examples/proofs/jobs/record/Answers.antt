@@ -1,9 +1,7 @@
 -- One piece more.
 use Rattle.std.proofs.Common.{◌≡◌, ◌∙◌, ℕ, ◌+◌, ◌≤◌, true, false, refl, ap, subst, arith, length}
 use Rattle.pin_turn.specs.Calls.{known}
-use Rattle.studio_seats.specs.Desks.{IsAt, start_at}
-use Rattle.studio_seats.specs.Onward.{Onward}
-use Rattle.studio_seats.specs.Recording.{RecorderAsks, recorder}
+use Rattle.studio_seats.specs.{Desks.IsAt, Desks.start_at, Onward.Onward, Recording.RecorderAsks, Recording.recorder}
 use Rattle.studio_seats.proofs.OnwardLemmas.{onward_on}
 use Rattle.studio_seats.proofs.RecordingLemmas.{pieces_free, records_free, records_self}
 use Rattle.seat_examples.specs.Jobs.{piece_count}

@@ -1,9 +1,7 @@
 -- The taker's seat went on by pieces of the recording and reclaims.
 use Rattle.std.proofs.Common.{◌≡◌, ◌+◌}
 use Rattle.pin_turn.specs.Calls.{known}
-use Rattle.studio_seats.specs.Desks.{start_at}
-use Rattle.studio_seats.specs.Onward.{Onward}
-use Rattle.studio_seats.specs.Recording.{RecorderAsks}
+use Rattle.studio_seats.specs.{Desks.start_at, Onward.Onward, Recording.RecorderAsks}
 use Rattle.seat_examples.specs.Jobs.{piece_count}
 use Rattle.seat_examples.proofs.jobs.record.Given as goal
 

@@ -1,13 +1,10 @@
 -- Each job is one of the four.
 use Rattle.std.proofs.Common.{sym, subst}
+use Rattle.pin_turn.specs.Calls.{known}
+use Rattle.studio_seats.specs.{Desks.start_at, Desks.views, Onward.Onward, Stands.origin}
+use Rattle.seat_examples.specs.{declared.jobs.Job.Job, Jobs.asked, Jobs.did}
 use Rattle.memory_disk.specs.contracts.ram.RamStoreStore.TheImpl as ram
 use Rattle.edit_ports.specs.contracts.mem_vault.MemVaultVault.TheImpl as mem
-use Rattle.pin_turn.specs.Calls.{known}
-use Rattle.studio_seats.specs.Desks.{start_at, views}
-use Rattle.studio_seats.specs.Onward.{Onward}
-use Rattle.studio_seats.specs.Stands.{origin}
-use Rattle.seat_examples.specs.declared.jobs.Job.{Job}
-use Rattle.seat_examples.specs.Jobs.{asked, did}
 use Rattle.seat_examples.proofs.jobs.work.Goals as goal
 
 pub returns-in-Record-clause-goes : goal.returns-in-Record-clause-goes

@@ -1,8 +1,7 @@
 -- The line is one turn of the seat.
 use Rattle.std.proofs.Common.{◌≡◌, refl}
 use Rattle.pcm_base.specs.declared.command.Call.TheVariants.{Line}
-use Rattle.studio_seats.proofs.OnwardLemmas.{onward_turn}
-use Rattle.studio_seats.proofs.Turns.{said_number}
+use Rattle.studio_seats.proofs.{OnwardLemmas.onward_turn, Turns.said_number}
 use Rattle.seat_examples.proofs.CallLemmas.{counted, one_turn}
 use Rattle.seat_examples.proofs.lines.line.Goals as goal
 

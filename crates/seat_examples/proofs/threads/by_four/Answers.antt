@@ -1,7 +1,6 @@
 -- A seat that split one off may take it in again, and is then the one that it was.
 use Rattle.pin_turn.specs.Calls.{known}
-use Rattle.seat_examples.proofs.CallLemmas.{ready_on}
-use Rattle.seat_examples.proofs.SeatLemmas.{may_rejoin, stays_rejoined}
+use Rattle.seat_examples.proofs.{CallLemmas.ready_on, SeatLemmas.may_rejoin, SeatLemmas.stays_rejoined}
 use Rattle.seat_examples.proofs.threads.by_four.Goals as goal
 
 pub join-requires-clause-away : goal.join-requires-clause-away

@@ -2,11 +2,9 @@
 use Rattle.std.proofs.Common.{ℕ, Ok, Err, inl, inr, ap, subst, sym, ◌∙◌}
 use Rattle.editor_core.specs.Core.{core_of}
 use Rattle.script_text.specs.Project.{checked_text}
-use Rattle.session_run.specs.Opening.{Looks}
-use Rattle.script_session.specs.Change.{change}
-use Rattle.session_run.specs.Streams.{Prints, from_sink}
-use Rattle.session_run.proofs.ProjectLemmas.{refused_as}
-use Rattle.session_run.proofs.StreamLemmas.{prints}
+use Rattle.session_run.specs.{Opening.Looks, Streams.Prints, Streams.from_sink}
+use Rattle.script_reader.specs.Change.{change}
+use Rattle.session_run.proofs.{ProjectLemmas.refused_as, StreamLemmas.prints}
 use Rattle.session_run.proofs.projects.check_project.Goals as goal
 
 pub returns-in-Ok-check : goal.returns-in-Ok-check

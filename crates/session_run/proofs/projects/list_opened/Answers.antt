@@ -1,12 +1,10 @@
 -- What is told of a project.
 use Rattle.std.proofs.Common.{inl, inr, ◌∙◌, List, subst}
 use Rattle.pcm_base.specs.declared.sound.TrackLine.{TrackLine}
-use Rattle.script_text.specs.declared.project.ProjectLines.{ProjectLines}
-use Rattle.script_text.specs.Project.{project_text}
-use Rattle.script_session.specs.Change.{change}
+use Rattle.script_text.specs.{declared.project.ProjectLines.ProjectLines, Project.project_text}
+use Rattle.script_reader.specs.Change.{change}
 use Rattle.session_run.specs.Streams.{Prints, from_sink}
-use Rattle.session_run.proofs.ProjectLemmas.{same_tracks}
-use Rattle.session_run.proofs.StreamLemmas.{prints}
+use Rattle.session_run.proofs.{ProjectLemmas.same_tracks, StreamLemmas.prints}
 use Rattle.session_run.proofs.projects.list_opened.Goals as goal
 
 pub returns-clause-listed : goal.returns-clause-listed
@@ -38,7 +36,5 @@ returns-clause-listed g c = λ source. inl (
     })
 
 pub returns-in_default-clause-listed : goal.returns-in_default-clause-listed
-returns-in_default-clause-listed g c = λ source. inr (record {
-  printed = c.refuse.ensures.printed;
-  done_is = c.refuse.ensures.done;
-})
+returns-in_default-clause-listed g c =
+    λ source. inr (record { printed = c.refuse.ensures.printed; done_is = c.refuse.ensures.done })

@@ -3,40 +3,33 @@ use Rattle.std.proofs.Common.{inl, inr, refl, ap, subst, ◌∙◌, ◌≡◌, �
 use Rattle.editor_state.specs.Core.{Core}
 use Rattle.editor_core.specs.Core.{core_of}
 use Rattle.script_text.specs.Last.{last_text}
-use Rattle.script_session.specs.Change.{change}
-use Rattle.desk_session.specs.Lent.{kinds}
-use Rattle.desk_session.specs.Sessions.{IsSession}
-use Rattle.session_run.specs.Last.{WritesEnd, mic_failed, play_line, play_refused, record_line, record_refused}
-use Rattle.session_run.specs.Last.{speaker_failed, status_of}
-use Rattle.session_run.specs.Streams.{output}
+use Rattle.script_reader.specs.Change.{change}
+use Rattle.desk_session.specs.{Lent.kinds, Lent.lent_by, Lent.outcome, Sessions.IsSession}
+use Rattle.session_run.specs.{Last.WritesEnd, Last.mic_failed, Last.play_line, Last.play_refused, Last.record_line}
+use Rattle.session_run.specs.{Last.record_refused, Last.speaker_failed, Last.status_of, Streams.output}
 use Rattle.session_run.proofs.StreamLemmas.{unread}
 use Rattle.session_run.proofs.running.run_opened.Goals as goal
 
 pub returns-in-Ok-clause-runs : goal.returns-in-Ok-clause-runs
 returns-in-Ok-clause-runs g c =
     let ran = c.run-ended in
-    let e = ran.result in
+    let e = ran.result.0 in
+    let r = e.report in
+    let d = ran.result.1 in
     let end = c.finish in
-    let s = c.in-Ok.seated in
-    let begun : core_of c.args.studio ≡ core_of c.args.studio = refl in
     let track : e.track ≡ (core_of c.args.studio).next_track =
     ran.ensures.track ∙ ap (λ (z : Core g.row.S.Denot). z.next_track) c.in-Ok.ensures.ok.0 in (
       core_of e.studio,
       end.ensures.store,
       inl (record {
         ran = record {
-          out = record { told = e.told; opened = e.opened; kept = e.kept; heard = e.heard };
-          mid = g.O.Sink.written ran.new.out;
-          faults = g.O.Sink.fault_count ran.new.out;
+          out = outcome e.opened r;
+          mid = g.O.Sink.written d.streams.out.now;
+          faults = g.O.Sink.fault_count d.streams.out.now;
           session =
               subst (λ (z : Core g.row.S.Denot). IsSession
-              (kinds g.S.Store g.V.Vault g.M.Source g.P.Sink) z (core_of e.studio) (record {
-                vault = change c.args.vault.now ran.new.vault;
-                mic = change c.args.mic.now ran.new.mic;
-                speaker = change c.args.speaker.now ran.new.speaker;
-                left = change (g.A.Source.left c.args.script.now) (g.A.Source.left ran.new.script);
-                written = change (g.O.Sink.written c.args.out.now) (g.O.Sink.written ran.new.out);
-              }) (record { told = e.told; opened = e.opened; kept = e.kept; heard = e.heard }))
+              (kinds g.S.Store g.V.Vault g.M.Source g.P.Sink) z (core_of e.studio)
+              (lent_by g.A.Source g.O.Sink (change c.args.devices d)) (outcome e.opened r))
               c.in-Ok.ensures.ok.0 ran.ensures.session;
           asked = (
             ran.ensures.asked.0 ∙ ap (λ b. b.records) c.in-Ok.ensures.ok.1,
@@ -44,14 +37,14 @@ returns-in-Ok-clause-runs g c =
           );
           cause = ran.ensures.cause;
           ended = subst
-              (λ (t : ℕ). WritesEnd e.told.stop (output g.O.Sink (change ran.new.out end.new.out))
-              (last_text (record_line t e.opened.recording e.kept) (play_line e.opened.pin e.heard)
+              (λ (t : ℕ). WritesEnd r.told.stop (output g.O.Sink (change d.streams.out.now end.new.out))
+              (last_text (record_line t e.opened.recording r.kept) (play_line e.opened.pin r.heard)
               (core_of e.studio).commit_number)) track end.ensures.ended;
         };
         status_is = end.ensures.status.0
-            ∙ ap (λ (t : ℕ). status_of e.told.stop (mic_failed e.kept || speaker_failed e.heard)
-            (e.told.refused || (record_refused (record_line t e.opened.recording e.kept)
-            || play_refused (play_line e.opened.pin e.heard)))) track;
+            ∙ ap (λ (t : ℕ). status_of r.told.stop (mic_failed r.kept || speaker_failed r.heard)
+            (r.told.refused || (record_refused (record_line t e.opened.recording r.kept)
+            || play_refused (play_line e.opened.pin r.heard)))) track;
         opened = end.ensures.status.1;
         first = end.ensures.numbers.0 ∙ c.commit_number-first.ensures;
         last = end.ensures.numbers.1;
@@ -64,7 +57,7 @@ returns-in-Ok-clause-runs g c =
 pub returns-in-Err-clause-runs : goal.returns-in-Err-clause-runs
 returns-in-Err-clause-runs g c = (
   core_of c.args.studio,
-  c.refuse.ensures.store ∙ (c.into_store.ensures ∙ ap (λ s. (core_of s).store) c.in-Err.ensures.err),
+  c.refuse.ensures.store ∙ (c.into_store-store.ensures ∙ ap (λ s. (core_of s).store) c.in-Err.ensures.err),
   inr (record {
     refused = record { printed = c.refuse.ensures.printed; done_is = c.refuse.ensures.done };
     unread = (refl, refl);
@@ -78,4 +71,4 @@ returns-in-Ok-clause-reads g c =
     record { course = c.run-ended.ensures.reads.course; goes = c.run-ended.ensures.reads.goes }
 
 pub returns-in-Err-clause-reads : goal.returns-in-Err-clause-reads
-returns-in-Err-clause-reads g c = unread g.A.Source c.args.script.now
+returns-in-Err-clause-reads g c = unread g.A.Source c.args.devices.streams.script.now

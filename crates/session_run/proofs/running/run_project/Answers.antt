@@ -2,8 +2,7 @@
 use Rattle.std.proofs.Common.{inl, inr, refl, subst, sym, Err}
 use Rattle.editor_core.specs.Core.{core_of}
 use Rattle.session_run.specs.Opening.{Looks}
-use Rattle.session_run.proofs.ProjectLemmas.{refused_as}
-use Rattle.session_run.proofs.StreamLemmas.{unread}
+use Rattle.session_run.proofs.{ProjectLemmas.refused_as, StreamLemmas.unread}
 use Rattle.session_run.proofs.running.run_project.Goals as goal
 
 pub returns-in-Ok-clause-runs : goal.returns-in-Ok-clause-runs
@@ -44,4 +43,4 @@ returns-in-Err-clause-runs g c = let e = c.in-Err.ensures in inr (
 )
 
 pub returns-in-Err-clause-reads : goal.returns-in-Err-clause-reads
-returns-in-Err-clause-reads g c = unread g.A.Source c.args.script.now
+returns-in-Err-clause-reads g c = unread g.A.Source c.args.devices.streams.script.now

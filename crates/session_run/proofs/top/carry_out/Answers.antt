@@ -1,60 +1,63 @@
 -- What the words ask for.
 use Rattle.std.proofs.Common.{inl, refl, ap, ◌∙◌, Some}
-use Rattle.script_session.specs.Change.{change}
+use Rattle.script_reader.specs.Change.{change}
 use Rattle.session_run.specs.Streams.{Streams, streams}
-use Rattle.session_run.proofs.CallLemmas.{asked, idle}
-use Rattle.session_run.proofs.StreamLemmas.{unread}
+use Rattle.session_run.proofs.{CallLemmas.asked, CallLemmas.idle, StreamLemmas.unread}
 use Rattle.session_run.proofs.top.carry_out.Goals as goal
 
 pub returns-in-Ok-New-clause-does : goal.returns-in-Ok-New-clause-does
 returns-in-Ok-New-clause-does g c =
-    let s : Streams = streams g.A.Source g.O.Sink (change c.args.script.now c.args.script.now)
-    (change c.args.out.now c.make_project.new.out) in
-    inl (asked _ _ _ (idle c.args.store c.args.vault.now c.args.mic.now c.args.speaker.now s)
+    let d = c.args.devices in
+    let s : Streams = streams g.A.Source g.O.Sink (change d.streams.script.now d.streams.script.now)
+    (change d.streams.out.now c.make_project.new.out) in
+    inl (asked _ _ _ (idle c.args.store d.vault.now d.mic.now d.speaker.now s)
     c.make_project.result
     (c.in-Ok-New.ensures.read ∙ ap Some c.in-Ok-New.field-0-is)
     (c.make_project.ensures s, ((refl, refl), (refl, refl), refl)))
 
 pub returns-in-Ok-List-clause-does : goal.returns-in-Ok-List-clause-does
 returns-in-Ok-List-clause-does g c =
-    let s : Streams = streams g.A.Source g.O.Sink (change c.args.script.now c.args.script.now)
-    (change c.args.out.now c.list_project.new.out) in
-    inl (asked _ _ _ (idle c.args.store c.args.vault.now c.args.mic.now c.args.speaker.now s)
+    let d = c.args.devices in
+    let s : Streams = streams g.A.Source g.O.Sink (change d.streams.script.now d.streams.script.now)
+    (change d.streams.out.now c.list_project.new.out) in
+    inl (asked _ _ _ (idle c.args.store d.vault.now d.mic.now d.speaker.now s)
     c.list_project.result
     (c.in-Ok-List.ensures.read ∙ ap Some c.in-Ok-List.field-0-is)
     (c.list_project.ensures s, ((refl, refl), (refl, refl), refl)))
 
 pub returns-in-Ok-Check-clause-does : goal.returns-in-Ok-Check-clause-does
 returns-in-Ok-Check-clause-does g c =
-    let s : Streams = streams g.A.Source g.O.Sink (change c.args.script.now c.args.script.now)
-    (change c.args.out.now c.check_project.new.out) in
-    inl (asked _ _ _ (idle c.args.store c.args.vault.now c.args.mic.now c.args.speaker.now s)
+    let d = c.args.devices in
+    let s : Streams = streams g.A.Source g.O.Sink (change d.streams.script.now d.streams.script.now)
+    (change d.streams.out.now c.check_project.new.out) in
+    inl (asked _ _ _ (idle c.args.store d.vault.now d.mic.now d.speaker.now s)
     c.check_project.result
     (c.in-Ok-Check.ensures.read ∙ ap Some c.in-Ok-Check.field-0-is)
     (c.check_project.ensures s, ((refl, refl), (refl, refl), refl)))
 
 pub returns-in-Ok-Gen-clause-does : goal.returns-in-Ok-Gen-clause-does
 returns-in-Ok-Gen-clause-does g c =
-    let s : Streams = streams g.A.Source g.O.Sink (change c.args.script.now c.args.script.now)
-    (change c.args.out.now c.run_gen.new.out) in
-    inl (asked _ _ _ (idle c.args.store c.args.vault.now c.args.mic.now c.args.speaker.now s) c.run_gen.result
+    let d = c.args.devices in
+    let s : Streams = streams g.A.Source g.O.Sink (change d.streams.script.now d.streams.script.now)
+    (change d.streams.out.now c.run_gen.new.out) in
+    inl (asked _ _ _ (idle c.args.store d.vault.now d.mic.now d.speaker.now s) c.run_gen.result
     (c.in-Ok-Gen.ensures.read ∙ ap Some c.in-Ok-Gen.field-0-is)
     (c.run_gen.ensures.sum s, c.run_gen.ensures.store, ((refl, refl), (refl, refl), refl)))
 
 pub returns-in-Ok-New-clause-reads : goal.returns-in-Ok-New-clause-reads
-returns-in-Ok-New-clause-reads g c = unread g.A.Source c.args.script.now
+returns-in-Ok-New-clause-reads g c = unread g.A.Source c.args.devices.streams.script.now
 
 pub returns-in-Ok-List-clause-reads : goal.returns-in-Ok-List-clause-reads
-returns-in-Ok-List-clause-reads g c = unread g.A.Source c.args.script.now
+returns-in-Ok-List-clause-reads g c = unread g.A.Source c.args.devices.streams.script.now
 
 pub returns-in-Ok-Check-clause-reads : goal.returns-in-Ok-Check-clause-reads
-returns-in-Ok-Check-clause-reads g c = unread g.A.Source c.args.script.now
+returns-in-Ok-Check-clause-reads g c = unread g.A.Source c.args.devices.streams.script.now
 
 pub returns-in-Ok-Gen-clause-reads : goal.returns-in-Ok-Gen-clause-reads
-returns-in-Ok-Gen-clause-reads g c = unread g.A.Source c.args.script.now
+returns-in-Ok-Gen-clause-reads g c = unread g.A.Source c.args.devices.streams.script.now
 
 pub returns-in-Err-Usage-clause-reads : goal.returns-in-Err-Usage-clause-reads
-returns-in-Err-Usage-clause-reads g c = unread g.A.Source c.args.script.now
+returns-in-Err-Usage-clause-reads g c = unread g.A.Source c.args.devices.streams.script.now
 
 pub returns-in-Err-NoMemory-clause-reads : goal.returns-in-Err-NoMemory-clause-reads
-returns-in-Err-NoMemory-clause-reads g c = unread g.A.Source c.args.script.now
+returns-in-Err-NoMemory-clause-reads g c = unread g.A.Source c.args.devices.streams.script.now

@@ -1,46 +1,62 @@
 -- The call.
-use Rattle.std.proofs.Common.{refl, ap, ◌∙◌, if◌then◌else◌, Bool, List, map}
+use Rattle.std.proofs.Common.{rules, refl, ap, ◌∙◌, if◌then◌else◌, Bool, List, map}
 use Rattle.std.specs.Prelude.{string_bytes}
-use Rattle.memory_disk.specs.contracts.ram.RamStoreStore.TheImpl as ram
 use Rattle.memory_disk.specs.declared.ram.RamStore.{RamStore}
-use Rattle.call_words.specs.Texts.{Text}
-use Rattle.call_words.specs.Words.{words_of}
-use Rattle.script_session.specs.Change.{change}
+use Rattle.call_words.specs.{Texts.Text, Words.words_of}
+use Rattle.script_reader.specs.Change.{change}
 use Rattle.desk_session.specs.Lent.{Kinds, kinds}
-use Rattle.session_run.specs.Call.{World, any_rose, counts}
+use Rattle.session_run.specs.Call.{Does, EndsAs, HasCause, Promises, World, any_rose, counts}
 use Rattle.session_run.specs.Ports.{Handed, handed}
-use Rattle.session_run.proofs.CallPromise.{ended_as, promises}
-use Rattle.session_run.proofs.FourLemmas.{four_only}
-use Rattle.session_run.proofs.StatusLemmas.{failed_four, four_failed}
+use Rattle.session_run.specs.{declared.counts.FaultCounts.FaultCounts, declared.ending.Done.Done}
+use Rattle.session_run.proofs.CallPromise.{ended_as, ending_of, promises}
+use Rattle.session_run.proofs.{BackLemmas.back_to, BackLemmas.read_back, FourLemmas.four_only, StatusLemmas.failed_four}
+use Rattle.session_run.proofs.{StatusLemmas.four_failed}
+use Rattle.memory_disk.specs.contracts.ram.RamStoreStore.TheImpl as ram
 use Rattle.session_run.proofs.top.studio_call.Goals as goal
 
+-- The facts are of the devices that came back from `carry_out`; `back_to` has them of those that were lent.
 pub returns : goal.returns
 returns g c =
-    let done = c.carry_out-done.result in
-    let now = c.carry_out-done.new in
+    let a = c.args in
+    let done = c.carry_out-done.result.0 in
+    let d = c.carry_out-done.result.1 in
     let rose = c.any_rose.ensures ∙ (λ i. any_rose (c.count_faults-before.ensures i) (c.count_faults-now.ensures i)) in
     let status = c.status_of.ensures ∙ ap (λ (b : Bool). if b then 4 else done.status) rose in
-    let ends = ended_as _ done c.status_of.result now.mic now.speaker status in
+    let four = c.status_of.result in
+    let ends = ended_as _ done four d.mic.now d.speaker.now status in
     let k : Kinds g.row.S.Denot g.row.V.Denot g.row.M.Denot g.row.P.Denot =
     kinds g.S.Store g.V.Vault g.M.Source g.P.Sink in
     let w : World RamStore g.row.S.Denot g.row.V.Denot g.row.M.Denot g.row.P.Denot =
     record { ram = ram.ghosts; kinds = k } in
-    let texts : List Text = map string_bytes c.args.words.now in
+    let texts : List Text = map string_bytes a.words.now in
     let h : Handed g.row.S.Denot g.row.V.Denot g.row.M.Denot g.row.P.Denot =
-    handed g.A.Source g.O.Sink (change c.args.script.now now.script) (change c.args.out.now now.out) c.args.store
-    (change c.args.vault.now now.vault) (change c.args.mic now.mic) (change c.args.speaker now.speaker) in
-    let old = counts g.A.Source g.O.Sink k c.args.script.now c.args.out.now c.args.store c.args.vault.now c.args.mic
-    c.args.speaker in
-    let new = counts g.A.Source g.O.Sink k now.script now.out done.store now.vault now.mic now.speaker in
-    let only = four_only g.A.Source g.O.Sink k (change c.args.script.now now.script) (change c.args.out.now now.out)
-    (change c.args.store done.store) (change c.args.vault.now now.vault) (change c.args.mic now.mic)
-    (change c.args.speaker now.speaker) ram.ghosts texts done c.carry_out-done.ensures.does refl _ status in record {
-      does = (done, c.carry_out-done.ensures.does, ends);
-      promise = promises w c.deeds_ask.ensures texts h _ done _ c.carry_out-done.ensures.does ends
+    handed g.A.Source g.O.Sink (change a.script.now d.streams.script.now) (change a.out.now d.streams.out.now) a.store
+    (change a.vault.now d.vault.now) (change a.mic d.mic.now) (change a.speaker d.speaker.now) in
+    let old : FaultCounts = counts g.A.Source g.O.Sink k a.script.now a.out.now a.store a.vault.now a.mic a.speaker in
+    let new : FaultCounts = counts g.A.Source g.O.Sink k d.streams.script.now d.streams.out.now done.store d.vault.now
+    d.mic.now d.speaker.now in
+    let only = four_only g.A.Source g.O.Sink k (change a.script.now d.streams.script.now)
+    (change a.out.now d.streams.out.now) (change a.store done.store) (change a.vault.now d.vault.now)
+    (change a.mic d.mic.now) (change a.speaker d.speaker.now) ram.ghosts texts done c.carry_out-done.ensures.does refl _
+    status in record {
+      does = back_to (λ z. (left : Done g.row.S.Denot) × Does w texts
+          (handed g.A.Source g.O.Sink (change a.script.now z.0) (change a.out.now z.1) a.store (change a.vault.now z.2)
+          (change a.mic z.3) (change a.speaker z.4)) left
+          × EndsAs (any_rose old (counts g.A.Source g.O.Sink k z.0 z.1 done.store z.2 z.3 z.4)) left
+          (ending_of done four z.3 z.4))
+          (search rules) (search rules) (search rules) (search rules) (search rules)
+          (done, c.carry_out-done.ensures.does, ends);
+      promise = back_to (λ z. Promises k texts
+          (handed g.A.Source g.O.Sink (change a.script.now z.0) (change a.out.now z.1) a.store (change a.vault.now z.2)
+          (change a.mic z.3) (change a.speaker z.4)) (ending_of done four z.3 z.4))
+          (search rules) (search rules) (search rules) (search rules) (search rules)
+          (promises w c.deeds_ask.ensures texts h _ done _ c.carry_out-done.ensures.does ends
           (λ records plays is. record {
-            failed = four_failed old new c.status_of.result done.status status;
-            status = failed_four old new (words_of texts) c.status_of.result only records plays is;
-          });
-      only = only;
-      reads = c.carry_out-done.ensures.reads;
+            failed = four_failed old new four done.status status;
+            status = failed_four old new (words_of texts) four only records plays is;
+          }));
+      only = back_to (λ z. HasCause (words_of texts) old
+          (counts g.A.Source g.O.Sink k z.0 z.1 done.store z.2 z.3 z.4) four)
+          (search rules) (search rules) (search rules) (search rules) (search rules) only;
+      reads = read_back g.A.Source (search rules) c.carry_out-done.ensures.reads;
     }

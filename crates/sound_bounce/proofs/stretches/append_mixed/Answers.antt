@@ -1,16 +1,15 @@
 -- What was mixed is appended.
 use Rattle.std.proofs.Common.{◌≡◌, ◌++◌, List, Some, subst, arith}
-use Rattle.std.specs.Prelude.{OnErr, OnOk}
 use Rattle.std.proofs.lemmas.List.{length-take}
-use Rattle.pcm_base.specs.declared.sound.Frame.{Frame}
-use Rattle.pcm_base.specs.Recordings.{frame_bytes}
+use Rattle.std.specs.Prelude.{OnErr, OnOk}
+use Rattle.pcm_base.specs.{declared.sound.Frame.Frame, Recordings.frame_bytes}
 use Rattle.edit_ports.specs.Sounds.{MayHaveGrown, sound_bytes}
 use Rattle.sound_bounce.specs.Bounces.{loaded_frames}
 use Rattle.sound_bounce.proofs.VaultLemmas.{grown_by}
 use Rattle.sound_bounce.proofs.stretches.append_mixed.Goals as goal
 
-pub append_piece-requires : goal.append_piece-requires
-append_piece-requires g c =
+pub append_buffer-requires : goal.append_buffer-requires
+append_buffer-requires g c =
     omega (
       arith,
       length-take c.args.loaded.now.len c.args.frames.now,
@@ -22,11 +21,11 @@ pub returns : goal.returns
 returns g c =
     let name = c.args.name.now in
     let old = g.V.Vault.holds c.args.vault.now name in
-    let new = g.V.Vault.holds c.append_piece.new.vault name in
-    let W : List Frame → Type 0 = λ fs. OnOk c.append_piece.result (new ≡ Some (sound_bytes old ++ frame_bytes fs)) in
-    let F : List Frame → Type 0 = λ fs. OnErr c.append_piece.result (MayHaveGrown (frame_bytes fs) old new) in
-    grown_by g.V.Vault name c.args.vault.now c.append_piece.new.vault (frame_bytes (loaded_frames c.args.loaded.now))
-    c.append_piece.result
-    (λ told. subst W c.requires.mixed (c.append_piece.ensures.appended told))
-    (λ told. subst F c.requires.mixed (c.append_piece.ensures.failed told))
-    c.append_piece.ensures.others c.append_piece.ensures.tells c.append_piece.ensures.cause
+    let new = g.V.Vault.holds c.append_buffer.new.vault name in
+    let W : List Frame → Type 0 = λ fs. OnOk c.append_buffer.result (new ≡ Some (sound_bytes old ++ frame_bytes fs)) in
+    let F : List Frame → Type 0 = λ fs. OnErr c.append_buffer.result (MayHaveGrown (frame_bytes fs) old new) in
+    grown_by g.V.Vault name c.args.vault.now c.append_buffer.new.vault (frame_bytes (loaded_frames c.args.loaded.now))
+    c.append_buffer.result
+    (λ told. subst W c.requires.mixed (c.append_buffer.ensures.appended told))
+    (λ told. subst F c.requires.mixed (c.append_buffer.ensures.failed told))
+    c.append_buffer.ensures.others c.append_buffer.ensures.tells c.append_buffer.ensures.cause

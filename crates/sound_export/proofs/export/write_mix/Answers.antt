@@ -1,23 +1,21 @@
 -- The head, and then the frames.
 use Rattle.std.proofs.Common.{◌≡◌, ℕ, ◌++◌, Bool, List, length, Some, sym, ap, subst, ◌∙◌, arith, Result}
-use Rattle.std.specs.Prelude.{IsTrue}
 use Rattle.std.proofs.lemmas.Result.{err_from_is_err_and}
+use Rattle.std.specs.Prelude.{IsTrue}
+use Rattle.pcm_base.proofs.Exits.{exit_err}
 use Rattle.block_store.specs.declared.fault.BlockFault.{BlockFault}
-use Rattle.pcm_base.specs.declared.sound.Frame.{Frame}
-use Rattle.pcm_base.specs.Mix.{mix_of}
+use Rattle.pcm_base.specs.{declared.sound.Frame.Frame, Mix.mix_of, Recordings.frame_bytes}
 use Rattle.edit_ports.specs.Sounds.{sound_bytes}
 use Rattle.project_state.specs.Meaning.{meant, point_blocks}
-use Rattle.cell_view.specs.Stored.{stored_of}
-use Rattle.wav_pcm.specs.Wavs.{wav_head}
-use Rattle.pcm_base.specs.Recordings.{frame_bytes}
-use Rattle.wav_pcm.specs.Written.{MayBegin}
+use Rattle.cell_reader.specs.Stored.{stored_of}
+use Rattle.wav_pcm.specs.{Wavs.wav_head, Written.MayBegin}
 use Rattle.block_cache.specs.Readers.{Reads}
 use Rattle.block_cache.proofs.ReaderLaws.{reads_none}
-use Rattle.mix_view.specs.Tracks.{mix_length_of}
-use Rattle.mix_view.proofs.TrackLaws.{stored_whole}
+use Rattle.mix_reader.specs.Tracks.{mix_length_of}
+use Rattle.mix_reader.proofs.TrackLaws.{stored_whole}
 use Rattle.wav_pcm.proofs.GrowLaws.{begun_more, begun_front}
-use Rattle.sound_export.proofs.GrowLaws.{length_mix, whole_text, device_fits, no_damage, start_long}
-use Rattle.sound_export.proofs.GrowLaws.{start_counted, start_read, start_sound}
+use Rattle.sound_export.proofs.GrowLaws.{length_mix, whole_text, device_fits, no_damage, start_long, start_counted}
+use Rattle.sound_export.proofs.GrowLaws.{start_read, start_valid}
 use Rattle.sound_export.specs.Written.{IsLengthFault}
 use Rattle.sound_export.proofs.export.write_mix.Goals as goal
 
@@ -46,15 +44,13 @@ returns-in_err-append_mix-clause-failed g c = λ told mine.
 
 pub returns-in_err-append_mix-clause-long : goal.returns-in_err-append_mix-clause-long
 returns-in_err-append_mix-clause-long g c =
-    let p = err_from_is_err_and c.from_residual.result c.from_residual.ensures.1 in
-    rw (p.1, p.2)
+    rw (exit_err c.from_residual.result c.from_residual.ensures.1)
     (device_fits (mix_length_of c.args.point.now) _
     (omega (arith, c.mix_len-len.ensures.value, c.in_default.ensures.fits)) c.in_err-append_mix.ensures.device)
 
-pub returns-in_err-append_mix-clause-sound : goal.returns-in_err-append_mix-clause-sound
-returns-in_err-append_mix-clause-sound g c = λ mine whole.
-    let p = err_from_is_err_and c.from_residual.result c.from_residual.ensures.1 in
-    rw (p.1, p.2)
+pub returns-in_err-append_mix-clause-valid : goal.returns-in_err-append_mix-clause-valid
+returns-in_err-append_mix-clause-valid g c = λ mine whole.
+    rw (exit_err c.from_residual.result c.from_residual.ensures.1)
     (no_damage (g.S.Store.reads c.args.reader.now.store) (point_blocks c.args.point.now) _ whole
     (c.in_err-append_mix.ensures.reads.damaged mine))
 
@@ -101,12 +97,11 @@ returns-in-Err-clause-reads g c =
     subst (λ (r : Result (Unit {0}) BlockFault).
     Reads (point_blocks c.args.point.now) c.args.reader.now c.args.reader.now r)
     (sym (start_read c.in-Err.why c.start_fault.result c.start_fault.ensures))
-    (reads_none _ _ tt (g.met.S.Store.may_fewer _))
+    (reads_none tt (g.met.S.Store.may_fewer _))
 
 pub returns-in_err-append_mix-clause-reads : goal.returns-in_err-append_mix-clause-reads
 returns-in_err-append_mix-clause-reads g c =
-    let p = err_from_is_err_and c.from_residual.result c.from_residual.ensures.1 in
-    rw (p.1, p.2) c.in_err-append_mix.ensures.reads
+    rw (exit_err c.from_residual.result c.from_residual.ensures.1) c.in_err-append_mix.ensures.reads
 
 pub returns-clause-reads : goal.returns-clause-reads
 returns-clause-reads g c = c.in_ok-append_mix.ensures.reads
@@ -117,5 +112,5 @@ returns-in-Err-clause-faults g c =
     (g.V.Vault.fault_count c.start_wav.new.vault) c.mix_len-len.result c.in-Err.why c.start_fault.result
     c.in-Err.ensures.refused c.in-Err.ensures.faults c.start_fault.ensures
 
-pub returns-in-Err-clause-sound : goal.returns-in-Err-clause-sound
-returns-in-Err-clause-sound g c = λ mine whole. start_sound c.in-Err.why c.start_fault.result c.start_fault.ensures
+pub returns-in-Err-clause-valid : goal.returns-in-Err-clause-valid
+returns-in-Err-clause-valid g c = λ mine whole. start_valid c.in-Err.why c.start_fault.result c.start_fault.ensures

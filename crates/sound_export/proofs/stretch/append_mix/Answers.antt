@@ -1,19 +1,16 @@
 -- One stretch more is appended.
 use Rattle.std.proofs.Common.{◌≡◌, ℕ, ◌++◌, Bool, List, length, take, drop, min, ◌-◌, Some, refl, sym, ap, subst, ◌∙◌}
 use Rattle.std.proofs.Common.{Ok, arith, append-nil}
-use Rattle.std.specs.Prelude.{IsTrue}
 use Rattle.std.proofs.lemmas.List.{take_all}
+use Rattle.std.specs.Prelude.{IsTrue}
 use Rattle.disk_model.specs.Disk.{Files}
-use Rattle.pcm_base.specs.declared.sound.Frame.{Frame}
-use Rattle.pcm_base.specs.Mix.{mix_of}
+use Rattle.pcm_base.specs.{declared.sound.Frame.Frame, Mix.mix_of, Recordings.frame_bytes}
 use Rattle.edit_ports.specs.Sounds.{sound_bytes, MayHaveGrown}
-use Rattle.project_state.specs.Meaning.{meant, point_blocks}
-use Rattle.cell_view.specs.Stored.{stored_of}
-use Rattle.project_state.specs.declared.track.Track.{Track}
+use Rattle.project_state.specs.{Meaning.meant, Meaning.point_blocks, declared.track.Track.Track}
+use Rattle.cell_reader.specs.Stored.{stored_of}
 use Rattle.block_cache.specs.Readers.{Reads}
 use Rattle.block_cache.proofs.ReaderLaws.{reads_none, reads_then, told_on}
-use Rattle.mix_view.specs.Tracks.{mix_length_of, stored_mix}
-use Rattle.pcm_base.specs.Recordings.{frame_bytes}
+use Rattle.mix_reader.specs.Tracks.{mix_length_of, stored_mix}
 use Rattle.wav_pcm.proofs.GrowLaws.{held_more, held_failed}
 use Rattle.sound_export.specs.Written.{read_part}
 use Rattle.sound_export.proofs.GrowLaws.{is_there, length_mix}
@@ -24,7 +21,7 @@ stretches-init g c = record {
   within = omega (arith, c.new-mix.ensures.place);
   reader = c.new-mix.ensures.reader;
   point = c.new-mix.ensures.point;
-  reads = reads_none _ _ tt (g.met.S.Store.may_fewer _);
+  reads = reads_none tt (g.met.S.Store.may_fewer _);
   tells = refl;
   others = λ told other differs. refl;
   faults = refl;
@@ -55,7 +52,7 @@ stretches-preserved g c =
       within = omega (arith, inv.within, left, c.in_default.ensures.place, c.requires.len);
       reader = c.append_stretch.ensures.reader;
       point = c.append_stretch.ensures.point ∙ inv.point;
-      reads = reads_then _ _ _ _ tt _ inv.reads
+      reads = reads_then {x = tt} inv.reads
           (subst (λ (us : List Track). Reads (point_blocks us) c.stretches.reader c.append_stretch.new.reader
           (Ok (tt {0}))) inv.point c.in_default.ensures.reads);
       tells = c.append_stretch.ensures.tells ∙ inv.tells;
@@ -67,7 +64,7 @@ stretches-preserved g c =
           → List Track → Type 0 = λ f us. g.V.Vault.holds c.append_stretch.new.vault name ≡ Some (sound_bytes
           (g.V.Vault.holds c.stretches.vault name) ++ frame_bytes (take n (drop at (stored_mix f us)))) in
           let got = subst (λ (f : Files). P f c.stretches.mix.point.now) inv.reads.kept.same_reads
-          (c.in_default.ensures.appended (subst T (sym inv.tells) told) (told_on _ _ _ _ inv.reads mine)
+          (c.in_default.ensures.appended (subst T (sym inv.tells) told) (told_on inv.reads mine)
           (is_there (g.V.Vault.holds c.stretches.vault name) _ (inv.held told mine))) in
           let Q : ℕ → Type 0 = λ k. g.V.Vault.holds c.append_stretch.new.vault name ≡ Some
           (sound_bytes (g.V.Vault.holds c.args.vault.now name) ++ frame_bytes (take k (stored_mix files ts))) in
@@ -89,7 +86,7 @@ returns-in-Err-clause-failed g c = λ told mine.
     → List Track → Type 0 = λ f us. (n : ℕ) × MayHaveGrown (frame_bytes (take n (drop at (stored_mix f us))))
     (g.V.Vault.holds c.stretches.vault name) (g.V.Vault.holds c.append_stretch.new.vault name) in
     let got = subst (λ (f : Files). P f c.stretches.mix.point.now) inv.reads.kept.same_reads
-    (c.in-Err.ensures.failed (subst T (sym inv.tells) told) (told_on _ _ _ _ inv.reads mine)
+    (c.in-Err.ensures.failed (subst T (sym inv.tells) told) (told_on inv.reads mine)
     (is_there (g.V.Vault.holds c.stretches.vault name) _ (inv.held told mine))) in
     let grown = subst (P files) inv.point got in
     held_failed (g.V.Vault.holds c.args.vault.now name) (g.V.Vault.holds c.stretches.vault name)
@@ -108,7 +105,7 @@ returns-clause-appended g c = λ told mine.
 pub returns-in-Err-clause-reads : goal.returns-in-Err-clause-reads
 returns-in-Err-clause-reads g c =
     let inv = c.stretches.invariant in
-    reads_then _ _ _ _ tt _ inv.reads
+    reads_then {x = tt} inv.reads
     (subst (λ (us : List Track). Reads (point_blocks us) c.stretches.reader c.append_stretch.new.reader
     (read_part c.in-Err.fault)) inv.point c.in-Err.ensures.reads)
 

@@ -1,13 +1,11 @@
 -- The frames so far are appended.
 use Rattle.std.proofs.Common.{◌≡◌, ◌≤◌, ◌-◌, ◌++◌, take, Ok, Some}
 use Rattle.std.specs.Prelude.{IsTrue}
-use Rattle.pcm_base.specs.Outside.{SameElsewhere}
+use Rattle.pcm_base.specs.{Outside.SameElsewhere, Recordings.frame_bytes}
 use Rattle.edit_ports.specs.Sounds.{sound_bytes}
 use Rattle.block_cache.specs.Readers.{Reads}
 use Rattle.project_state.specs.Meaning.{point_blocks}
-use Rattle.mix_view.specs.Readers.{IsReader}
-use Rattle.mix_view.specs.Tracks.{stored_mix}
-use Rattle.pcm_base.specs.Recordings.{frame_bytes}
+use Rattle.mix_reader.specs.{Readers.IsReader, Tracks.stored_mix}
 use Rattle.sound_export.proofs.stretch.append_mix.Given as goal
 
 abbrev pub invariant-stretches : goal.invariant-stretches

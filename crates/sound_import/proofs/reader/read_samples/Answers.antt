@@ -1,11 +1,8 @@
 -- One stretch of a channel more is read.
-use Rattle.std.proofs.Common.{◌≡◌, ◌+◌, ◌-◌, ◌/◌, ◌%◌, ℕ, ℤ, Bool, List, take, drop, length, arith, sym}
-use Rattle.std.proofs.Common.{◌∙◌, subst}
-use Rattle.std.specs.Prelude.{IsTrue, FitsSigned}
-use Rattle.std.specs.Int.{w16}
+use Rattle.std.proofs.Common.{◌≡◌, ◌+◌, ◌-◌, ◌/◌, ◌%◌, ℕ, ℤ, Bool, List, take, drop, length, arith, sym, ◌∙◌, subst}
 use Rattle.std.proofs.lemmas.List.{length-drop, length-take}
-use Rattle.std.proofs.lemmas.List.Elements.{All-append}
-use Rattle.std.proofs.lemmas.Slice.{take-put_mid}
+use Rattle.std.proofs.{lemmas.List.Elements.All-append, lemmas.Slice.take-put_mid}
+use Rattle.std.specs.{Prelude.IsTrue, Prelude.FitsSigned, Int.w16}
 use Rattle.pcm_base.specs.Outside.{Sounds}
 use Rattle.edit_ports.specs.Sounds.{sound_bytes}
 use Rattle.wav_pcm.specs.Heads.{FitSamples, IsChannelOf, IsCut}

@@ -1,7 +1,7 @@
 -- A reclaim in a turn of the seat.
 use Rattle.pcm_base.specs.declared.answer.Reply.TheVariants.{Freed}
 use Rattle.pin_turn.specs.Calls.{known}
-use Rattle.editor_state.specs.Took.{told_by}
+use Rattle.editor_state.specs.Took.{as_reply}
 use Rattle.studio_seats.specs.Desks.{start_at}
 use Rattle.studio_seats.proofs.RecordingLemmas.{frees_turn}
 use Rattle.studio_seats.proofs.freeing.free.Goals as goal
@@ -9,4 +9,4 @@ use Rattle.studio_seats.proofs.freeing.free.Goals as goal
 pub returns-clause-frees : goal.returns-clause-frees
 returns-clause-frees g c =
     frees_turn g.S.Store g.V.Vault (start_at c.args.desk.now) (known c.args.seat.now) (known c.reclaim.new.seat)
-    (told_by Freed c.reclaim.result.what) c.reclaim.result c.reclaim.ensures.says
+    (as_reply Freed c.reclaim.result.what) c.reclaim.result c.reclaim.ensures.says

@@ -2,8 +2,7 @@
 use Rattle.std.proofs.Common.{length, arith, ap}
 use Rattle.pin_turn.specs.declared.view.View.{View}
 use Rattle.pin_turn.proofs.Sums.{counted_length}
-use Rattle.turn_examples.specs.declared.counter.Counter.{Counter}
-use Rattle.turn_examples.specs.declared.counter.Increment.{Increment}
+use Rattle.turn_examples.specs.{declared.counter.Counter.Counter, declared.counter.Increment.Increment}
 use Rattle.turn_examples.proofs.threads.count_up.Goals as goal
 
 pub returns : goal.returns

@@ -1,11 +1,9 @@
 -- A seat that split one off may take it in again, has none away then that was not away before, and has the raises of
 -- both.
 use Rattle.std.proofs.Common.{length, length-append, arith, ap, ◌∙◌}
-use Rattle.pin_turn.specs.Calls.{known}
+use Rattle.pin_turn.specs.{Calls.known, declared.view.View.View}
 use Rattle.pin_turn.proofs.Calls.{rejoins}
-use Rattle.pin_turn.specs.declared.view.View.{View}
-use Rattle.turn_examples.specs.declared.counter.Counter.{Counter}
-use Rattle.turn_examples.specs.declared.counter.Increment.{Increment}
+use Rattle.turn_examples.specs.{declared.counter.Counter.Counter, declared.counter.Increment.Increment}
 use Rattle.turn_examples.proofs.threads.raise_by_two.Goals as goal
 
 pub join-requires-clause-away : goal.join-requires-clause-away

@@ -1,10 +1,8 @@
--- One piece more is read, or it is not whole.
+-- One buffer more is read, or it is not whole.
 use Rattle.std.proofs.Common.{◌≡◌, ◌<◌, ◌+◌, ◌-◌, ℕ, Bool, List, take, drop, length, min, arith, ap, sym, ◌∙◌, subst}
-use Rattle.std.specs.Prelude.{IsTrue, ℤ, FitsSigned}
-use Rattle.std.specs.Int.{w16}
 use Rattle.std.proofs.lemmas.List.{length-drop, length-take}
-use Rattle.std.proofs.lemmas.List.Elements.{All-append}
-use Rattle.std.proofs.lemmas.Slice.{take-put_mid}
+use Rattle.std.proofs.{lemmas.List.Elements.All-append, lemmas.Slice.take-put_mid}
+use Rattle.std.specs.{Prelude.IsTrue, Prelude.ℤ, Prelude.FitsSigned, Int.w16}
 use Rattle.pcm_base.specs.Outside.{Sounds}
 use Rattle.edit_ports.specs.Sounds.{sound_bytes}
 use Rattle.wav_pcm.specs.Heads.{FitSamples, IsChannelOf, bytes_of, place_of}
@@ -13,18 +11,18 @@ use Rattle.wav_pcm.proofs.channels.read_channel.Goals as goal
 
 pub cut-requires-clause-some : goal.cut-requires-clause-some
 cut-requires-clause-some g c =
-    let le = bytes_le c.args.head.now c.pieces.done c.min-count.result (length c.args.out.now)
-    (omega (arith, c.min-count.ensures, c.pieces.invariant.within)) in
+    let le = bytes_le c.args.of.head c.buffers.done c.min-count.result (length c.args.out.now)
+    (omega (arith, c.min-count.ensures, c.buffers.invariant.within)) in
     omega (arith, le, c.if-have-bytes_in.true, c.bytes_in.ensures.value)
 
 pub returns-then-have-bytes_in-clause-refused : goal.returns-then-have-bytes_in-clause-refused
 returns-then-have-bytes_in-clause-refused g c = λ told.
-    let inv = c.pieces.invariant in
+    let inv = c.buffers.invariant in
     let name = c.args.name.now in
-    let head = c.args.head.now in
-    let done = c.pieces.done in
+    let head = c.args.of.head in
+    let done = c.buffers.done in
     let count = c.min-count.result in
-    let out : List ℤ = c.pieces.out in
+    let out : List ℤ = c.buffers.out in
     let bytes : List ℕ = sound_bytes (g.V.Vault.holds c.args.vault.now name) in
     let T : Bool → Type 0 = λ b. IsTrue b in
     let part : List ℤ = take (done + count - done) (drop done out) in
@@ -33,27 +31,27 @@ returns-then-have-bytes_in-clause-refused g c = λ told.
       length-take (done + count - done) (drop done out),
       length-drop done out,
       c.min-count.ensures,
-      c.pieces.auto.out,
+      c.buffers.auto.out,
       inv.within,
     ) in
-    let front : length (take done out) ≡ done = omega (arith, length-take done out, c.pieces.auto.out, inv.within) in
+    let front : length (take done out) ≡ done = omega (arith, length-take done out, c.buffers.auto.out, inv.within) in
     let C : Sounds → Type 0 = λ s. c.in-Ok.have ≡ min (bytes_of head (length part))
     (length (sound_bytes (s name)) - place_of head (c.args.from + done)) in
     let few = subst C inv.same (c.in-Ok.ensures.count (subst T (sym inv.tells) told)) in
     let same = ap (λ (n : ℕ). min (bytes_of head n) (length bytes - place_of head (c.args.from + done))) size in
     let less : c.in-Ok.have < bytes_of head count = omega (arith, c.if-have-bytes_in.true, c.bytes_in.ensures.value) in
-    cut_found head c.args.from done count (length c.args.out.now) c.in-Ok.have bytes (take done out) c.args.c
+    cut_found head c.args.from done count (length c.args.out.now) c.in-Ok.have bytes (take done out) c.args.of.c
     c.cut.result
     (omega (arith, c.min-count.ensures, inv.within)) front (inv.read told) (few ∙ same) less c.cut.ensures.value
 
-pub pieces-preserved : goal.pieces-preserved
-pieces-preserved g c =
-    let inv = c.pieces.invariant in
+pub buffers-preserved : goal.buffers-preserved
+buffers-preserved g c =
+    let inv = c.buffers.invariant in
     let name = c.args.name.now in
-    let head = c.args.head.now in
-    let done = c.pieces.done in
+    let head = c.args.of.head in
+    let done = c.buffers.done in
     let count = c.min-count.result in
-    let out : List ℤ = c.pieces.out in
+    let out : List ℤ = c.buffers.out in
     let bytes : List ℕ = sound_bytes (g.V.Vault.holds c.args.vault.now name) in
     let T : Bool → Type 0 = λ b. IsTrue b in
     let part : List ℤ = take (done + count - done) (drop done out) in
@@ -62,26 +60,26 @@ pieces-preserved g c =
       length-take (done + count - done) (drop done out),
       length-drop done out,
       c.min-count.ensures,
-      c.pieces.auto.out,
+      c.buffers.auto.out,
       inv.within,
     ) in
-    let new : length c.read_piece.new.out ≡ count = omega (arith, size, c.read_piece.auto.out) in
-    let front : length (take done out) ≡ done = omega (arith, length-take done out, c.pieces.auto.out, inv.within) in
-    let put = take-put_mid done (done + count - done) out c.read_piece.new.out (done + count) (omega (arith, new))
-    (omega (arith, c.pieces.auto.out, inv.within)) in
+    let new : length c.read_buffer.new.out ≡ count = omega (arith, size, c.read_buffer.auto.out) in
+    let front : length (take done out) ≡ done = omega (arith, length-take done out, c.buffers.auto.out, inv.within) in
+    let put = take-put_mid done (done + count - done) out c.read_buffer.new.out (done + count) (omega (arith, new))
+    (omega (arith, c.buffers.auto.out, inv.within)) in
     let R : Sounds → Type 0 = λ s. c.in-Ok.have ≡ bytes_of head (length part)
-    → IsChannelOf head (c.args.from + done) (sound_bytes (s name)) c.args.c c.read_piece.new.out in
+    → IsChannelOf head (c.args.from + done) (sound_bytes (s name)) c.args.of.c c.read_buffer.new.out in
     let all = ap (bytes_of head) size in
     let whole : c.in-Ok.have ≡ bytes_of head (length part) =
     omega (arith, c.if-have-bytes_in.false, c.bytes_in.ensures.value, c.in-Ok.ensures.within, all) in
     record {
       within = omega (arith, c.min-count.ensures, inv.within);
-      read = λ told. subst (λ (xs : List ℤ). IsChannelOf head c.args.from bytes c.args.c xs) (sym put)
-          (channel_joined head c.args.from c.args.c done count bytes (take done out) c.read_piece.new.out
+      read = λ told. subst (λ (xs : List ℤ). IsChannelOf head c.args.from bytes c.args.of.c xs) (sym put)
+          (channel_joined head c.args.from c.args.of.c done count bytes (take done out) c.read_buffer.new.out
           c.requires.channel front new (inv.read told)
           (subst R inv.same (c.in-Ok.ensures.read (subst T (sym inv.tells) told)) whole));
       fit = subst FitSamples (sym put)
-          (All-append (λ s. FitsSigned w16 s) (take done out) c.read_piece.new.out inv.fit (c.in-Ok.ensures.fit whole));
+          (All-append (λ s. FitsSigned w16 s) (take done out) c.read_buffer.new.out inv.fit (c.in-Ok.ensures.fit whole));
       same = c.in-Ok.ensures.same ∙ inv.same;
       tells = c.in-Ok.ensures.tells ∙ inv.tells;
       faults = c.in-Ok.ensures.faults ∙ inv.faults;

@@ -6,8 +6,7 @@ use Rattle.wav_pcm.proofs.channels.take_samples.Goals as goal
 
 pub returns-in-1-clause-fit : goal.returns-in-1-clause-fit
 returns-in-1-clause-fit c =
-    subst (λ (xs : List ℤ). FitSamples xs) (sym c.take_mono.ensures)
-    (channel_fits 1 c.args.body.now 0 c.type_inv.body)
+    subst (λ (xs : List ℤ). FitSamples xs) (sym c.take_mono.ensures) (channel_fits 1 c.args.body.now 0 c.type_inv.body)
 
 pub returns-in-2-clause-fit : goal.returns-in-2-clause-fit
 returns-in-2-clause-fit c =

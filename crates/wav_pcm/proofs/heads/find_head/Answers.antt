@@ -1,12 +1,10 @@
 -- Each chunk is passed over, is the `data` chunk, or refuses the file.
 use Rattle.std.proofs.Common.{◌≡◌, ◌-◌, ℕ, Bool, List, Ok, take, drop, length, arith, sym, ◌∙◌, subst}
-use Rattle.std.specs.Prelude.{IsTrue}
 use Rattle.std.proofs.lemmas.List.{length-drop}
-use Rattle.pcm_base.specs.Outside.{Sounds}
-use Rattle.pcm_base.specs.Wave.{seen_after}
+use Rattle.std.specs.Prelude.{IsTrue}
+use Rattle.pcm_base.specs.{Outside.Sounds, Wave.seen_after}
 use Rattle.edit_ports.specs.Sounds.{sound_bytes}
-use Rattle.wav_pcm.specs.Parts.{IsChunk, IsFault}
-use Rattle.wav_pcm.specs.Wavs.{seen_in}
+use Rattle.wav_pcm.specs.{Parts.IsChunk, Parts.IsFault, Wavs.seen_in}
 use Rattle.wav_pcm.proofs.WalkLaws.{data_finds, data_refuses, walks_on, chunk_refuses, end_refuses}
 use Rattle.wav_pcm.proofs.ReasonLaws.{end_of_some, named}
 use Rattle.wav_pcm.proofs.heads.find_head.Goals as goal
@@ -38,8 +36,7 @@ returns-in-Err-head_at-clause-says g c = λ told.
     let K : Sounds → Type 0 = λ s. IsChunk c.in-Ok.chunk (drop (c.args.size - left) (sound_bytes (s name))) in
     let rest = length-drop (c.args.size - (left - 8)) bytes in
     data_refuses (seen_in c.chunks.seen) c.in-Ok.chunk bytes c.args.size left _ c.from.result c.in-Err-head_at.fault
-    long
-    (omega (arith, inv.within)) c.chunks-test.true (inv.says told)
+    long (omega (arith, inv.within)) c.chunks-test.true (inv.says told)
     (subst K inv.same (c.in-Ok.ensures.says (subst T (sym inv.tells) told))) c.if-chunk.true c.from.ensures
     (c.in-Err-head_at.ensures.says (drop (c.args.size - (left - 8)) bytes)
     (omega (arith, rest, long, inv.within, c.chunks-test.true)))

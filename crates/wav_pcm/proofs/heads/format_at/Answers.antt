@@ -1,13 +1,10 @@
 -- No more than 40 bytes of a body say its format.
 use Rattle.std.proofs.Common.{◌≡◌, ℕ, List, take, drop, length, min, arith, ap, sym, ◌∙◌, ◌+◌, Result, Err, subst}
 use Rattle.std.proofs.lemmas.List.{length-drop, length-take}
-use Rattle.pcm_base.specs.Wave.{Format, format_of}
-use Rattle.pcm_base.specs.declared.wav.WavFault.{WavFault}
-use Rattle.wav_pcm.specs.declared.fault.SoundFault.{SoundFault}
-use Rattle.wav_pcm.specs.declared.fault.SoundFault.TheVariants.{BadWav}
-use Rattle.wav_pcm.specs.Parts.{IsFault}
-use Rattle.wav_pcm.proofs.HeadLaws.{format_part}
-use Rattle.wav_pcm.proofs.ReasonLaws.{format_refuses, named}
+use Rattle.pcm_base.specs.{Wave.Format, Wave.format_of, declared.wav.WavFault.WavFault}
+use Rattle.wav_pcm.specs.{declared.fault.SoundFault.SoundFault, declared.fault.SoundFault.TheVariants.BadWav}
+use Rattle.wav_pcm.specs.{Parts.IsFault}
+use Rattle.wav_pcm.proofs.{HeadLaws.format_part, ReasonLaws.format_refuses, ReasonLaws.named}
 use Rattle.wav_pcm.proofs.heads.format_at.Goals as goal
 
 -- what was read says what the body says
@@ -24,19 +21,21 @@ fault_found why fault told is says = subst (λ (w : SoundFault). IsFault w told)
 
 pub returns-in-Ok-clause-says : goal.returns-in-Ok-clause-says
 returns-in-Ok-clause-says g c = λ told.
-    let size : c.min-count.result ≡ min (min c.args.left c.args.size) 40 =
+    let tail = c.args.tail in
+    let size : c.min-count.result ≡ min (min tail.left c.args.size) 40 =
     omega (arith, c.from.ensures, c.min.ensures, c.min-count.ensures) in
     let room = length-take c.min-count.result c.args.buf.now in
-    sym (read_says c.args.at c.args.left c.args.size _ c.min-count.result c.read_part.new.buf _ (c.requires.left told)
+    sym (read_says tail.at tail.left c.args.size _ c.min-count.result c.read_part.new.buf _ (c.requires.left told)
     size (omega (arith, room, size, c.requires.room)) (c.in_default.ensures.read told)) ∙ c.in-Ok.ensures
 
 pub returns-in-Err-read_format-clause-says : goal.returns-in-Err-read_format-clause-says
 returns-in-Err-read_format-clause-says g c = λ told.
-    let size : c.min-count.result ≡ min (min c.args.left c.args.size) 40 =
+    let tail = c.args.tail in
+    let size : c.min-count.result ≡ min (min tail.left c.args.size) 40 =
     omega (arith, c.from.ensures, c.min.ensures, c.min-count.ensures) in
     let room = length-take c.min-count.result c.args.buf.now in
     fault_found _ _ _ c.from-in-Err-read_format.ensures
-    (sym (read_says c.args.at c.args.left c.args.size _ c.min-count.result c.read_part.new.buf _ (c.requires.left told)
+    (sym (read_says tail.at tail.left c.args.size _ c.min-count.result c.read_part.new.buf _ (c.requires.left told)
     size (omega (arith, room, size, c.requires.room)) (c.in_default.ensures.read told)) ∙ c.in-Err-read_format.ensures)
 
 pub returns-in-Err-read_format-clause-reason : goal.returns-in-Err-read_format-clause-reason

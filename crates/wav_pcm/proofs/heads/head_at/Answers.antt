@@ -1,13 +1,10 @@
 -- The whole frames of a `data` chunk are its sound.
 use Rattle.std.proofs.Common.{◌≡◌, ◌≢◌, ◌≤◌, ◌<◌, ◌*◌, ◌/◌, inl, inr, ℕ, List, take, length, Option, Some, Ok, Err}
-use Rattle.std.proofs.Common.{refl, arith}
-use Rattle.std.proofs.Common.{ap}
+use Rattle.std.proofs.Common.{refl, arith, ap}
 use Rattle.std.proofs.lemmas.Bool.{ne_eqb, lt-ltb}
-use Rattle.pcm_base.specs.declared.wav.WavFault.TheVariants.{Truncated}
-use Rattle.pcm_base.specs.declared.wav.WavFault.{WavFault}
 use Rattle.pcm_base.specs.Wave.{Format, sound_of, data_of}
-use Rattle.wav_pcm.specs.Wavs.{seen_in}
-use Rattle.wav_pcm.specs.Heads.{IsSized}
+use Rattle.pcm_base.specs.{declared.wav.WavFault.TheVariants.Truncated, declared.wav.WavFault.WavFault}
+use Rattle.wav_pcm.specs.{Wavs.seen_in, Heads.IsSized}
 use Rattle.wav_pcm.proofs.HeadLaws.{data_found_all, data_found_sized, frames_inside}
 use Rattle.wav_pcm.proofs.ReasonLaws.{no_format}
 use Rattle.wav_pcm.proofs.heads.head_at.Goals as goal
@@ -30,11 +27,13 @@ cut_says f size left seen rest why is long sized lt told =
     rw (is, told, ne_eqb size 4294967295 sized, lt-ltb (length rest) size (omega (arith, lt, long)), long) refl
 
 pub returns-in-Ok-clause-says : goal.returns-in-Ok-clause-says
-returns-in-Ok-clause-says c = λ rest long. head_says _ c.from.result c.args.at c.in-Ok.count c.args.size c.args.left
-    (seen_in c.args.seen) rest c.from.ensures (ap seen_in c.in-Some.is) long c.in-Ok.ensures.sized
+returns-in-Ok-clause-says c = λ rest long.
+    head_says _ c.from.result c.args.tail.at c.in-Ok.count c.args.size c.args.tail.left (seen_in c.args.seen) rest
+    c.from.ensures (ap seen_in c.in-Some.is) long c.in-Ok.ensures.sized
 
 pub returns-in-Err-clause-says : goal.returns-in-Err-clause-says
-returns-in-Err-clause-says c = λ rest long. cut_says _ c.args.size c.args.left (seen_in c.args.seen) rest c.in-Err.fault
+returns-in-Err-clause-says c = λ rest long.
+    cut_says _ c.args.size c.args.tail.left (seen_in c.args.seen) rest c.in-Err.fault
     (ap seen_in c.in-Some.is) long c.in-Err.ensures.refused.0 c.in-Err.ensures.refused.1 c.in-Err.ensures.refused.2
 
 pub returns-in_default-clause-reason : goal.returns-in_default-clause-reason

@@ -1,11 +1,9 @@
 -- A chunk is known by its first 8 bytes.
 use Rattle.std.proofs.Common.{◌≡◌, ℕ, List, take, length, arith, ap, ◌∙◌}
-use Rattle.std.specs.Prelude.{codes}
-use Rattle.std.specs.Str.{bytes_eq}
 use Rattle.std.proofs.lemmas.List.{take-take}
+use Rattle.std.specs.{Prelude.codes, Str.bytes_eq}
 use Rattle.pcm_base.specs.Wave.{u32_at}
-use Rattle.wav_pcm.specs.Parts.{IsChunk}
-use Rattle.wav_pcm.specs.declared.parts.Chunk.{Chunk}
+use Rattle.wav_pcm.specs.{Parts.IsChunk, declared.parts.Chunk.Chunk}
 use Rattle.wav_pcm.proofs.HeadLaws.{number_in_front}
 use Rattle.wav_pcm.proofs.parts.chunk_at.Goals as goal
 
@@ -23,7 +21,5 @@ chunk_says chunk n buf xs eight read is_data is_format size =
 
 pub returns-in-Ok-clause-says : goal.returns-in-Ok-clause-says
 returns-in-Ok-clause-says g c = λ told. chunk_says _ (length c.args.buf.now) c.read_part.new.buf _ c.requires.room
-    (c.in-Ok.ensures.read told)
-    (c.eq.ensures ∙ ap (bytes_eq (take 4 c.read_part.new.buf)) c.as_slice.ensures)
-    (c.eq-in-Ok.ensures ∙ ap (bytes_eq (take 4 c.read_part.new.buf)) c.as_slice-in-Ok.ensures)
-    c.u32_at.ensures
+    (c.in-Ok.ensures.read told) (c.eq.ensures ∙ ap (bytes_eq (take 4 c.read_part.new.buf)) c.as_slice.ensures)
+    (c.eq-in-Ok.ensures ∙ ap (bytes_eq (take 4 c.read_part.new.buf)) c.as_slice-in-Ok.ensures) c.u32_at.ensures

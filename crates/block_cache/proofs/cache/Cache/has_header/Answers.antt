@@ -1,8 +1,7 @@
 -- A key that is found is there, and none goes.
 use Rattle.std.proofs.Common.{subst, sym, ◌∙◌, ap, refl, Contains}
 use Rattle.block_cache.specs.Caches.{Entries, SameCache, entries_of}
-use Rattle.block_cache.proofs.KeyLaws.{found_key, promoted_same}
-use Rattle.block_cache.proofs.ListLaws.{keys_same}
+use Rattle.block_cache.proofs.{KeyLaws.found_key, KeyLaws.promoted_same, ListLaws.keys_same}
 use Rattle.block_cache.proofs.cache.Cache.has_header.Goals as goal
 
 pub returns-clause-there : goal.returns-clause-there

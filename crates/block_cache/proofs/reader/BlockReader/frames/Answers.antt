@@ -4,8 +4,7 @@ use Rattle.peak_summary.specs.Peaks.{frame_count}
 use Rattle.block_store.specs.Reads.{frame_len, level_place}
 use Rattle.block_store.proofs.FrameLaws.{frames_within}
 use Rattle.block_cache.specs.Pages.{page_end}
-use Rattle.block_cache.proofs.CacheLaws.{cached_on}
-use Rattle.block_cache.proofs.ReaderLaws.{fault_in}
+use Rattle.block_cache.proofs.{CacheLaws.cached_on, ReaderLaws.fault_in}
 use Rattle.block_cache.proofs.reader.BlockReader.frames.Goals as goal
 
 pub read_frames_cached-requires-clause-cached : goal.read_frames_cached-requires-clause-cached

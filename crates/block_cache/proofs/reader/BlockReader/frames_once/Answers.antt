@@ -2,8 +2,7 @@
 use Rattle.std.proofs.Common.{◌+◌, ◌*◌, arith, length}
 use Rattle.block_store.specs.Reads.{level_place}
 use Rattle.block_store.proofs.FrameLaws.{frames_within}
-use Rattle.block_cache.proofs.CacheLaws.{cached_on}
-use Rattle.block_cache.proofs.ReaderLaws.{fault_in}
+use Rattle.block_cache.proofs.{CacheLaws.cached_on, ReaderLaws.fault_in}
 use Rattle.block_cache.proofs.reader.BlockReader.frames_once.Goals as goal
 
 pub read_frames_once-requires-clause-cached : goal.read_frames_once-requires-clause-cached

@@ -1,8 +1,7 @@
 -- The cache stays right of the store, and a fault of the file is one of the block.
 use Rattle.std.proofs.Common.{◌+◌, ◌-◌, ◌*◌, arith, length}
 use Rattle.block_cache.specs.Pages.{page_end}
-use Rattle.block_cache.proofs.CacheLaws.{cached_on}
-use Rattle.block_cache.proofs.ReaderLaws.{fault_in}
+use Rattle.block_cache.proofs.{CacheLaws.cached_on, ReaderLaws.fault_in}
 use Rattle.block_cache.proofs.reader.BlockReader.samples.Goals as goal
 
 pub read_samples_cached-requires-clause-cached : goal.read_samples_cached-requires-clause-cached
@@ -24,6 +23,5 @@ returns-clause-reads g c = record {
       let b = c.args.block in
       fault_in (g.S.Store.reads c.args.self.now.store) b
       (16 + 2 * page_end 4096 b.len (c.args.from + length c.args.out.now - 1)) c.read_samples_cached.result
-      (omega arith)
-      (c.read_samples_cached.ensures.damaged told);
+      (omega arith) (c.read_samples_cached.ensures.damaged told);
 }

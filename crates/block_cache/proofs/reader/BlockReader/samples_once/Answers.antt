@@ -1,7 +1,6 @@
 -- The cache stays right of the store, and a fault of the file is one of the block.
 use Rattle.std.proofs.Common.{◌+◌, ◌*◌, arith, length}
-use Rattle.block_cache.proofs.CacheLaws.{cached_on}
-use Rattle.block_cache.proofs.ReaderLaws.{fault_in}
+use Rattle.block_cache.proofs.{CacheLaws.cached_on, ReaderLaws.fault_in}
 use Rattle.block_cache.proofs.reader.BlockReader.samples_once.Goals as goal
 
 pub read_samples_once-requires-clause-cached : goal.read_samples_once-requires-clause-cached

@@ -1,12 +1,10 @@
 -- The entry goes to its place, and the leaves from there on are written.
 use Rattle.std.proofs.Common.{◌≡◌, ◌<◌, Some, None, List, length, map, get_or, is_ok, sym, ◌∙◌, ap, subst, arith}
+use Rattle.std.proofs.{lemmas.Bool.cond-true, lemmas.List.Edits.length-insert}
 use Rattle.std.specs.List.{insert}
-use Rattle.std.proofs.lemmas.Bool.{cond-true}
-use Rattle.std.proofs.lemmas.List.Edits.{length-insert}
 use Rattle.block_ledger.specs.declared.entry.Entry.{Entry}
-use Rattle.block_ledger.specs.Entries.{Kept, free_of, IsRising, IsLeaves, IsGap}
-use Rattle.block_ledger.proofs.Rising.{rising_insert}
-use Rattle.block_ledger.proofs.Leaves.{leaves_before}
+use Rattle.block_ledger.specs.Entries.{LedgerState, free_of, IsRising, IsLeaves, IsGap}
+use Rattle.block_ledger.proofs.{Rising.rising_insert, Leaves.leaves_before}
 use Rattle.block_ledger.proofs.ledger.Ledger.add.Goals as goal
 
 pub refresh-requires-clause-before : goal.refresh-requires-clause-before
@@ -15,9 +13,9 @@ refresh-requires-clause-before c = λ k lt.
     let entries = c.self.inside.entries.items in
     let new : Entry = record { id = c.args.id; count = Some 1 } in
     let gap : IsGap entries c.args.id c.args.i =
-    subst (λ (k : Kept). IsGap k.entries c.args.id c.args.i) (sym c.self.view_is) c.requires.gap in
+    subst (λ (k : LedgerState). IsGap k.entries c.args.id c.args.i) (sym c.self.view_is) c.requires.gap in
     let spare : length entries < length c.self.inside.free =
-    omega (arith, subst (λ (k : Kept). 0 < k.spare) (sym c.self.view_is) c.requires.room) in
+    omega (arith, subst (λ (k : LedgerState). 0 < k.spare) (sym c.self.view_is) c.requires.room) in
     let items : c.insert.new.self.items ≡ insert entries c.args.i new =
     c.insert.ensures.items ∙ cond-true (is_ok c.insert.result) _ _
     (c.insert.ensures.succeeds (omega (arith, all.room, spare, c.self.inside.entries.ok.0))) in
@@ -30,9 +28,9 @@ invariant_of-self c =
     let entries = c.self.inside.entries.items in
     let new : Entry = record { id = c.args.id; count = Some 1 } in
     let gap : IsGap entries c.args.id c.args.i =
-    subst (λ (k : Kept). IsGap k.entries c.args.id c.args.i) (sym c.self.view_is) c.requires.gap in
+    subst (λ (k : LedgerState). IsGap k.entries c.args.id c.args.i) (sym c.self.view_is) c.requires.gap in
     let spare : length entries < length c.self.inside.free =
-    omega (arith, subst (λ (k : Kept). 0 < k.spare) (sym c.self.view_is) c.requires.room) in
+    omega (arith, subst (λ (k : LedgerState). 0 < k.spare) (sym c.self.view_is) c.requires.room) in
     let items : c.insert.new.self.items ≡ insert entries c.args.i new =
     c.insert.ensures.items ∙ cond-true (is_ok c.insert.result) _ _
     (c.insert.ensures.succeeds (omega (arith, all.room, spare, c.self.inside.entries.ok.0))) in

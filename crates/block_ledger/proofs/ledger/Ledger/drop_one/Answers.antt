@@ -1,9 +1,7 @@
 -- At the place of the id, which is there.
 use Rattle.std.proofs.Common.{◌∙◌, Some, ap, subst, ℕ, Option}
-use Rattle.block_ledger.specs.Counts.{IsNamed, one_less}
-use Rattle.block_ledger.proofs.Lookups.{absent_gap, read_count, put_count}
-use Rattle.block_ledger.specs.Entries.{count_of}
-use Rattle.block_ledger.proofs.Times.{fresh_less}
+use Rattle.block_ledger.specs.{Counts.IsNamed, Counts.one_less, Entries.count_of}
+use Rattle.block_ledger.proofs.{Lookups.absent_gap, Lookups.read_count, Lookups.put_count, Times.fresh_less}
 use Rattle.block_ledger.proofs.ledger.Ledger.drop_one.Goals as goal
 
 pub returns-in-Ok-clause-counts : goal.returns-in-Ok-clause-counts

@@ -1,7 +1,6 @@
 -- At the place of the id, which is there.
-use Rattle.block_ledger.proofs.Lookups.{absent_gap, put_count, no_zero}
+use Rattle.block_ledger.proofs.{Lookups.absent_gap, Lookups.put_count, Lookups.no_zero, Times.fresh_gone}
 use Rattle.block_ledger.specs.Entries.{count_of}
-use Rattle.block_ledger.proofs.Times.{fresh_gone}
 use Rattle.block_ledger.proofs.ledger.Ledger.forget.Goals as goal
 
 pub returns-in-Ok-clause-counts : goal.returns-in-Ok-clause-counts

@@ -1,10 +1,9 @@
 -- At the place of the id, or in the place where it goes.
 use Rattle.std.proofs.Common.{◌∙◌, ⊎_elim, Some, IsSome, ap, subst, ℕ, Option}
-use mathlib.Core.Bool.{false≢true}
-use Rattle.block_ledger.specs.Counts.{one_more}
+use Rattle.block_ledger.specs.{Counts.one_more, Entries.count_of}
 use Rattle.block_ledger.proofs.Lookups.{absent_gap, read_count, put_count, add_count}
-use Rattle.block_ledger.specs.Entries.{count_of}
 use Rattle.block_ledger.proofs.Times.{fresh_more}
+use mathlib.Core.Bool.{false≢true}
 use Rattle.block_ledger.proofs.ledger.Ledger.hold.Goals as goal
 
 pub add-requires-clause-room : goal.add-requires-clause-room

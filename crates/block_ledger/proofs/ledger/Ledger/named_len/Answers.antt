@@ -1,11 +1,10 @@
 -- Entry by entry.
 use Rattle.std.proofs.Common.{length, ◌∙◌, ap, subst, arith}
-use Rattle.std.specs.List.{filter}
 use Rattle.std.proofs.lemmas.List.{take_all, length-map}
+use Rattle.std.specs.List.{filter}
 use Rattle.block_ledger.specs.Counts.{IsNamed, AreNamed}
-use Rattle.block_ledger.specs.Entries.{Kept, count_of, id_of, is_named}
-use Rattle.block_ledger.proofs.Listed.{named_in, are_named, passed_most}
-use Rattle.block_ledger.proofs.Once.{one_length}
+use Rattle.block_ledger.specs.Entries.{LedgerState, count_of, id_of, is_named}
+use Rattle.block_ledger.proofs.{Listed.named_in, Listed.are_named, Listed.passed_most, Once.one_length}
 use Rattle.block_ledger.proofs.ledger.Ledger.named_len.Goals as goal
 
 pub overflow_add-named : goal.overflow_add-named
@@ -25,7 +24,7 @@ returns-clause-ids c =
     let all = c.loop-entry.invariant ∙ ap (λ es. length (filter is_named es))
     (take_all _ _ c.loop-entry-test.false ∙ c.deref-entry-items.ensures.value) in (
       named_in entries,
-      subst (λ (k : Kept). AreNamed (count_of k) (named_in entries)) c.self.view_is
+      subst (λ (k : LedgerState). AreNamed (count_of k) (named_in entries)) c.self.view_is
           (are_named entries c.self.invariant.rising),
       omega (arith, all, length-map (filter is_named entries) id_of),
     )

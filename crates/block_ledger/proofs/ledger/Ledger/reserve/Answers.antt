@@ -1,12 +1,11 @@
 -- The entries that have a count, under a new tree.
 use Rattle.std.proofs.Common.{◌≡◌, ℕ, Option, None, List, length, sym, ◌∙◌, ap, subst, arith}
-use Rattle.std.specs.List.{filter}
 use Rattle.std.proofs.lemmas.List.{length-replicate, length-map}
+use Rattle.std.specs.List.{filter}
 use Rattle.block_ledger.specs.declared.entry.Entry.{Entry}
-use Rattle.block_ledger.specs.Entries.{Kept, count_in, count_of, id_of, is_kept, IsRising, IsLeaves}
-use Rattle.block_ledger.proofs.Rising.{rising_filter}
-use Rattle.block_ledger.proofs.Lookups.{count_filter}
+use Rattle.block_ledger.specs.Entries.{LedgerState, count_in, count_of, id_of, is_kept, IsRising, IsLeaves}
 use Rattle.block_ledger.proofs.Listed.{there_in, are_there, filter_twice}
+use Rattle.block_ledger.proofs.{Rising.rising_filter, Lookups.count_filter}
 use Rattle.block_ledger.proofs.ledger.Ledger.reserve.Goals as goal
 
 pub places_for-requires : goal.places_for-requires
@@ -35,7 +34,7 @@ returns-clause-counts c = λ id.
     let kept : c.in_ok-entries.entries.items ≡ filter is_kept entries =
     c.in_ok-entries.ensures.items ∙ ap (filter is_kept) c.deref-2.ensures.value in
     ap (λ (l : List Entry). count_in l id) kept ∙ count_filter entries id c.self.invariant.rising
-    ∙ ap (λ (k : Kept). count_of k id) c.self.view_is
+    ∙ ap (λ (k : LedgerState). count_of k id) c.self.view_is
 
 pub returns-clause-places : goal.returns-clause-places
 returns-clause-places c = λ few.

@@ -2,10 +2,8 @@
 use Rattle.std.proofs.Common.{◌≡◌, ◌<◌, length, set, sym, ◌∙◌, ap, subst, arith}
 use Rattle.std.proofs.lemmas.List.{get_or_read, get_or-set_same, length-set}
 use Rattle.block_ledger.specs.declared.entry.Entry.{Entry}
-use Rattle.block_ledger.specs.Entries.{Kept, id_of, id_at, free_of, IsLeaves}
-use Rattle.block_ledger.proofs.Rising.{rising_set}
-use Rattle.block_ledger.proofs.Leaves.{leaves_set}
-use Rattle.block_ledger.proofs.Searches.{no_entry, id_at_is}
+use Rattle.block_ledger.specs.Entries.{LedgerState, id_of, id_at, free_of, IsLeaves}
+use Rattle.block_ledger.proofs.{Rising.rising_set, Leaves.leaves_set, Searches.no_entry, Searches.id_at_is}
 use Rattle.block_ledger.proofs.ledger.Ledger.set_count.Goals as goal
 
 pub invariant_of-self : goal.invariant_of-self
@@ -15,7 +13,7 @@ invariant_of-self c =
     let free = c.self.inside.free in
     let i = c.args.i in
     let new : Entry = record { id = c.index_mut.result.now.id; count = c.args.count } in
-    let within : i < length entries = subst (λ (k : Kept). i < length k.entries) (sym c.self.view_is) c.requires in
+    let within : i < length entries = subst (λ (k : LedgerState). i < length k.entries) (sym c.self.view_is) c.requires in
     let same : new.id ≡ id_at entries i =
     ap id_of (get_or_read entries i c.index_mut.result.now within c.index_mut.ensures.value no_entry)
     ∙ sym (id_at_is entries i) in

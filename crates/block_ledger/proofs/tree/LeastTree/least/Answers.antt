@@ -1,7 +1,7 @@
 -- The root has the least of the leaves' ids.
 use Rattle.std.proofs.Common.{◌≡◌, ℕ, ◌≤◌, Option, Some, None, List, sym, subst, arith}
-use Rattle.std.specs.Prelude.{IfSome, IsSomeAnd, Contains}
 use Rattle.std.proofs.lemmas.List.{get_or_read}
+use Rattle.std.specs.Prelude.{IfSome, IsSomeAnd, Contains}
 use Rattle.block_ledger.specs.Tree.{node}
 use Rattle.block_ledger.proofs.Trees.{root_holds, root_least}
 use Rattle.block_ledger.proofs.tree.LeastTree.least.Goals as goal

@@ -1,7 +1,7 @@
 -- Two nodes are seen at each level.
 use Rattle.std.proofs.Common.{◌≡◌, ℕ, ◌+◌, ◌-◌, ◌/◌, ◌<◌, Option, Some, None, List, drop, sym, ◌∙◌, ap, subst, arith}
-use Rattle.std.specs.Prelude.{IfSome, Contains}
 use Rattle.std.proofs.lemmas.List.{get_or_read}
+use Rattle.std.specs.Prelude.{IfSome, Contains}
 use Rattle.block_ledger.specs.Tree.{lesser, node}
 use Rattle.block_ledger.proofs.Covers.{Covers, covers_leaves, covers_above, seen_is_there, seen_is_least}
 use Rattle.block_ledger.proofs.tree.LeastTree.least_from.Goals as goal

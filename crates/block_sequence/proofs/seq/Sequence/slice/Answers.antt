@@ -1,8 +1,7 @@
 -- The goals of `slice` that the search leaves open.
 use Rattle.std.proofs.Common.{◌≡◌, ◌-◌, List, map, take, drop, ap, sym, ◌∙◌, arith}
 use Rattle.std.proofs.lemmas.List.{take_at}
-use Rattle.pcm_base.specs.declared.piece.Piece.{Piece}
-use Rattle.pcm_base.specs.Pieces.{all_samples, whole}
+use Rattle.pcm_base.specs.{declared.piece.Piece.Piece, Pieces.all_samples, Pieces.whole}
 use Rattle.pcm_base.proofs.Pieces.{length-all_samples}
 use Rattle.block_sequence.proofs.Whole.{total_whole, samples_whole, valid_whole}
 use Rattle.block_sequence.proofs.seq.Sequence.slice.Goals as goal

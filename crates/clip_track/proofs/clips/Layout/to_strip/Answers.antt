@@ -1,10 +1,8 @@
 -- The goals of `to_strip` that the search leaves open.
 use Rattle.std.proofs.Common.{ap, subst, ◌∙◌, arith}
-use Rattle.clip_track.specs.Items.{strip_len, strip_cells}
-use Rattle.clip_track.specs.Clips.{IsLayout, items_from}
+use Rattle.clip_track.specs.{Items.strip_len, Items.strip_cells, Clips.IsLayout, Clips.items_from}
 use Rattle.clip_track.proofs.Layouts.{AreItems-items, strip_len-items, strip_cells-items, ItemsFit-items}
-use Rattle.clip_track.proofs.RoughStrips.{rough_layout}
-use Rattle.clip_track.proofs.ShortStrips.{short_layout}
+use Rattle.clip_track.proofs.{RoughStrips.rough_layout, ShortStrips.short_layout}
 use Rattle.clip_track.proofs.clips.Layout.to_strip.Goals as goal
 
 pub from_items-requires-clause-ok : goal.from_items-requires-clause-ok

@@ -1,15 +1,13 @@
 -- A check changes nothing of the disk.
-use Rattle.std.proofs.Common.{Bool, subst}
-use Rattle.std.specs.Prelude.{IsTrue}
 use Rattle.block_cache.proofs.CacheLaws.{right_before}
+use Rattle.disk_model.proofs.Frames.{tells_back}
 use Rattle.editor_core.proofs.buffers.BlockBuffers.check.Goals as goal
 
 pub invariant_of-reader : goal.invariant_of-reader
 invariant_of-reader g c = record {
   right = λ still.
       let kept = c.check_block.ensures.kept in
-      let told : IsTrue (g.S.Store.tells c.args.reader.now.store) =
-      subst (λ (t : Bool). IsTrue t) kept.same_tells still in
+      let told = tells_back kept still in
       right_before c.args.reader.now.store c.check_block.new.store c.args.reader.now.cache kept
       (c.args.reader.now.right told);
 }

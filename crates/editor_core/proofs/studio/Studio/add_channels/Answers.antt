@@ -1,32 +1,28 @@
 -- A track for each channel is a step.
-use Rattle.std.proofs.Common.{◌≡◌, ◌∙◌, refl, sym, ap, subst, inr, ℕ, ◌+◌, ◌*◌, IfErr, Some, None, List}
-use Rattle.std.proofs.Common.{length, Err, Result, replicate, arith}
+use Rattle.std.proofs.Common.{◌≡◌, ◌∙◌, refl, sym, ap, subst, inr, ℕ, ◌+◌, ◌*◌, IfErr, Some, None, List, length, Err}
+use Rattle.std.proofs.Common.{Result, replicate, arith}
 use Rattle.std.proofs.lemmas.Result.{err_from_is_err_and}
-use Rattle.pcm_base.specs.declared.answer.Reply.TheVariants as reply
-use Rattle.pcm_base.specs.declared.command.Call.TheVariants.{Line}
-use Rattle.pcm_base.specs.declared.command.Command.TheVariants as command
-use Rattle.pcm_base.specs.declared.refusal.Refusal.{Refusal}
-use Rattle.pcm_base.specs.declared.refusal.Refusal.TheVariants as refusal
-use Rattle.piece_store.specs.Brought.{Brought, MayBring}
-use Rattle.piece_store.proofs.BringLaws.{any_brought}
+use Rattle.pcm_base.proofs.Exits.{after_err}
+use Rattle.pcm_base.specs.{declared.command.Call.TheVariants.Line, declared.refusal.Refusal.Refusal}
+use Rattle.block_writer.specs.Brought.{Brought, MayBring}
+use Rattle.block_writer.proofs.BringLaws.{any_brought}
 use Rattle.envelope_view.specs.Answers.{IsUndamaged}
 use Rattle.wav_pcm.specs.declared.heads.WavHead.{WavHead}
 use Rattle.sound_import.specs.Reading.{brought_from}
 use Rattle.edit_ops.specs.declared.types.NewBlock.{NewBlock}
-use Rattle.record_body.specs.Kept.{current_tracks}
-use Rattle.editor_state.specs.Applied.{Lasts}
+use Rattle.record_body.specs.Saved.{current_tracks}
+use Rattle.editor_state.specs.Took.{Took, as_reply, with_sound}
+use Rattle.editor_state.specs.{Applied.Lasts, Vaults.IsInsideOr, Vaults.left_as, Made.AllInOrder}
 use Rattle.editor_core.specs.Core.{core_of}
-use Rattle.editor_state.specs.Vaults.{IsInsideOr, left_as}
 use Rattle.editor_imports.specs.Imports.{channels_refusal, parts_from, total_of}
-use Rattle.editor_state.specs.Made.{AllInOrder}
-use Rattle.editor_state.specs.Took.{Took, told_by, with_sound}
 use Rattle.editor_state.proofs.Calls.VaultCalls.{lasts_idle}
 use Rattle.editor_state.proofs.Refusals.VaultRefusals.{inside_counted, inside_or}
 use Rattle.editor_imports.proofs.ChannelLaws.{channels_plain, channels_tell, parts_counts, total_alike}
-use Rattle.editor_imports.proofs.ChannelSteps.{channels_refused}
-use Rattle.editor_imports.proofs.HeadChannels.{sound_edit, sound_planned}
-use Rattle.editor_imports.proofs.ImportRefusals.{counted_so, import_wants}
-use Rattle.editor_imports.proofs.ChannelTests.{channels_pass}
+use Rattle.editor_imports.proofs.{ChannelSteps.channels_refused, HeadChannels.sound_edit, HeadChannels.sound_planned}
+use Rattle.editor_imports.proofs.{ImportRefusals.counted_so, ImportRefusals.import_wants, ChannelTests.channels_pass}
+use Rattle.pcm_base.specs.declared.answer.Reply.TheVariants as reply
+use Rattle.pcm_base.specs.declared.command.Command.TheVariants as command
+use Rattle.pcm_base.specs.declared.refusal.Refusal.TheVariants as refusal
 use Rattle.editor_core.proofs.studio.Studio.add_channels.Goals as goal
 
 -- ---- no memory for the counts
@@ -41,7 +37,7 @@ returns-in_err-counts-clause-took g c =
       any.0,
       any.1,
       λ sound has. inr (subst (λ x. Took g.S.Store s
-          (with_sound (Line (command.Import name)) (left_as sound) (told_by (λ (n : ℕ). reply.Done) x)) s)
+          (with_sound (Line (command.Import name)) (left_as sound) (as_reply (λ (n : ℕ). reply.Done) x)) s)
           (sym (r.1 ∙ ap Err r.2))
           (import_wants g.S.Store s c.requires.studio (g.met.S.Store.may_fewer s.store) name sound c.requires.going)),
     )
@@ -50,9 +46,9 @@ pub returns-in_err-counts-clause-lasts : goal.returns-in_err-counts-clause-lasts
 returns-in_err-counts-clause-lasts g c = λ sound.
     let s = core_of c.args.self.now in
     let name = c.args.name.now in
-    let r = err_from_is_err_and c.from_residual.result c.from_residual.ensures.1 in
-    subst (λ x. Lasts g.S.Store s (with_sound (Line (command.Import name)) sound (told_by (λ (n : ℕ). reply.Done) x)) s)
-    (sym (r.1 ∙ ap Err r.2))
+    after_err
+    (λ x. Lasts g.S.Store s (with_sound (Line (command.Import name)) sound (as_reply (λ (n : ℕ). reply.Done) x)) s) _
+    c.from_residual.result c.from_residual.ensures.1
     (lasts_idle g.S.Store s c.requires.studio (g.met.S.Store.may_fewer s.store)
     (Line (command.Import name)) tt sound refusal.NoMemory tt tt)
 
@@ -84,8 +80,8 @@ returns-in-Some-clause-lasts g c = λ sound.
     (channels_plain (length (current_tracks s.history)) c.as_slice.result.now c.in-Some.reason
     (sym c.channels_refusal.ensures ∙ c.in-Some.is)) tt
 
-pub returns-in-Some-clause-sound : goal.returns-in-Some-clause-sound
-returns-in-Some-clause-sound g c = λ held.
+pub returns-in-Some-clause-valid : goal.returns-in-Some-clause-valid
+returns-in-Some-clause-valid g c = λ held.
     let s = core_of c.args.self.now in
     (channels_tell (length (current_tracks s.history)) c.as_slice.result.now c.in-Some.reason
     (sym c.channels_refusal.ensures ∙ c.in-Some.is)).0
@@ -120,7 +116,7 @@ returns-in_err-planned-clause-took g c =
       any.0,
       any.1,
       λ sound has. inr (subst (λ x. Took g.S.Store s
-          (with_sound (Line (command.Import name)) (left_as sound) (told_by (λ (n : ℕ). reply.Done) x)) s)
+          (with_sound (Line (command.Import name)) (left_as sound) (as_reply (λ (n : ℕ). reply.Done) x)) s)
           (sym (r.1 ∙ ap Err (r.2 ∙ c.in_err-planned.ensures.err)))
           (import_wants g.S.Store s c.requires.studio (g.met.S.Store.may_fewer s.store) name sound c.requires.going)),
     )
@@ -130,13 +126,13 @@ returns-in_err-planned-clause-lasts g c = λ sound.
     let s = core_of c.args.self.now in
     let name = c.args.name.now in
     let r = err_from_is_err_and c.from_residual-in_err-planned.result c.from_residual-in_err-planned.ensures.1 in
-    subst (λ x. Lasts g.S.Store s (with_sound (Line (command.Import name)) sound (told_by (λ (n : ℕ). reply.Done) x)) s)
+    subst (λ x. Lasts g.S.Store s (with_sound (Line (command.Import name)) sound (as_reply (λ (n : ℕ). reply.Done) x)) s)
     (sym (r.1 ∙ ap Err (r.2 ∙ c.in_err-planned.ensures.err)))
     (lasts_idle g.S.Store s c.requires.studio (g.met.S.Store.may_fewer s.store)
     (Line (command.Import name)) tt sound refusal.NoMemory tt tt)
 
-pub returns-in_err-planned-clause-sound : goal.returns-in_err-planned-clause-sound
-returns-in_err-planned-clause-sound g c = λ held.
+pub returns-in_err-planned-clause-valid : goal.returns-in_err-planned-clause-valid
+returns-in_err-planned-clause-valid g c = λ held.
     let r = err_from_is_err_and c.from_residual-in_err-planned.result c.from_residual-in_err-planned.ensures.1 in
     subst (λ x. IfErr x IsUndamaged) (sym (r.1 ∙ ap Err (r.2 ∙ c.in_err-planned.ensures.err))) tt
 

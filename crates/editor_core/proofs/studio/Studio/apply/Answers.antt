@@ -1,11 +1,9 @@
 -- The answer is filled.
 use Rattle.std.proofs.Common.{refl, subst, Result, Ok, Err}
-use Rattle.pcm_base.specs.declared.answer.Reply.{Reply}
-use Rattle.pcm_base.specs.declared.command.Call.TheVariants.{Line}
-use Rattle.pcm_base.specs.declared.refusal.Refusal.{Refusal}
-use Rattle.editor_state.specs.Applied.{TookOver}
+use Rattle.pcm_base.specs.{declared.answer.Reply.Reply, declared.command.Call.TheVariants.Line}
+use Rattle.pcm_base.specs.{declared.refusal.Refusal.Refusal}
+use Rattle.editor_state.specs.{Applied.TookOver, Vaults.VaultCounted}
 use Rattle.editor_core.specs.Core.{core_of}
-use Rattle.editor_state.specs.Vaults.{VaultCounted}
 use Rattle.editor_state.proofs.Calls.VaultCalls.{spanned}
 use Rattle.editor_core.proofs.studio.Studio.apply.Goals as goal
 

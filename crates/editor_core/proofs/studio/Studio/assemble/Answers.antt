@@ -1,9 +1,8 @@
 -- What the parts make is a studio, which a disk with what they stand for holds.
 use Rattle.std.proofs.Common.{◌≡◌, sym, subst, []}
 use Rattle.block_cache.specs.Caches.{no_entries}
-use Rattle.editor_state.specs.Core.{Core}
+use Rattle.editor_state.specs.{Core.Core, Studios.IsHeld, Studios.IsStudio}
 use Rattle.editor_core.specs.Parts.{assembled}
-use Rattle.editor_state.specs.Studios.{IsHeld, IsStudio}
 use Rattle.editor_core.proofs.StudioParts.{assembles, holds}
 use Rattle.editor_core.proofs.studio.Studio.assemble.Goals as goal
 

@@ -1,33 +1,24 @@
 -- Blocks, and then a record.
-use Rattle.std.proofs.Common.{◌≡◌, ◌∙◌, inl, inr, refl, sym, ap, subst, ℕ, suc, ◌+◌, ◌≤◌, ◌<◌, IfErr, IsSome}
-use Rattle.std.proofs.Common.{List, length}
-use Rattle.std.proofs.Common.{zero, [], vec_capacity, Err, arith}
-use Rattle.std.proofs.lemmas.Result.{err_from_is_err_and}
-use Rattle.record_body.specs.Kept.{current_tracks}
+use Rattle.std.proofs.Common.{◌≡◌, ◌∙◌, inl, inr, refl, sym, ap, subst, ℕ, suc, ◌+◌, ◌≤◌, ◌<◌, IfErr, IsSome, List}
+use Rattle.std.proofs.Common.{length, zero, [], vec_capacity, arith}
+use Rattle.pcm_base.proofs.Exits.{after_err, exit_err}
+use Rattle.record_body.specs.{Saved.current_tracks, declared.body.Body.Body, Batches.with_point}
 use Rattle.block_cache.specs.Caches.{AllPass}
-use Rattle.editor_state.specs.Edits.{BlockCommit, Carried, IsPrepared, NotPrepared}
-use Rattle.editor_state.specs.Adding.{Adds}
 use Rattle.editor_state.specs.Bodies.{all_bytes, all_len, bodies_by, bytes_by, whole_len, writing}
-use Rattle.editor_state.specs.Core.{Core}
+use Rattle.editor_state.specs.{Edits.BlockCommit, Edits.Carried, Edits.IsPrepared, Edits.NotPrepared, Adding.Adds}
+use Rattle.editor_state.specs.{Core.Core, Vaults.IsInsideOr, Made.batch_of, Made.ids_from, Makes.AreSynced}
+use Rattle.editor_state.specs.{Makes.Making, Makes.RefusedBrought, Makes.Stuck, Studios.is_block, Studios.is_given}
 use Rattle.editor_core.specs.Core.{core_of}
-use Rattle.editor_state.specs.Vaults.{IsInsideOr}
-use Rattle.editor_state.specs.Made.{batch_of, ids_from}
-use Rattle.editor_state.specs.Makes.{AreSynced, Making, RefusedBrought, Stuck}
-use Rattle.editor_state.specs.Studios.{is_block, is_given}
 use Rattle.pcm_base.specs.declared.limits.TheConstants.{LONGEST_BODY}
 use Rattle.project_journal.specs.Journal.{AreWaiting, rows_length}
 use Rattle.project_journal.proofs.Together.{opened_length}
-use Rattle.record_body.specs.declared.body.Body.{Body}
 use Rattle.project_state.specs.declared.track.Track.{Track}
-use Rattle.record_body.specs.Batches.{with_point}
-use Rattle.piece_store.proofs.BringLaws.{any_brought}
+use Rattle.block_writer.proofs.BringLaws.{any_brought}
 use Rattle.editor_state.proofs.Refusals.VaultRefusals.{adds_counted, adds_inside, inside_counted, inside_or}
 use Rattle.editor_state.proofs.Refusals.VaultRefusals.{unprepared_asks}
-use Rattle.editor_commits.proofs.BodyBytes.{rows_count}
-use Rattle.editor_edits.proofs.CarryOrder.{carried_by}
-use Rattle.editor_commits.proofs.CurrentProject.{current_agrees}
-use Rattle.editor_edits.proofs.VaultCuts.{brought_inside}
 use Rattle.editor_state.proofs.Blocks.CachePages.{pages_of_blocks}
+use Rattle.editor_commits.proofs.{BodyBytes.rows_count, CurrentProject.current_agrees}
+use Rattle.editor_edits.proofs.{CarryOrder.carried_by, VaultCuts.brought_inside}
 use Rattle.editor_core.proofs.studio.Studio.carry.Goals as goal
 
 -- records that wait, and are short together, are short with the gate and the length of the first
@@ -61,8 +52,7 @@ commit_rows-requires-clause-short g c =
     let s = core_of c.args.self.now in
     let rows = c.in_ok-prepare.ensures.rows in
     let all = waiting_short s.version (current_tracks s.history) c.args.body.now c.args.more
-    c.prepare.new.self.row.items
-    rows c.in_ok-prepare.ensures.prepared.short in
+    c.prepare.new.self.row.items rows c.in_ok-prepare.ensures.prepared.short in
     omega (arith, ap (λ v. length v.items) c.in_ok-make_blocks.ensures.row, all)
 
 pub commit_rows-requires-clause-some : goal.commit_rows-requires-clause-some
@@ -109,26 +99,25 @@ returns-in_err-prepare-clause-carried g c =
     let bs = c.args.makes.now in
     let w = writing c.args.more c.args.body.now in
     let whole = whole_len s w in
-    let r = err_from_is_err_and c.from_residual.result c.from_residual.ensures.1 in
     let why = c.in_err-prepare.field-0.0 in
     let one : c.args.more + 1 ≡ suc c.args.more = omega arith in
     let any = any_brought (g.G.Brings.brings c.args.given.now) in
     let commit : BlockCommit = record {
       makes = bs;
       given = any.0;
-      tracks = c.args.tracks;
-      layouts = c.args.layouts;
+      tracks = c.args.draws.tracks;
+      layouts = c.args.draws.layouts;
       count = suc c.args.more;
       bodies = all_bytes s w;
       whole = whole;
     } in (
       any.0,
       any.1,
-      subst (λ x. Carried g.S.Store s commit x new) (sym (r.1 ∙ ap Err r.2))
+      after_err (λ x. Carried g.S.Store s commit x new) _ c.from_residual.result c.from_residual.ensures.1
           (inl (
             c.in_err-prepare.ensures.same,
-            subst (λ (n : ℕ). NotPrepared s (length bs) c.args.tracks c.args.layouts n whole (all_len s w) why) one
-                c.in_err-prepare.ensures.err,
+            subst (λ (n : ℕ). NotPrepared s (length bs) c.args.draws.tracks c.args.draws.layouts n whole (all_len s w)
+                why) one c.in_err-prepare.ensures.err,
           )),
     )
 
@@ -155,16 +144,16 @@ returns-clause-carried g c =
     let room : 1 + length c.make_blocks.new.self.row.items ≤ vec_capacity c.make_blocks.new.self.row =
     omega (arith, ap (λ (l : List ℕ). length l) items, ap vec_capacity row, c.in_ok-prepare.ensures.room) in
     let one : c.args.more + 1 ≡ suc c.args.more = omega arith in
-    let prepared = subst (λ (n : ℕ). IsPrepared s (length bs) c.args.tracks c.args.layouts n (all_len s w)) one
-    c.in_ok-prepare.ensures.prepared in
+    let prepared = subst (λ (n : ℕ). IsPrepared s (length bs) c.args.draws.tracks c.args.draws.layouts n (all_len s w))
+    one c.in_ok-prepare.ensures.prepared in
     let adds = λ (most : ℕ). subst (λ (n : ℕ). Adds g.S.Store mid bodies n most c.commit_rows.result new) one
     (c.commit_rows.ensures.records most bodies waiting
     (rows_count s.version (current_tracks s.history) c.args.body.now c.args.more)) in
     let commit : BlockCommit = record {
       makes = bs;
       given = by.0;
-      tracks = c.args.tracks;
-      layouts = c.args.layouts;
+      tracks = c.args.draws.tracks;
+      layouts = c.args.draws.layouts;
       count = suc c.args.more;
       bodies = bodies;
       whole = whole;
@@ -182,22 +171,20 @@ returns-in_err-prepare-clause-device g c =
     let s = core_of c.args.self.now in
     let b = g.G.Brings.brings c.args.given.now in
     let w = writing c.args.more c.args.body.now in
-    let r = err_from_is_err_and c.from_residual.result c.from_residual.ensures.1 in
     let why = c.in_err-prepare.field-0.0 in
-    subst (λ x. IfErr x (IsInsideOr b)) (sym (r.1 ∙ ap Err r.2))
-    (inside_or b why (unprepared_asks s (length c.args.makes.now) c.args.tracks c.args.layouts (c.args.more + 1)
-    (whole_len s w) (all_len s w) why c.in_err-prepare.ensures.err))
+    subst (λ x. IfErr x (IsInsideOr b)) (sym (exit_err c.from_residual.result c.from_residual.ensures.1))
+    (inside_or b why (unprepared_asks s (length c.args.makes.now) c.args.draws.tracks c.args.draws.layouts
+    (c.args.more + 1) (whole_len s w) (all_len s w) why c.in_err-prepare.ensures.err))
 
 pub returns-in_err-prepare-clause-given : goal.returns-in_err-prepare-clause-given
 returns-in_err-prepare-clause-given g c =
     let s = core_of c.args.self.now in
     let n = g.G.Brings.fault_count c.args.given.now in
     let w = writing c.args.more c.args.body.now in
-    let r = err_from_is_err_and c.from_residual.result c.from_residual.ensures.1 in
     let why = c.in_err-prepare.field-0.0 in
-    subst (λ x. RefusedBrought x n n) (sym (r.1 ∙ ap Err r.2))
-    (inside_counted why n (unprepared_asks s (length c.args.makes.now) c.args.tracks c.args.layouts (c.args.more + 1)
-    (whole_len s w) (all_len s w) why c.in_err-prepare.ensures.err))
+    subst (λ x. RefusedBrought x n n) (sym (exit_err c.from_residual.result c.from_residual.ensures.1))
+    (inside_counted why n (unprepared_asks s (length c.args.makes.now) c.args.draws.tracks c.args.draws.layouts
+    (c.args.more + 1) (whole_len s w) (all_len s w) why c.in_err-prepare.ensures.err))
 
 pub returns-in_err-prepare-clause-still : goal.returns-in_err-prepare-clause-still
 returns-in_err-prepare-clause-still g c = record { same = refl; goes = λ first follows. follows }
@@ -208,25 +195,24 @@ returns-in_err-make_blocks-clause-carried g c =
     let new = core_of c.make_blocks.new.self in
     let bs = c.args.makes.now in
     let w = writing c.args.more c.args.body.now in
-    let residual = c.from_residual-in_err-make_blocks in
-    let r = err_from_is_err_and residual.result residual.ensures.1 in
     let why = c.in_err-make_blocks.field-0.0 in
     let by = c.in_err-make_blocks.ensures.made in
     let one : c.args.more + 1 ≡ suc c.args.more = omega arith in
     let commit : BlockCommit = record {
       makes = bs;
       given = by.0;
-      tracks = c.args.tracks;
-      layouts = c.args.layouts;
+      tracks = c.args.draws.tracks;
+      layouts = c.args.draws.layouts;
       count = suc c.args.more;
       bodies = all_bytes s w;
       whole = whole_len s w;
     } in (
       by.0,
       by.1,
-      subst (λ x. Carried g.S.Store s commit x new) (sym (r.1 ∙ ap Err r.2))
+      after_err (λ x. Carried g.S.Store s commit x new) _ c.from_residual-in_err-make_blocks.result
+          c.from_residual-in_err-make_blocks.ensures.1
           (inr (inl (
-            subst (λ (n : ℕ). IsPrepared s (length bs) c.args.tracks c.args.layouts n (all_len s w)) one
+            subst (λ (n : ℕ). IsPrepared s (length bs) c.args.draws.tracks c.args.draws.layouts n (all_len s w)) one
                 c.in_ok-prepare.ensures.prepared,
             subst (λ (z : Core g.row.S.Denot). Stuck g.S.Store z (batch_of by.0 bs) why new)
                 c.in_ok-prepare.ensures.same by.2,
@@ -236,17 +222,15 @@ returns-in_err-make_blocks-clause-carried g c =
 pub returns-in_err-make_blocks-clause-device : goal.returns-in_err-make_blocks-clause-device
 returns-in_err-make_blocks-clause-device g c =
     let b = g.G.Brings.brings c.args.given.now in
-    let residual = c.from_residual-in_err-make_blocks in
-    let r = err_from_is_err_and residual.result residual.ensures.1 in
-    subst (λ x. IfErr x (IsInsideOr b)) (sym (r.1 ∙ ap Err r.2))
+    after_err (λ x. IfErr x (IsInsideOr b)) _ c.from_residual-in_err-make_blocks.result
+    c.from_residual-in_err-make_blocks.ensures.1
     (brought_inside b c.in_err-make_blocks.field-0.0 c.in_err-make_blocks.ensures.refused)
 
 pub returns-in_err-make_blocks-clause-given : goal.returns-in_err-make_blocks-clause-given
 returns-in_err-make_blocks-clause-given g c =
-    let residual = c.from_residual-in_err-make_blocks in
-    let r = err_from_is_err_and residual.result residual.ensures.1 in
-    subst (λ x. RefusedBrought x (g.G.Brings.fault_count c.args.given.now)
-    (g.G.Brings.fault_count c.make_blocks.new.given)) (sym (r.1 ∙ ap Err r.2)) c.in_err-make_blocks.ensures.given
+    after_err (λ x. RefusedBrought x (g.G.Brings.fault_count c.args.given.now)
+    (g.G.Brings.fault_count c.make_blocks.new.given)) _ c.from_residual-in_err-make_blocks.result
+    c.from_residual-in_err-make_blocks.ensures.1 c.in_err-make_blocks.ensures.given
 
 pub returns-in_err-make_blocks-clause-still : goal.returns-in_err-make_blocks-clause-still
 returns-in_err-make_blocks-clause-still g c = c.in_err-make_blocks.ensures.still

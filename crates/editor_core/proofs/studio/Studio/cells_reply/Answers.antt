@@ -1,13 +1,11 @@
 -- Each line that changes cells of one track is a step by the call that is its own.
 use Rattle.std.proofs.Common.{◌≡◌, sym, ap, ◌∙◌, subst, Result, arith, to_z, of_z, w16}
 use Rattle.std.proofs.lemmas.Int.{ints}
-use Rattle.pcm_base.specs.declared.answer.Reply.{Reply}
-use Rattle.pcm_base.specs.declared.command.Command.{Command}
-use Rattle.pcm_base.specs.declared.command.Command.TheVariants as command
-use Rattle.pcm_base.specs.declared.command.Call.TheVariants.{Line}
-use Rattle.pcm_base.specs.declared.refusal.Refusal.{Refusal}
+use Rattle.pcm_base.specs.{declared.answer.Reply.Reply, declared.command.Command.Command}
+use Rattle.pcm_base.specs.{declared.command.Call.TheVariants.Line, declared.refusal.Refusal.Refusal}
 use Rattle.editor_core.specs.Core.{core_of}
 use Rattle.editor_state.specs.Took.{Took, quietly}
+use Rattle.pcm_base.specs.declared.command.Command.TheVariants as command
 use Rattle.editor_core.proofs.studio.Studio.cells_reply.Goals as goal
 
 pub returns-in-Delete : goal.returns-in-Delete

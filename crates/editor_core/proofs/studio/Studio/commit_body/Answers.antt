@@ -1,35 +1,31 @@
 -- Nothing was asked of the disk, or the record was added whose body was written.
-use Rattle.std.proofs.Common.{◌≤◌, ◌∷◌, [], ◌∙◌, refl, sym, ap, subst, List, ℕ, Err}
-use Rattle.std.proofs.lemmas.Result.{err_from_is_err_and}
-use Rattle.pcm_base.specs.declared.refusal.Refusal.TheVariants as refusal
-use Rattle.editor_state.specs.Adding.{Adds, AddsBody}
+use Rattle.std.proofs.Common.{◌≤◌, ◌∷◌, [], refl, sym, subst, List, ℕ}
+use Rattle.pcm_base.proofs.Exits.{after_err}
 use Rattle.editor_state.specs.Bodies.{all_bytes, all_len, body_bytes, single, whole_len}
+use Rattle.editor_state.specs.{Adding.Adds, Adding.AddsBody, Core.Core, Studios.is_block}
 use Rattle.block_cache.specs.Caches.{AllPass}
-use Rattle.editor_state.specs.Core.{Core}
 use Rattle.editor_core.specs.Core.{core_of}
-use Rattle.editor_state.specs.Studios.{is_block}
 use Rattle.editor_commits.proofs.AppendFaults.{adds_nothing, exceeds}
+use Rattle.pcm_base.specs.declared.refusal.Refusal.TheVariants as refusal
 use Rattle.editor_core.proofs.studio.Studio.commit_body.Goals as goal
 
 pub returns-in_err-may_record-clause-record : goal.returns-in_err-may_record-clause-record
 returns-in_err-may_record-clause-record g c =
-    let p = err_from_is_err_and c.from_residual.result c.from_residual.ensures.1 in
     let s = core_of c.args.self.now in
     let body = single c.args.body.now in
     let why = c.in_err-may_record.field-0.0 in
-    subst (λ r. AddsBody g.S.Store s body r s) (sym (p.1 ∙ ap Err p.2))
+    after_err (λ r. AddsBody g.S.Store s body r s) _ c.from_residual.result c.from_residual.ensures.1
     (adds_nothing g.S.Store s (all_bytes s body) 1 (whole_len s body) why (g.met.S.Store.may_fewer s.store)
     (exceeds (Unit {0}) g.S.Store s (whole_len s body) 1 (all_len s body) why c.in_err-may_record.ensures.err))
 
 pub returns-in_err-write_record-clause-record : goal.returns-in_err-write_record-clause-record
 returns-in_err-write_record-clause-record g c =
-    let p = err_from_is_err_and c.from_residual-in_err-write_record.result
-    c.from_residual-in_err-write_record.ensures.1 in
     let s = core_of c.args.self.now in
     let body = single c.args.body.now in
     subst (λ (z : Core g.row.S.Denot). AddsBody g.S.Store s body c.from_residual-in_err-write_record.result z)
     (sym c.write_record.ensures.same)
-    (subst (λ r. AddsBody g.S.Store s body r s) (sym (p.1 ∙ ap Err p.2))
+    (after_err (λ r. AddsBody g.S.Store s body r s) _ c.from_residual-in_err-write_record.result
+    c.from_residual-in_err-write_record.ensures.1
     (adds_nothing g.S.Store s (all_bytes s body) 1 (whole_len s body) refusal.NoMemory
     (g.met.S.Store.may_fewer s.store) refl))
 

@@ -5,9 +5,8 @@ use Rattle.record_body.specs.declared.body.Body.TheVariants.{Edit}
 use Rattle.project_state.specs.declared.track.Track.{Track}
 use Rattle.disk_model.specs.declared.store.Store.{Ghosts}
 use Rattle.pcm_base.specs.declared.refusal.Refusal.{Refusal}
-use Rattle.editor_state.specs.Adding.{AddsBody, AddsDrawn, Undrawn}
-use Rattle.editor_state.specs.Bodies.{Writing, single, whole_len}
-use Rattle.editor_state.specs.Core.{Core}
+use Rattle.editor_state.specs.{Adding.AddsBody, Adding.AddsDrawn, Adding.Undrawn, Bodies.Writing, Bodies.single}
+use Rattle.editor_state.specs.{Bodies.whole_len, Core.Core}
 use Rattle.editor_core.specs.Core.{core_of}
 use Rattle.editor_core.proofs.studio.Studio.commit_point.Goals as goal
 

@@ -1,14 +1,11 @@
 -- What the journal answers.
 use Rattle.std.proofs.Common.{refl, subst, ℕ, ◌-◌, length, vec_capacity, arith}
-use Rattle.disk_model.specs.Disk.{SameElsewhere}
-use Rattle.disk_model.specs.Frames.{Changed}
-use Rattle.project_journal.specs.Answer.{Appends}
-use Rattle.project_journal.specs.Rooms.{append_room}
+use Rattle.disk_model.specs.{Disk.SameElsewhere, Frames.Changed}
+use Rattle.project_journal.specs.{Answer.Appends, Rooms.append_room}
 use Rattle.project_journal.proofs.Together.{rows_size}
 use Rattle.editor_core.specs.Core.{core_of}
 use Rattle.editor_state.specs.Core.{form_at}
-use Rattle.editor_commits.proofs.AppendFaults.{settled}
-use Rattle.editor_commits.proofs.RowRoom.{no_want, undamaged_settle}
+use Rattle.editor_commits.proofs.{AppendFaults.settled, RowRoom.no_want, RowRoom.undamaged_settle}
 use Rattle.editor_state.proofs.Blocks.CachePages.{right_by_record}
 use Rattle.editor_core.proofs.studio.Studio.commit_rows.Goals as goal
 
@@ -43,6 +40,5 @@ pub invariant_of-self : goal.invariant_of-self
 invariant_of-self g c = record {
   right = right_by_record g.S.Store _ c.args.self.now.reader.store c.append_records-added.new.store
       c.args.self.now.reader.cache c.args.self.now.file c.requires.file c.append_records-added.ensures.changed
-      c.requires.pages
-      c.args.self.now.reader.right;
+      c.requires.pages c.args.self.now.reader.right;
 }

@@ -2,8 +2,7 @@
 use Rattle.std.proofs.Common.{◌∷◌, [], arith, length, refl}
 use Rattle.editor_core.specs.Core.{core_of}
 use Rattle.editor_state.specs.Core.{form_at}
-use Rattle.editor_commits.proofs.AppendFaults.{settled}
-use Rattle.editor_commits.proofs.RowRoom.{undamaged_settle}
+use Rattle.editor_commits.proofs.{AppendFaults.settled, RowRoom.undamaged_settle}
 use Rattle.editor_state.proofs.Blocks.CachePages.{right_by_record}
 use Rattle.editor_core.proofs.studio.Studio.commit_small.Goals as goal
 
@@ -11,8 +10,7 @@ pub returns-clause-record : goal.returns-clause-record
 returns-clause-record g c =
     let a = c.append_small-added.ensures in
     let s = core_of c.args.self.now in
-    settled g.S.Store s c.append_small-added.new.store (c.args.body.now ∷ []) 1
-    (length c.args.body.now)
+    settled g.S.Store s c.append_small-added.new.store (c.args.body.now ∷ []) 1 (length c.args.body.now)
     (λ log. a.any_moment (form_at s) log refl) a.changed a.read_faults (omega (arith, c.requires.small))
     c.append_small-added.result c.settle.result _
     a.answer a.cause a.rose (λ log. a.done (form_at s) log refl) a.untouched c.settle.ensures.fields
@@ -26,6 +24,5 @@ pub invariant_of-self : goal.invariant_of-self
 invariant_of-self g c = record {
   right = right_by_record g.S.Store _ c.args.self.now.reader.store c.append_small-added.new.store
       c.args.self.now.reader.cache c.args.self.now.file c.requires.file c.append_small-added.ensures.changed
-      c.requires.pages
-      c.args.self.now.reader.right;
+      c.requires.pages c.args.self.now.reader.right;
 }

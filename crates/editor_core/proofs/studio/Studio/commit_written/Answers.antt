@@ -2,8 +2,7 @@
 use Rattle.std.proofs.Common.{◌∷◌, [], refl}
 use Rattle.editor_core.specs.Core.{core_of}
 use Rattle.editor_state.specs.Core.{form_at}
-use Rattle.editor_commits.proofs.AppendFaults.{settled}
-use Rattle.editor_commits.proofs.RowRoom.{no_want, undamaged_settle}
+use Rattle.editor_commits.proofs.{AppendFaults.settled, RowRoom.no_want, RowRoom.undamaged_settle}
 use Rattle.editor_state.proofs.Blocks.CachePages.{right_by_record}
 use Rattle.editor_core.proofs.studio.Studio.commit_written.Goals as goal
 

@@ -1,20 +1,17 @@
 -- The journal put into one header, or why it was not.
 use Rattle.std.proofs.Common.{◌≡◌, ◌∙◌, sym, ap, subst, ℕ, ◌+◌, ◌-◌, ◌^◌, ◌<◌, Bool, List, Result, Some, Err, Ok}
 use Rattle.std.proofs.Common.{length, arith}
-use Rattle.std.specs.Prelude.{IsTrue}
-use Rattle.std.proofs.lemmas.Result.{err_from_is_err_and}
-use Rattle.pcm_base.specs.declared.failed.Failed.{Failed}
-use Rattle.pcm_base.specs.declared.refusal.Refusal.{Refusal}
-use Rattle.pcm_base.specs.declared.refusal.Refusal.TheVariants as refusal
-use Rattle.pcm_base.specs.Causes.{HasCause}
+use Rattle.pcm_base.proofs.Exits.{after_err}
+use Rattle.pcm_base.specs.{declared.failed.Failed.Failed, declared.refusal.Refusal.Refusal, Causes.HasCause}
 use Rattle.block_cache.proofs.CacheLaws.{right_before}
 use Rattle.editor_cleanup.specs.Compacts.{Compacts}
-use Rattle.editor_state.specs.Core.{Core}
+use Rattle.editor_state.specs.{Core.Core, Packing.packed_core, Packing.packed_size, Packing.packed_text}
 use Rattle.editor_core.specs.Core.{core_of}
-use Rattle.editor_state.specs.Packing.{packed_core, packed_size, packed_text}
 use Rattle.editor_cleanup.proofs.CompactAnswers.{Packs, compact_done, compact_failed, compact_spent, compact_stopped}
 use Rattle.editor_cleanup.proofs.CompactAnswers.{compact_unread, compact_wanting}
 use Rattle.editor_state.proofs.Blocks.CachePages.{pages_of_blocks, right_by_packing}
+use Rattle.disk_model.proofs.Frames.{tells_back}
+use Rattle.pcm_base.specs.declared.refusal.Refusal.TheVariants as refusal
 use Rattle.editor_core.proofs.studio.Studio.compact.Goals as goal
 
 pub returns-in-Some : goal.returns-in-Some
@@ -30,9 +27,8 @@ returns-then-self-eq-COUNTER_LIMIT g c =
 
 pub returns-in_err-text : goal.returns-in_err-text
 returns-in_err-text g c =
-    let p = err_from_is_err_and c.from_residual.result c.from_residual.ensures.1 in
     let s = core_of c.args.self.now in
-    subst (λ (r : Result ℕ Refusal). Compacts g.S.Store s r s) (sym (p.1 ∙ ap Err p.2))
+    after_err (λ (r : Result ℕ Refusal). Compacts g.S.Store s r s) _ c.from_residual.result c.from_residual.ensures.1
     (compact_wanting g.S.Store s c.requires (g.met.S.Store.may_fewer s.store))
 
 pub returns-in_default-is_there : goal.returns-in_default-is_there
@@ -120,8 +116,7 @@ pub invariant_of-self : goal.invariant_of-self
 invariant_of-self g c = record {
   right = λ still.
       let kept = c.is_there.ensures.kept in
-      let told : IsTrue (g.S.Store.tells c.args.self.now.reader.store) =
-      subst (λ (t : Bool). IsTrue t) kept.same_tells still in
+      let told = tells_back kept still in
       right_before c.args.self.now.reader.store c.is_there.new.store c.args.self.now.reader.cache kept
       (c.args.self.now.reader.right told);
 }
@@ -135,5 +130,5 @@ invariant_of-self-2 g c =
       right = right_by_packing g.S.Store _ c.is_there.new.store c.compact.new.store s.cache s.file
           c.requires.journal.among c.compact.ensures.changed (pages_of_blocks s.next_block s.cache c.requires.pages)
           (λ still. right_before c.args.self.now.reader.store c.is_there.new.store s.cache kept
-          (c.args.self.now.reader.right (subst (λ (t : Bool). IsTrue t) kept.same_tells still)));
+          (c.args.self.now.reader.right (tells_back kept still)));
     }

@@ -1,59 +1,42 @@
 -- An edit that makes no blocks is a step.
-use Rattle.std.proofs.Common.{◌≡◌, ◌∙◌, refl, sym, ap, subst, ℕ, ◌+◌, ◌≤◌, ◌<◌, ◌^◌, List, length, Err, Ok, IfOk}
-use Rattle.std.proofs.Common.{None, ⊎_elim, arith}
+use Rattle.std.proofs.Common.{◌≡◌, ◌∙◌, refl, sym, ap, subst, ℕ, ◌+◌, ◌≤◌, ◌<◌, ◌^◌, List, length, Err, Ok, IfOk, None}
+use Rattle.std.proofs.Common.{⊎_elim, arith}
 use Rattle.std.specs.Prelude.{IfErr}
-use Rattle.std.proofs.lemmas.Result.{err_from_is_err_and}
-use Rattle.pcm_base.specs.declared.answer.Reply.TheVariants.{Done}
-use Rattle.pcm_base.specs.declared.command.Call.TheVariants.{Line}
-use Rattle.pcm_base.specs.declared.refusal.Refusal.TheVariants as refusal
-use Rattle.pcm_base.specs.Counters.{record_test}
-use Rattle.pcm_base.specs.History.{History, edited}
-use Rattle.pcm_base.specs.Refusals.{◌otherwise◌}
-use Rattle.block_ledger.specs.Counts.{Counts}
-use Rattle.block_ledger.specs.Entries.{count_of}
+use Rattle.pcm_base.proofs.Exits.{after_err}
+use Rattle.pcm_base.specs.{declared.answer.Reply.TheVariants.Done, declared.command.Call.TheVariants.Line}
+use Rattle.pcm_base.specs.{Counters.record_test, History.History, History.edited, Refusals.◌otherwise◌}
+use Rattle.block_ledger.specs.{Counts.Counts, Entries.count_of}
 use Rattle.block_cache.specs.Caches.{AllPass}
 use Rattle.undo_history.specs.Stored.{Stored}
 use Rattle.envelope_view.specs.Answers.{IsUndamaged}
-use Rattle.record_body.specs.declared.body.Body.TheVariants.{Edit}
-use Rattle.project_state.specs.declared.track.Track.{Track}
-use Rattle.record_body.specs.Kept.{current_tracks}
-use Rattle.project_state.specs.Meaning.{point_blocks}
-use Rattle.project_state.specs.Numbers.{AgreeById}
-use Rattle.project_state.specs.Tracks.{AllBelow}
-use Rattle.layout_uses.specs.declared.tally.Tally.{Tally}
-use Rattle.layout_uses.specs.Layouts.{history_tracks}
-use Rattle.layout_uses.specs.Tallies.{Becomes, MayBecome}
-use Rattle.editor_state.specs.Adding.{AddsBody, AddsDrawn, Tested}
-use Rattle.editor_state.specs.Bodies.{all_bytes, single, whole_len}
-use Rattle.editor_state.specs.Core.{Core}
+use Rattle.record_body.specs.{declared.body.Body.TheVariants.Edit, Saved.current_tracks}
+use Rattle.project_state.specs.{declared.track.Track.Track, Meaning.point_blocks, Numbers.AgreeById, Tracks.AllBelow}
+use Rattle.layout_uses.specs.{declared.tally.Tally.Tally, Layouts.history_tracks, Tallies.Becomes, Tallies.MayBecome}
+use Rattle.editor_state.specs.Took.{Took, quietly, silent, as_reply}
+use Rattle.editor_state.specs.{Adding.AddsBody, Adding.AddsDrawn, Adding.Tested, Bodies.all_bytes, Bodies.single}
+use Rattle.editor_state.specs.{Bodies.whole_len, Core.Core, Occurrences.HasIds, Studios.is_block}
 use Rattle.editor_core.specs.Core.{core_of}
-use Rattle.editor_state.specs.Occurrences.{HasIds}
 use Rattle.editor_commits.specs.Plain.{layouts_by, line_of, tracks_by, refusal_by, IsEdited}
-use Rattle.editor_state.specs.Studios.{is_block}
-use Rattle.editor_state.specs.Took.{Took, quietly, silent, told_by}
 use Rattle.editor_state.proofs.Blocks.BlockNumbers.{few_more, named_there}
-use Rattle.editor_commits.proofs.CurrentProject.{current_below}
-use Rattle.editor_commits.proofs.CommitStudios.{CountsAfter}
-use Rattle.editor_commits.proofs.MoveSteps.{tested_out}
 use Rattle.editor_state.proofs.Refusals.DamageTests.{TellsNone, outgrowing, undamaged_test}
-use Rattle.editor_commits.proofs.PlainEdits.{own_is, needs_none, names, sound, edit_counts, edit_done, edit_fails}
+use Rattle.editor_state.proofs.{Calls.FileRemovals.commit_removes_none, Refusals.EarlyRefusals.wants}
+use Rattle.editor_state.proofs.{Blocks.CachePages.pages_of_blocks}
+use Rattle.editor_commits.proofs.PlainEdits.{own_is, needs_none, names, valid, edit_counts, edit_done, edit_fails}
 use Rattle.editor_commits.proofs.PlainEdits.{edit_agrees, edit_may}
-use Rattle.editor_commits.proofs.PlainLines.{call_by}
-use Rattle.editor_state.proofs.Calls.FileRemovals.{commit_removes_none}
-use Rattle.editor_state.proofs.Refusals.EarlyRefusals.{wants}
+use Rattle.editor_commits.proofs.{CurrentProject.current_below, CommitStudios.CountsAfter, MoveSteps.tested_out}
+use Rattle.editor_commits.proofs.{PlainLines.call_by, CallsWithoutReads.adding_tells, CallsWithoutReads.refusal_tells}
 use Rattle.layout_uses.proofs.Times.{Few}
-use Rattle.editor_commits.proofs.CallsWithoutReads.{adding_tells, refusal_tells}
-use Rattle.editor_state.proofs.Blocks.CachePages.{pages_of_blocks}
+use Rattle.pcm_base.specs.declared.refusal.Refusal.TheVariants as refusal
 use Rattle.editor_core.proofs.studio.Studio.edit.Goals as goal
 
 pub returns-in_err-may_commit-clause-took : goal.returns-in_err-may_commit-clause-took
 returns-in_err-may_commit-clause-took g c =
-    let p = err_from_is_err_and c.from_residual.result c.from_residual.ensures.1 in
     let s = core_of c.args.self.now in
     let e = c.args.edit in
     let is = c.requires.studio in
     let why = c.in_err-may_commit.field-0.0 in
-    subst (λ r. Took g.S.Store s (quietly (Line (line_of e)) (told_by (λ (n : ℕ). Done) r)) s) (sym (p.1 ∙ ap Err p.2))
+    after_err (λ r. Took g.S.Store s (quietly (Line (line_of e)) (as_reply (λ (n : ℕ). Done) r)) s) _
+    c.from_residual.result c.from_residual.ensures.1
     (tested_out g.S.Store s (Line (line_of e)) (tracks_by e) 0 c.edit_refusal.result why is
     (g.met.S.Store.may_fewer s.store) (call_by e) (omega arith) (λ held. needs_none g.S.Store s is e)
     (c.edit_refusal.ensures ∙ own_is g.S.Store s is e)
@@ -62,14 +45,14 @@ returns-in_err-may_commit-clause-took g c =
 
 pub returns-in_err-make_room-clause-took : goal.returns-in_err-make_room-clause-took
 returns-in_err-make_room-clause-took g c =
-    let p = err_from_is_err_and c.from_residual-in_err-make_room.result c.from_residual-in_err-make_room.ensures.1 in
     let s = core_of c.args.self.now in
     let s1 = core_of c.make_room.new.self in
     let line = line_of c.args.edit in
     let idle = wants g.S.Store s (Line line) silent c.requires.studio (g.met.S.Store.may_fewer s.store)
     (commit_removes_none (Line line) (call_by c.args.edit).many) refl 0
     (λ held. (0, needs_none g.S.Store s c.requires.studio c.args.edit)) in
-    subst (λ r. Took g.S.Store s (quietly (Line line) (told_by (λ (n : ℕ). Done) r)) s1) (sym (p.1 ∙ ap Err p.2))
+    after_err (λ r. Took g.S.Store s (quietly (Line line) (as_reply (λ (n : ℕ). Done) r)) s1) _
+    c.from_residual-in_err-make_room.result c.from_residual-in_err-make_room.ensures.1
     (subst (λ (z : Core g.row.S.Denot). Took g.S.Store s (quietly (Line line) (Err refusal.NoMemory)) z)
     (sym c.make_room.ensures.same) idle)
 
@@ -87,14 +70,14 @@ edited-requires-clause-below g c =
 
 pub returns-in_err-point-clause-took : goal.returns-in_err-point-clause-took
 returns-in_err-point-clause-took g c =
-    let p = err_from_is_err_and c.from_residual-in_err-point.result c.from_residual-in_err-point.ensures.1 in
     let s = core_of c.args.self.now in
     let s1 = core_of c.make_room.new.self in
     let line = line_of c.args.edit in
     let idle = wants g.S.Store s (Line line) silent c.requires.studio (g.met.S.Store.may_fewer s.store)
     (commit_removes_none (Line line) (call_by c.args.edit).many) refl 0
     (λ held. (0, needs_none g.S.Store s c.requires.studio c.args.edit)) in
-    subst (λ r. Took g.S.Store s (quietly (Line line) (told_by (λ (n : ℕ). Done) r)) s1) (sym (p.1 ∙ ap Err p.2))
+    after_err (λ r. Took g.S.Store s (quietly (Line line) (as_reply (λ (n : ℕ). Done) r)) s1) _
+    c.from_residual-in_err-point.result c.from_residual-in_err-point.ensures.1
     (subst (λ (z : Core g.row.S.Denot). Took g.S.Store s (quietly (Line line) (Err refusal.NoMemory)) z)
     (sym c.make_room.ensures.same) idle)
 
@@ -122,7 +105,6 @@ commit_point-requires-clause-layouts g c = omega (
 
 pub returns-in_err-point-2-clause-took : goal.returns-in_err-point-2-clause-took
 returns-in_err-point-2-clause-took g c =
-    let r = err_from_is_err_and c.from_residual-in_err-point-2.result c.from_residual-in_err-point-2.ensures.1 in
     let s = core_of c.args.self.now in
     let s1 = core_of c.make_room.new.self in
     let same : s1 ≡ s = c.make_room.ensures.same in
@@ -144,8 +126,8 @@ returns-in_err-point-2-clause-took g c =
     (single (Edit 0 s.next_block (s.next_track + n) p)) (Err why) mid) c.tracks_for-tracks.ensures adds'' in
     let adds = subst (λ (n : ℕ). AddsDrawn {R = List Track} g.S.Store s n
     (single (Edit 0 s.next_block (s.next_track + tracks_by e) p)) (Err why) mid) c.layouts_for-layouts.ensures adds' in
-    subst (λ x. Took g.S.Store s (quietly (Line (line_of e)) (told_by (λ (n : ℕ). Done) x))
-    mid) (sym (r.1 ∙ ap Err r.2))
+    after_err (λ x. Took g.S.Store s (quietly (Line (line_of e)) (as_reply (λ (n : ℕ). Done) x))
+    mid) _ c.from_residual-in_err-point-2.result c.from_residual-in_err-point-2.ensures.1
     (edit_fails g.S.Store s is e c.requires.good none p ed may.2 may.0 may.3 why mid
     (g.met.S.Store.may_fewer s.store) adds)
 
@@ -189,7 +171,7 @@ take_point-requires-clause-few g c =
     ap (λ (t : Tally). count_of t.ledger) c.in_ok-point-2.ensures.ledger
     ∙ ap (λ (z : Core g.row.S.Denot). z.counts) same in
     let base : Few s.counts (point_blocks p) =
-    few_more g.S.Store s is p (s.next_track + tracks_by e) (sound g.S.Store s is e c.requires.good none p ed) in
+    few_more g.S.Store s is p (s.next_track + tracks_by e) (valid g.S.Store s is e c.requires.good none p ed) in
     subst (λ (z : Counts). Few z (point_blocks c.in_ok-point-2.point)) (sym counts)
     (subst (λ (z : List Track). Few s.counts (point_blocks z)) (sym p2) base)
 
@@ -212,7 +194,7 @@ take_point-requires-clause-uses g c =
       c.in_ok-make_room.ensures.uses,
       ap (λ (t : Tally). t.uses.spare) c.in_ok-point-2.ensures.ledger,
       ap (λ (z : List Track). length z) p2,
-      (sound g.S.Store s is e c.requires.good none p ed).few,
+      (valid g.S.Store s is e c.requires.good none p ed).few,
     )
 
 pub take_point-requires-clause-layouts : goal.take_point-requires-clause-layouts
@@ -298,8 +280,7 @@ returns-clause-took g c =
     let number : mid.next_layout + c.layouts_for-layouts.result ≡ s.next_layout + layouts_by e =
     λ i. layout i + layouts i in
     let counted : CountsAfter s.pins (edited s.history p 0) s.clipboard
-    (mid.next_layout + c.layouts_for-layouts.result) s.counts
-    (count_of after.uses) (count_of after.ledger) =
+    (mid.next_layout + c.layouts_for-layouts.result) s.counts (count_of after.uses) (count_of after.ledger) =
     subst (λ (n : ℕ). CountsAfter s.pins (edited s.history p 0) s.clipboard n s.counts (count_of after.uses)
     (count_of after.ledger)) (sym number)
     (edit_counts g.S.Store s is e c.requires.good none p ed tally after uses_are counts_are fits becomes) in
@@ -312,49 +293,47 @@ returns-clause-took g c =
 
 pub returns-in_err-may_commit-clause-number : goal.returns-in_err-may_commit-clause-number
 returns-in_err-may_commit-clause-number g c =
-    let p = err_from_is_err_and c.from_residual.result c.from_residual.ensures.1 in
-    subst (λ r. IfOk r (λ (n : ℕ). n ≡ c.args.self.now.commit_number)) (sym (p.1 ∙ ap Err p.2)) tt
+    after_err (λ r. IfOk r (λ (n : ℕ). n ≡ c.args.self.now.commit_number)) _ c.from_residual.result
+    c.from_residual.ensures.1 tt
 
 pub returns-in_err-make_room-clause-number : goal.returns-in_err-make_room-clause-number
 returns-in_err-make_room-clause-number g c =
-    let p = err_from_is_err_and c.from_residual-in_err-make_room.result c.from_residual-in_err-make_room.ensures.1 in
-    subst (λ r. IfOk r (λ (n : ℕ). n ≡ c.make_room.new.self.commit_number)) (sym (p.1 ∙ ap Err p.2)) tt
+    after_err (λ r. IfOk r (λ (n : ℕ). n ≡ c.make_room.new.self.commit_number)) _
+    c.from_residual-in_err-make_room.result c.from_residual-in_err-make_room.ensures.1 tt
 
 pub returns-in_err-point-clause-number : goal.returns-in_err-point-clause-number
 returns-in_err-point-clause-number g c =
-    let p = err_from_is_err_and c.from_residual-in_err-point.result c.from_residual-in_err-point.ensures.1 in
-    subst (λ r. IfOk r (λ (n : ℕ). n ≡ c.make_room.new.self.commit_number)) (sym (p.1 ∙ ap Err p.2)) tt
+    after_err (λ r. IfOk r (λ (n : ℕ). n ≡ c.make_room.new.self.commit_number)) _ c.from_residual-in_err-point.result
+    c.from_residual-in_err-point.ensures.1 tt
 
 pub returns-in_err-point-2-clause-number : goal.returns-in_err-point-2-clause-number
 returns-in_err-point-2-clause-number g c =
-    let p = err_from_is_err_and c.from_residual-in_err-point-2.result c.from_residual-in_err-point-2.ensures.1 in
-    subst (λ r. IfOk r (λ (n : ℕ). n ≡ c.commit_point.new.self.commit_number)) (sym (p.1 ∙ ap Err p.2)) tt
+    after_err (λ r. IfOk r (λ (n : ℕ). n ≡ c.commit_point.new.self.commit_number)) _
+    c.from_residual-in_err-point-2.result c.from_residual-in_err-point-2.ensures.1 tt
 
 pub returns-in_err-may_commit-clause-undamaged : goal.returns-in_err-may_commit-clause-undamaged
 returns-in_err-may_commit-clause-undamaged g c =
-    let p = err_from_is_err_and c.from_residual.result c.from_residual.ensures.1 in
     let s = core_of c.args.self.now in
     let own = subst TellsNone (sym c.edit_refusal.ensures) (refusal_tells c.args.edit (current_tracks s.history)) in
-    subst (λ r. IfErr r IsUndamaged) (sym (p.1 ∙ ap Err p.2))
+    after_err (λ r. IfErr r IsUndamaged) _ c.from_residual.result c.from_residual.ensures.1
     (undamaged_test s.stopped c.edit_refusal.result s.next_track c.tracks_for-tracks.result s.commit_number
     c.in_err-may_commit.field-0.0 own c.in_err-may_commit.ensures)
 
 pub returns-in_err-make_room-clause-undamaged : goal.returns-in_err-make_room-clause-undamaged
 returns-in_err-make_room-clause-undamaged g c =
-    let p = err_from_is_err_and c.from_residual-in_err-make_room.result c.from_residual-in_err-make_room.ensures.1 in
-    subst (λ r. IfErr r IsUndamaged) (sym (p.1 ∙ ap Err p.2)) tt
+    after_err (λ r. IfErr r IsUndamaged) _ c.from_residual-in_err-make_room.result
+    c.from_residual-in_err-make_room.ensures.1 tt
 
 pub returns-in_err-point-clause-undamaged : goal.returns-in_err-point-clause-undamaged
 returns-in_err-point-clause-undamaged g c =
-    let p = err_from_is_err_and c.from_residual-in_err-point.result c.from_residual-in_err-point.ensures.1 in
-    subst (λ r. IfErr r IsUndamaged) (sym (p.1 ∙ ap Err p.2)) tt
+    after_err (λ r. IfErr r IsUndamaged) _ c.from_residual-in_err-point.result c.from_residual-in_err-point.ensures.1 tt
 
 pub returns-in_err-point-2-clause-undamaged : goal.returns-in_err-point-2-clause-undamaged
 returns-in_err-point-2-clause-undamaged g c =
-    let p = err_from_is_err_and c.from_residual-in_err-point-2.result c.from_residual-in_err-point-2.ensures.1 in
     let s = core_of c.make_room.new.self in
     let body = Edit 0 s.next_block (s.next_track + c.tracks_for-tracks.result) c.in_ok-point.point in
-    subst (λ r. IfErr r IsUndamaged) (sym (p.1 ∙ ap Err p.2))
+    after_err (λ r. IfErr r IsUndamaged) _ c.from_residual-in_err-point-2.result
+    c.from_residual-in_err-point-2.ensures.1
     (⊎_elim
     (λ added. adding_tells g.S.Store s (core_of c.commit_point.new.self) (all_bytes s (single body)) 1
     (whole_len s (single body)) c.in_err-point-2.field-0.0 added.1)

@@ -1,21 +1,18 @@
 -- An edit of a range is a step.
-use Rattle.std.proofs.Common.{◌∙◌, sym, ap, subst, ℕ, IfErr, Err, arith}
-use Rattle.std.proofs.lemmas.Result.{err_from_is_err_and}
-use Rattle.pcm_base.specs.declared.answer.Reply.TheVariants.{Done}
-use Rattle.pcm_base.specs.declared.command.Call.TheVariants.{Line}
-use Rattle.pcm_base.specs.Shape.{range_line}
-use Rattle.piece_store.specs.declared.given.Given.TheVariants.{Nothing}
+use Rattle.std.proofs.Common.{ℕ, IfErr, arith}
+use Rattle.pcm_base.proofs.Exits.{after_err}
+use Rattle.pcm_base.specs.{declared.answer.Reply.TheVariants.Done, declared.command.Call.TheVariants.Line}
+use Rattle.pcm_base.specs.{Shape.range_line}
+use Rattle.block_writer.specs.{declared.given.Given.TheVariants.Nothing, Bringing.brought, Bringing.brought_by}
 use Rattle.envelope_view.specs.Answers.{IsUndamaged}
-use Rattle.record_body.specs.Kept.{current_tracks}
-use Rattle.piece_store.specs.Bringing.{brought, brought_by}
+use Rattle.record_body.specs.Saved.{current_tracks}
 use Rattle.editor_core.specs.Core.{core_of}
 use Rattle.editor_tracks.specs.Ranges.{range_edit}
-use Rattle.editor_state.specs.Took.{Took, quietly, silent, told_by, with_sound}
-use Rattle.editor_tracks.proofs.PlanDamage.{no_plan_tells}
-use Rattle.editor_state.proofs.Refusals.DamageTests.{range_tells}
-use Rattle.editor_tracks.proofs.RangeLaws.{range_call}
+use Rattle.editor_state.specs.Took.{Took, quietly, silent, as_reply, with_sound}
 use Rattle.editor_tracks.proofs.TrackSteps.{track_edit, track_refused, track_stopped}
 use Rattle.editor_tracks.proofs.TrackPlans.{track_next, track_planned}
+use Rattle.editor_tracks.proofs.{PlanDamage.no_plan_tells, RangeLaws.range_call}
+use Rattle.editor_state.proofs.Refusals.DamageTests.{range_tells}
 use Rattle.editor_edits.proofs.KnownSamples.{known_took, planned_any}
 use Rattle.editor_core.proofs.studio.Studio.edit_range.Goals as goal
 
@@ -33,18 +30,17 @@ returns-in_err-planned-clause-took g c =
     let e = range_edit c.args.edit c.args.from c.args.to in
     let call = Line (range_line c.args.edit c.args.track c.args.from c.args.to) in
     let line = range_call c.args.edit c.args.track c.args.from c.args.to in
-    let r = err_from_is_err_and c.from_residual.result c.from_residual.ensures.1 in
     let why = c.in_err-planned.field-0.0 in
-    subst (λ x. Took g.S.Store s (quietly call (told_by (λ (n : ℕ). Done) x)) s) (sym (r.1 ∙ ap Err r.2))
+    after_err (λ x. Took g.S.Store s (quietly call (as_reply (λ (n : ℕ). Done) x)) s) _ c.from_residual.result
+    c.from_residual.ensures.1
     (track_refused g.S.Store s c.requires call silent e Nothing c.args.track 0 0 line why
     (g.met.S.Store.may_fewer s.store) (omega arith) c.in_default.is c.in_err-planned.ensures.err)
 
-pub returns-in_err-planned-clause-sound : goal.returns-in_err-planned-clause-sound
-returns-in_err-planned-clause-sound g c = λ held.
+pub returns-in_err-planned-clause-valid : goal.returns-in_err-planned-clause-valid
+returns-in_err-planned-clause-valid g c = λ held.
     let s = core_of c.args.self.now in
     let e = range_edit c.args.edit c.args.from c.args.to in
-    let r = err_from_is_err_and c.from_residual.result c.from_residual.ensures.1 in
-    subst (λ x. IfErr x IsUndamaged) (sym (r.1 ∙ ap Err r.2))
+    after_err (λ x. IfErr x IsUndamaged) _ c.from_residual.result c.from_residual.ensures.1
     (no_plan_tells e c.args.track (current_tracks s.history) c.in_err-planned.field-0.0
     (λ len. range_tells c.args.from c.args.to len) c.in_err-planned.ensures.err)
 
@@ -71,7 +67,7 @@ returns-clause-took g c =
     let line = range_call c.args.edit c.args.track c.args.from c.args.to in
     let planned = c.in_ok-planned.ensures in
     known_took g.S.Store s c.in_ok-planned.planned 0 0 Nothing c.carry_out.result
-    (λ call sound. Took g.S.Store s (with_sound call sound (told_by (λ (n : ℕ). Done) c.carry_out.result))
+    (λ call sound. Took g.S.Store s (with_sound call sound (as_reply (λ (n : ℕ). Done) c.carry_out.result))
     (core_of c.carry_out.new.self)) c.carry_out.ensures.took c.carry_out.ensures.device call silent
     (track_edit g.S.Store s c.requires call silent e Nothing c.args.track 0 0 line c.in_ok-planned.planned planned.plan
     planned.tracks planned.clip)

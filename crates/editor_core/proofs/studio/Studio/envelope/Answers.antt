@@ -1,20 +1,18 @@
 -- Scanning a track is a step that changes nothing.
 use Rattle.std.proofs.Common.{◌∙◌, sym, ap, subst, Ok, Err}
 use Rattle.std.proofs.lemmas.Result.{err_from_is_err_and}
-use Rattle.pcm_base.specs.declared.answer.Reply.TheVariants as reply
-use Rattle.pcm_base.specs.declared.command.Call.TheVariants.{Line}
-use Rattle.pcm_base.specs.declared.command.Command.TheVariants.{Envelope}
-use Rattle.pcm_base.specs.declared.refusal.Refusal.TheVariants as refusal
+use Rattle.pcm_base.proofs.Exits.{exit_err}
+use Rattle.pcm_base.specs.{declared.command.Call.TheVariants.Line, declared.command.Command.TheVariants.Envelope}
 use Rattle.clip_track.specs.Clips.{layout_blocks}
 use Rattle.envelope_view.proofs.AnswerLaws.{counted_of, damaged_of}
 use Rattle.editor_core.specs.Core.{core_of}
-use Rattle.editor_state.specs.Points.{lacks}
-use Rattle.editor_state.specs.Reads.{Looks}
-use Rattle.editor_state.specs.Took.{told_by}
+use Rattle.editor_state.specs.{Points.lacks, Reads.Looks, Took.as_reply}
 use Rattle.editor_commits.proofs.CursorTracks.{layout_may_read, layout_named, layout_whole}
 use Rattle.editor_state.proofs.Calls.LookAnswers.{idle_looks, read_looks, unread_looks}
-use Rattle.editor_views.proofs.CellViews.{scan_stopped, scan_lacks, scan_done, scan_failed}
 use Rattle.editor_state.proofs.Blocks.CachePages.{reads_among}
+use Rattle.editor_views.proofs.CellViews.{scan_stopped, scan_lacks, scan_done, scan_failed}
+use Rattle.pcm_base.specs.declared.answer.Reply.TheVariants as reply
+use Rattle.pcm_base.specs.declared.refusal.Refusal.TheVariants as refusal
 use Rattle.editor_core.proofs.studio.Studio.envelope.Goals as goal
 
 pub returns-in-Some : goal.returns-in-Some
@@ -33,7 +31,7 @@ returns-in_err-layout g c =
     let fewer = g.met.S.Store.may_fewer s.store in
     let call = Line (Envelope c.args.track c.args.from c.args.to c.args.columns) in
     let why = refusal.NoTrack c.args.track in
-    subst (λ r. Looks g.S.Store s call (told_by reply.Columns r) s)
+    subst (λ r. Looks g.S.Store s call (as_reply reply.Columns r) s)
     (sym (p.1 ∙ ap Err (p.2 ∙ c.in_err-layout.ensures.0)))
     (idle_looks g.S.Store s call fewer why tt
     (scan_lacks g.S.Store s c.requires c.args.track c.args.from c.args.to fewer c.args.columns why c.in_default.is
@@ -48,7 +46,6 @@ columns-requires g c =
 
 pub returns-in_err-scans : goal.returns-in_err-scans
 returns-in_err-scans g c =
-    let p = err_from_is_err_and c.from_residual-in_err-scans.result c.from_residual-in_err-scans.ensures.1 in
     let s = core_of c.args.self.now in
     let fewer = g.met.S.Store.may_fewer s.store in
     let call = Line (Envelope c.args.track c.args.from c.args.to c.args.columns) in
@@ -59,10 +56,10 @@ returns-in_err-scans g c =
     let keeps = reads_among g.S.Store s (layout_blocks layout) cache
     (layout_named g.S.Store s c.requires c.args.track layout has) c.in_err-scans.ensures.reads.cache in
     let why = c.in_err-scans.field-0.0 in
-    subst (λ r. Looks g.S.Store s call (told_by reply.Columns r) (record s { store = store; cache = cache })) (sym
-    (p.1 ∙ ap Err p.2))
+    subst (λ r. Looks g.S.Store s call (as_reply reply.Columns r) (record s { store = store; cache = cache })) (sym
+    (exit_err c.from_residual-in_err-scans.result c.from_residual-in_err-scans.ensures.1))
     (unread_looks g.S.Store s call store c.in_err-scans.ensures.reads.kept cache why
-    (λ held. c.in_err-scans.ensures.sound held.tells (layout_whole g.S.Store s c.requires c.args.track layout has held))
+    (λ held. c.in_err-scans.ensures.valid held.tells (layout_whole g.S.Store s c.requires c.args.track layout has held))
     (scan_failed g.S.Store s c.requires c.args.track c.args.from c.args.to fewer c.args.columns layout
     has c.in_default.is store c.in_err-scans.ensures.reads.kept cache keeps why c.in_err-scans.ensures.tests
     (counted_of why _ _ c.in_err-scans.ensures.reads.faults)

@@ -2,9 +2,8 @@
 use Rattle.std.proofs.Common.{◌+◌, [], ◌∷◌, ◌++◌, arith}
 use Rattle.block_ledger.specs.Entries.{count_of}
 use Rattle.editor_core.specs.Core.{core_of}
-use Rattle.editor_cleanup.proofs.FirstIds.{first_none, none_from}
-use Rattle.editor_cleanup.proofs.ForgetPass.{forgets_all, forgetting_more}
-use Rattle.editor_cleanup.proofs.IdRemovals.{long}
+use Rattle.editor_cleanup.proofs.{FirstIds.first_none, FirstIds.none_from, ForgetPass.forgets_all}
+use Rattle.editor_cleanup.proofs.{ForgetPass.forgetting_more, IdRemovals.long}
 use Rattle.editor_core.proofs.studio.Studio.forget_first.Goals as goal
 
 pub returns-in_default : goal.returns-in_default

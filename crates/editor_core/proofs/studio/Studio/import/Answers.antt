@@ -1,26 +1,21 @@
 -- A sound is found, and its channels are added.
-use Rattle.std.proofs.Common.{◌≡◌, ◌⊎◌, ◌<◌, ◌∙◌, sym, ap, subst, inl, inr, ℕ, List, Option, Some, None, Err}
-use Rattle.std.proofs.Common.{IsTrue, arith}
+use Rattle.std.proofs.Common.{◌≡◌, ◌⊎◌, ◌<◌, sym, subst, inl, inr, ℕ, List, Option, Some, None, Err, IsTrue, arith}
 use Rattle.std.specs.Prelude.{IfErr, IfOk}
-use Rattle.std.proofs.lemmas.Result.{err_from_is_err_and}
-use Rattle.pcm_base.specs.declared.answer.Reply.TheVariants as reply
-use Rattle.pcm_base.specs.declared.command.Call.TheVariants.{Line}
-use Rattle.pcm_base.specs.declared.command.Command.TheVariants as command
-use Rattle.pcm_base.specs.declared.refusal.Refusal.TheVariants as refusal
-use Rattle.pcm_base.specs.declared.wav.WavFault.TheVariants.{Truncated}
-use Rattle.piece_store.specs.Brought.{Brought, MayBring}
-use Rattle.sound_import.specs.Imported.{import_refusal}
-use Rattle.sound_import.specs.Reading.{brought_from}
-use Rattle.editor_state.specs.Applied.{Lasts}
+use Rattle.pcm_base.proofs.Exits.{after_err}
+use Rattle.pcm_base.specs.{declared.command.Call.TheVariants.Line, declared.wav.WavFault.TheVariants.Truncated}
+use Rattle.block_writer.specs.Brought.{Brought, MayBring}
+use Rattle.sound_import.specs.{Imported.import_refusal, Reading.brought_from}
+use Rattle.editor_state.specs.Took.{Took, as_reply, with_sound}
+use Rattle.editor_state.specs.{Applied.Lasts, Vaults.IsCutShort, Vaults.left_as, Studios.IsHeld, Studios.IsStudio}
 use Rattle.editor_core.specs.Core.{core_of}
-use Rattle.editor_state.specs.Vaults.{IsCutShort, left_as}
-use Rattle.editor_state.specs.Studios.{IsHeld, IsStudio}
-use Rattle.editor_state.specs.Took.{Took, told_by, with_sound}
 use Rattle.editor_state.proofs.Calls.VaultCalls.{lasts_idle}
 use Rattle.editor_imports.proofs.ShortSounds.{did_err, did_ok, known_did}
 use Rattle.editor_imports.proofs.HeadChannels.{all_told, bytes_have, told_has}
 use Rattle.editor_imports.proofs.ImportRefusals.{import_plain, import_refused, import_stopped, inside_short, told_cut}
 use Rattle.editor_imports.proofs.ImportRefusals.{told_short}
+use Rattle.pcm_base.specs.declared.answer.Reply.TheVariants as reply
+use Rattle.pcm_base.specs.declared.command.Command.TheVariants as command
+use Rattle.pcm_base.specs.declared.refusal.Refusal.TheVariants as refusal
 use Rattle.editor_core.proofs.studio.Studio.import.Goals as goal
 
 -- ---- the studio had stopped
@@ -53,9 +48,8 @@ returns-in_err-head-clause-took g c = λ told.
     let name = c.args.name.now in
     let sound = g.V.Vault.holds c.args.vault.now name in
     let call = Line (command.Import name) in
-    let p = err_from_is_err_and c.from_residual.result c.from_residual.ensures.1 in
-    subst (λ r. Took g.S.Store s (with_sound call (left_as sound) (told_by (λ (n : ℕ). reply.Done) r))
-    (record s { block_size = c.find.new.self })) (sym (p.1 ∙ ap Err p.2))
+    after_err (λ r. Took g.S.Store s (with_sound call (left_as sound) (as_reply (λ (n : ℕ). reply.Done) r))
+    (record s { block_size = c.find.new.self })) _ c.from_residual.result c.from_residual.ensures.1
     (subst (λ (m : ℕ). Took g.S.Store s
     (with_sound call (left_as sound) (Err (import_refusal c.in_err-head.field-0.0))) (record s { block_size = m }))
     (sym c.find.ensures.same)
@@ -66,10 +60,9 @@ pub returns-in_err-head-clause-lasts : goal.returns-in_err-head-clause-lasts
 returns-in_err-head-clause-lasts g c = λ sound.
     let s = core_of c.args.self.now in
     let call = Line (command.Import c.args.name.now) in
-    let p = err_from_is_err_and c.from_residual.result c.from_residual.ensures.1 in
     let why = import_refusal c.in_err-head.field-0.0 in
-    subst (λ r. Lasts g.S.Store s (with_sound call sound (told_by (λ (n : ℕ). reply.Done) r))
-    (record s { block_size = c.find.new.self })) (sym (p.1 ∙ ap Err p.2))
+    after_err (λ r. Lasts g.S.Store s (with_sound call sound (as_reply (λ (n : ℕ). reply.Done) r))
+    (record s { block_size = c.find.new.self })) _ c.from_residual.result c.from_residual.ensures.1
     (subst (λ (m : ℕ). Lasts g.S.Store s (with_sound call sound (Err why)) (record s { block_size = m }))
     (sym c.find.ensures.same)
     (lasts_idle g.S.Store s c.requires (g.met.S.Store.may_fewer s.store) call tt sound why
@@ -77,21 +70,20 @@ returns-in_err-head-clause-lasts g c = λ sound.
 
 pub returns-in_err-head-clause-some : goal.returns-in_err-head-clause-some
 returns-in_err-head-clause-some g c =
-    let p = err_from_is_err_and c.from_residual.result c.from_residual.ensures.1 in
-    subst (λ r. IfOk r (λ n. (bytes : List ℕ) × Took g.S.Store (core_of c.args.self.now)
-    (with_sound (Line (command.Import c.args.name.now)) (left_as (Some bytes)) (told_by (λ (n : ℕ). reply.Done) r))
-    (record (core_of c.args.self.now) { block_size = c.find.new.self }))) (sym (p.1 ∙ ap Err p.2)) tt
+    after_err (λ r. IfOk r (λ n. (bytes : List ℕ) × Took g.S.Store (core_of c.args.self.now)
+    (with_sound (Line (command.Import c.args.name.now)) (left_as (Some bytes)) (as_reply (λ (n : ℕ). reply.Done) r))
+    (record (core_of c.args.self.now) { block_size = c.find.new.self }))) _ c.from_residual.result
+    c.from_residual.ensures.1 tt
 
 pub returns-in_err-head-clause-reason : goal.returns-in_err-head-clause-reason
 returns-in_err-head-clause-reason g c =
     let s = core_of c.args.self.now in
     let name = c.args.name.now in
     let call = Line (command.Import name) in
-    let p = err_from_is_err_and c.from_residual.result c.from_residual.ensures.1 in
     let why = c.in_err-head.field-0.0 in
-    subst (λ r. IfErr r (λ e. IsCutShort e ⊎ ((sound : Option (List ℕ)) × Took g.S.Store s
-    (with_sound call (left_as sound) (told_by (λ (n : ℕ). reply.Done) r))
-    (record s { block_size = c.find.new.self })))) (sym (p.1 ∙ ap Err p.2))
+    after_err (λ r. IfErr r (λ e. IsCutShort e ⊎ ((sound : Option (List ℕ)) × Took g.S.Store s
+    (with_sound call (left_as sound) (as_reply (λ (n : ℕ). reply.Done) r))
+    (record s { block_size = c.find.new.self })))) _ c.from_residual.result c.from_residual.ensures.1
     (elim c.in_err-head.ensures.reason [
       | inl cut ↦ inl (told_cut why cut)
       | inr some ↦ inr (
@@ -105,9 +97,8 @@ returns-in_err-head-clause-reason g c =
 
 pub returns-in_err-head-clause-short : goal.returns-in_err-head-clause-short
 returns-in_err-head-clause-short g c = λ want have.
-    let p = err_from_is_err_and c.from_residual.result c.from_residual.ensures.1 in
-    subst (λ r. IfErr r (λ e. e ≡ refusal.BadWav (Truncated want have) → have < want)) (sym (p.1 ∙ ap Err p.2))
-    (told_short c.in_err-head.field-0.0 c.in_err-head.ensures.short want have)
+    after_err (λ r. IfErr r (λ e. e ≡ refusal.BadWav (Truncated want have) → have < want)) _ c.from_residual.result
+    c.from_residual.ensures.1 (told_short c.in_err-head.field-0.0 c.in_err-head.ensures.short want have)
 
 -- ---- its channels are added
 
@@ -132,7 +123,7 @@ returns-clause-took g c = λ told.
     let may = subst (λ (d : Brought). MayBring d by.0) same by.1 in
     subst (λ (m : ℕ). Took g.S.Store (record s { block_size = m })
     (with_sound (Line (command.Import name)) (left_as sound)
-    (told_by (λ (n : ℕ). reply.Done) c.add_channels.result)) (core_of c.add_channels.new.self)) c.find.ensures.same
+    (as_reply (λ (n : ℕ). reply.Done) c.add_channels.result)) (core_of c.add_channels.new.self)) c.find.ensures.same
     (known_did b c.add_channels.result
     (subst (λ (d : Brought). IsTrue d.tells) (sym same)
     (all_told (g.V.Vault.tells old) (g.V.Vault.holds old) name head s.rate found rate told))
@@ -144,7 +135,7 @@ returns-clause-lasts g c = λ sound.
     let s = core_of c.args.self.now in
     subst (λ (m : ℕ). Lasts g.S.Store (record s { block_size = m })
     (with_sound (Line (command.Import c.args.name.now)) sound
-    (told_by (λ (n : ℕ). reply.Done) c.add_channels.result)) (core_of c.add_channels.new.self)) c.find.ensures.same
+    (as_reply (λ (n : ℕ). reply.Done) c.add_channels.result)) (core_of c.add_channels.new.self)) c.find.ensures.same
     (c.add_channels.ensures.lasts sound)
 
 pub returns-clause-some : goal.returns-clause-some
@@ -166,7 +157,7 @@ returns-clause-some g c =
         bytes.0,
         subst (λ (m : ℕ). Took g.S.Store (record s { block_size = m })
             (with_sound (Line (command.Import name)) (left_as (Some bytes.0))
-            (told_by (λ (n : ℕ). reply.Done) c.add_channels.result)) (core_of c.add_channels.new.self))
+            (as_reply (λ (n : ℕ). reply.Done) c.add_channels.result)) (core_of c.add_channels.new.self))
             c.find.ensures.same took,
       )
     ])
@@ -190,7 +181,7 @@ returns-clause-reason g c =
         Some bytes.0,
         subst (λ (m : ℕ). Took g.S.Store (record s { block_size = m })
             (with_sound (Line (command.Import name)) (left_as (Some bytes.0))
-            (told_by (λ (n : ℕ). reply.Done) c.add_channels.result)) (core_of c.add_channels.new.self))
+            (as_reply (λ (n : ℕ). reply.Done) c.add_channels.result)) (core_of c.add_channels.new.self))
             c.find.ensures.same took,
       )
     ])
@@ -201,8 +192,8 @@ returns-clause-short g c = λ want have.
     inside_short (brought_from (g.V.Vault.tells vault) (g.V.Vault.holds vault) c.args.name.now c.in_ok-head.head)
     c.add_channels.result want have c.add_channels.ensures.device
 
-pub returns-clause-sound : goal.returns-clause-sound
-returns-clause-sound g c = λ held.
+pub returns-clause-valid : goal.returns-clause-valid
+returns-clause-valid g c = λ held.
     let s = core_of c.args.self.now in
-    c.add_channels.ensures.sound
+    c.add_channels.ensures.valid
     (subst (λ (m : ℕ). IsHeld g.S.Store (record s { block_size = m })) (sym c.find.ensures.same) held)

@@ -1,25 +1,21 @@
 -- A pin is loaded as it was pinned, in a step that changes nothing.
-use Rattle.std.proofs.Common.{◌∙◌, refl, sym, ap, subst, List, Some, Err, arith}
+use Rattle.std.proofs.Common.{◌∙◌, sym, ap, subst, List, Some, Err, arith}
 use Rattle.std.proofs.lemmas.Result.{err_from_is_err_and}
-use Rattle.pcm_base.specs.declared.answer.Reply.TheVariants as reply
-use Rattle.pcm_base.specs.declared.command.Call.TheVariants.{LoadPin}
-use Rattle.pcm_base.specs.declared.refusal.Refusal.{Refusal}
-use Rattle.pcm_base.specs.declared.refusal.Refusal.TheVariants as refusal
+use Rattle.pcm_base.specs.{declared.command.Call.TheVariants.LoadPin, declared.refusal.Refusal.Refusal}
 use Rattle.sample_block.specs.Sources.{sources_of}
 use Rattle.project_state.specs.Meaning.{meant, point_blocks}
-use Rattle.mixdown.specs.declared.loaded.Loaded.{Loaded}
-use Rattle.mixdown.specs.Loads.{Shows, tracks_in}
-use Rattle.mix_view.specs.declared.loads.LoadFault.{LoadFault}
+use Rattle.mixdown.specs.{declared.loaded.Loaded.Loaded, Loads.Shows, Loads.tracks_in}
+use Rattle.mix_reader.specs.declared.loads.LoadFault.{LoadFault}
 use Rattle.editor_core.specs.Core.{core_of}
-use Rattle.editor_state.specs.declared.pin.Pin.{Pin}
-use Rattle.editor_views.specs.Loads.{Ask, Loads}
-use Rattle.editor_views.specs.Pins.{LacksPin, MayFind}
-use Rattle.editor_state.specs.Studios.{IsHeld}
-use Rattle.mix_view.proofs.HeardLaws.{no_frame}
+use Rattle.editor_state.specs.{declared.pin.Pin.Pin, Studios.IsHeld}
+use Rattle.editor_views.specs.{Loads.Ask, Loads.Loads, Pins.LacksPin, Pins.MayFind}
+use Rattle.mix_reader.proofs.HeardLaws.{no_frame}
 use Rattle.editor_views.proofs.PinLoads.{load_done, load_lacks, load_looks, load_stopped, load_wanting, loaded_many}
-use Rattle.editor_state.proofs.Calls.LookAnswers.{idle_looks, read_looks}
 use Rattle.editor_views.proofs.UnpinSteps.{pin_may_read, pin_named, pin_whole}
+use Rattle.editor_state.proofs.Calls.LookAnswers.{idle_looks, read_looks}
 use Rattle.editor_state.proofs.Blocks.CachePages.{reads_among}
+use Rattle.pcm_base.specs.declared.answer.Reply.TheVariants as reply
+use Rattle.pcm_base.specs.declared.refusal.Refusal.TheVariants as refusal
 use Rattle.editor_core.proofs.studio.Studio.load_pin.Goals as goal
 
 pub returns-in-Some : goal.returns-in-Some
@@ -86,13 +82,13 @@ returns-in-Ok g c =
         found = found;
         count = c.in-Ok.ensures.count;
         len = c.in-Ok.ensures.len;
-        sound = c.in-Ok.ensures.loaded;
+        valid = c.in-Ok.ensures.loaded;
         shows = shows;
       };
       has = record {
         len = c.in-Ok.ensures.len;
         few = omega (arith, c.in-Ok.ensures.count);
-        sound = c.in-Ok.ensures.loaded;
+        valid = c.in-Ok.ensures.loaded;
         silent = no_frame point loaded.gains.items c.args.from c.args.n c.in-Ok.count c.in-Ok.ensures.gains
             c.in-Ok.ensures.count;
       };
@@ -119,7 +115,7 @@ returns-in-Err g c =
       looks = load_looks g.S.Store s c.requires.studio fewer c.args.pin c.args.from c.args.n c.in_default.is point
           found store c.in-Err.ensures.reads.kept cache keeps why c.in-Err.ensures.reads.faults
           c.in-Err.ensures.reads.damaged
-          (λ held. c.in-Err.ensures.sound held.tells
+          (λ held. c.in-Err.ensures.valid held.tells
           (pin_whole g.S.Store s c.requires.studio c.args.pin point found held))
           (λ e. c.load_stretch.ensures.memory (c.in-Err.is ∙ ap Err e));
       loads = tt;

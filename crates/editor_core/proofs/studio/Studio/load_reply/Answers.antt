@@ -1,15 +1,14 @@
 -- What was loaded is the answer.
-use Rattle.std.proofs.Common.{◌∙◌, sym, ap, subst, List, Ok, Err}
-use Rattle.std.proofs.lemmas.Result.{err_from_is_err_and}
-use Rattle.pcm_base.specs.declared.answer.Reply.TheVariants as reply
-use Rattle.pcm_base.specs.declared.command.Call.TheVariants.{LoadPin}
-use Rattle.pcm_base.specs.declared.lists.LoadedTrack.{LoadedTrack}
+use Rattle.std.proofs.Common.{◌∙◌, sym, subst, List, Ok}
+use Rattle.pcm_base.proofs.Exits.{after_err}
+use Rattle.pcm_base.specs.{declared.command.Call.TheVariants.LoadPin, declared.lists.LoadedTrack.LoadedTrack}
 use Rattle.editor_core.specs.Core.{core_of}
 use Rattle.editor_state.specs.Took.{Took, quietly}
+use Rattle.pcm_base.specs.declared.answer.Reply.TheVariants as reply
 use Rattle.editor_core.proofs.studio.Studio.load_reply.Goals as goal
 
 pub tracks_of-requires : goal.tracks_of-requires
-tracks_of-requires g c = c.in_ok-load_pin.ensures.has.sound
+tracks_of-requires g c = c.in_ok-load_pin.ensures.has.valid
 
 pub returns : goal.returns
 returns g c =
@@ -24,8 +23,7 @@ returns-in_err-load_pin g c =
     let s = core_of c.args.self.now in
     let new = core_of c.load_pin.new.self in
     let call = LoadPin c.args.pin c.args.from c.args.count in
-    let p = err_from_is_err_and c.from_residual.result c.from_residual.ensures.1 in
-    subst (λ r. Took g.S.Store s (quietly call r) new) (sym (p.1 ∙ ap Err p.2))
+    after_err (λ r. Took g.S.Store s (quietly call r) new) _ c.from_residual.result c.from_residual.ensures.1
     c.in_err-load_pin.ensures.looks.took
 
 pub returns-in_err-tracks : goal.returns-in_err-tracks
@@ -33,5 +31,5 @@ returns-in_err-tracks g c =
     let s = core_of c.args.self.now in
     let new = core_of c.load_pin.new.self in
     let call = LoadPin c.args.pin c.args.from c.args.count in
-    let p = err_from_is_err_and c.from_residual-in_err-tracks.result c.from_residual-in_err-tracks.ensures.1 in
-    subst (λ r. Took g.S.Store s (quietly call r) new) (sym (p.1 ∙ ap Err p.2)) c.in_ok-load_pin.ensures.wants
+    after_err (λ r. Took g.S.Store s (quietly call r) new) _ c.from_residual-in_err-tracks.result
+    c.from_residual-in_err-tracks.ensures.1 c.in_ok-load_pin.ensures.wants

@@ -1,20 +1,17 @@
 -- All blocks are written, and then they are synced.
-use Rattle.std.proofs.Common.{◌∙◌, sym, ap, subst, Err}
-use Rattle.std.proofs.lemmas.Result.{err_from_is_err_and}
+use Rattle.pcm_base.proofs.Exits.{after_err}
 use Rattle.editor_core.specs.Core.{core_of}
-use Rattle.editor_state.specs.Made.{batch_of}
-use Rattle.editor_state.specs.Makes.{Makes}
+use Rattle.editor_state.specs.{Made.batch_of, Makes.Makes}
 use Rattle.editor_blocks.proofs.BlocksWritten.{makes_both}
 use Rattle.editor_core.proofs.studio.Studio.make_blocks.Goals as goal
 
 pub returns-in_err-write_blocks-clause-made : goal.returns-in_err-write_blocks-clause-made
 returns-in_err-write_blocks-clause-made g c =
-    let e = err_from_is_err_and c.from_residual.result c.from_residual.ensures.1 in
     let by = c.in_err-write_blocks.ensures.written in (
       by.0,
       by.1,
-      subst (λ r. Makes g.S.Store (core_of c.args.self.now) (batch_of by.0 c.args.makes.now) r
-          (core_of c.write_blocks.new.self)) (sym (e.1 ∙ ap Err e.2)) by.2,
+      after_err (λ r. Makes g.S.Store (core_of c.args.self.now) (batch_of by.0 c.args.makes.now) r
+          (core_of c.write_blocks.new.self)) _ c.from_residual.result c.from_residual.ensures.1 by.2,
     )
 
 pub returns-clause-made : goal.returns-clause-made

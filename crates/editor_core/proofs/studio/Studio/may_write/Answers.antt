@@ -1,16 +1,14 @@
 -- The lengths of records that come together.
-use Rattle.std.proofs.Common.{◌≡◌, ◌∙◌, inl, inr, ◌⊎◌, sym, ap, subst, ℕ, Err, IfErr}
-use Rattle.std.proofs.lemmas.Result.{err_from_is_err_and}
+use Rattle.std.proofs.Common.{◌≡◌, inl, inr, ◌⊎◌, sym, subst, ℕ, IfErr}
+use Rattle.pcm_base.proofs.Exits.{after_err}
 use Rattle.pcm_base.specs.declared.refusal.Refusal.{Refusal}
-use Rattle.pcm_base.specs.declared.refusal.Refusal.TheVariants as refusal
-use Rattle.record_body.specs.declared.body.Body.{Body}
-use Rattle.record_body.specs.Kept.{current_tracks}
-use Rattle.record_body.specs.Numbers.{BodyAgrees}
+use Rattle.record_body.specs.{declared.body.Body.Body, Saved.current_tracks, Numbers.BodyAgrees}
 use Rattle.record_body.proofs.Agreeing.{again_agrees}
 use Rattle.editor_state.specs.Adding.{Exceeds, ExceedsBy}
 use Rattle.editor_state.specs.Bodies.{Writing, all_len, whole_len, writing}
 use Rattle.editor_core.specs.Core.{core_of}
 use Rattle.editor_commits.proofs.RecordRows.{rows_total, whole_total}
+use Rattle.pcm_base.specs.declared.refusal.Refusal.TheVariants as refusal
 use Rattle.editor_core.proofs.studio.Studio.may_write.Goals as goal
 
 pub body_size-requires : goal.body_size-requires
@@ -23,7 +21,6 @@ body_size-requires g c =
 
 pub returns-in_err-may_add-clause-err : goal.returns-in_err-may_add-clause-err
 returns-in_err-may_add-clause-err g c =
-    let p = err_from_is_err_and c.from_residual-in_err-may_add.result c.from_residual-in_err-may_add.ensures.1 in
     let s = core_of c.args.self.now in
     let w : Writing = writing c.args.more c.args.body.now in
     let why = c.in_err-may_add.field-0.0 in
@@ -33,12 +30,11 @@ returns-in_err-may_add-clause-err g c =
     c.len_together.ensures.value in
     let over : Exceeds s.journal_end (whole_len s w) why =
     subst (λ (n : ℕ). Exceeds s.journal_end n why) whole c.in_err-may_add.ensures.err in
-    subst (λ r. IfErr r (λ (x : Refusal). (x ≡ refusal.NoMemory) ⊎ ExceedsBy s.journal_end (whole_len s w)
-    (all_len s w) x)) (sym (p.1 ∙ ap Err p.2)) (inr (inl over))
+    after_err (λ r. IfErr r (λ (x : Refusal). (x ≡ refusal.NoMemory) ⊎ ExceedsBy s.journal_end (whole_len s w)
+    (all_len s w) x)) _ c.from_residual-in_err-may_add.result c.from_residual-in_err-may_add.ensures.1 (inr (inl over))
 
 pub returns-in_err-may_add-2-clause-err : goal.returns-in_err-may_add-2-clause-err
 returns-in_err-may_add-2-clause-err g c =
-    let p = err_from_is_err_and c.from_residual-in_err-may_add-2.result c.from_residual-in_err-may_add-2.ensures.1 in
     let s = core_of c.args.self.now in
     let w : Writing = writing c.args.more c.args.body.now in
     let why = c.in_err-may_add-2.field-0.0 in
@@ -48,8 +44,9 @@ returns-in_err-may_add-2-clause-err g c =
     c.body_size-2.ensures.value c.len_together-len.ensures.value in
     let over : Exceeds s.journal_end (all_len s w) why =
     subst (λ (n : ℕ). Exceeds s.journal_end n why) all c.in_err-may_add-2.ensures.err in
-    subst (λ r. IfErr r (λ (x : Refusal). (x ≡ refusal.NoMemory) ⊎ ExceedsBy s.journal_end (whole_len s w)
-    (all_len s w) x)) (sym (p.1 ∙ ap Err p.2)) (inr (inr over))
+    after_err (λ r. IfErr r (λ (x : Refusal). (x ≡ refusal.NoMemory) ⊎ ExceedsBy s.journal_end (whole_len s w)
+    (all_len s w) x)) _ c.from_residual-in_err-may_add-2.result c.from_residual-in_err-may_add-2.ensures.1
+    (inr (inr over))
 
 pub returns-clause-value : goal.returns-clause-value
 returns-clause-value g c =

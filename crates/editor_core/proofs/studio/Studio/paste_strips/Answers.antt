@@ -1,17 +1,14 @@
 -- A paste is a step.
-use Rattle.std.proofs.Common.{◌∙◌, sym, ap, subst, ℕ, IfErr, Err}
-use Rattle.std.proofs.lemmas.Result.{err_from_is_err_and}
-use Rattle.pcm_base.specs.declared.answer.Reply.TheVariants.{Done}
-use Rattle.pcm_base.specs.declared.command.Call.TheVariants.{Line}
-use Rattle.pcm_base.specs.Shape.{paste_line}
+use Rattle.std.proofs.Common.{ℕ, IfErr}
+use Rattle.pcm_base.proofs.Exits.{after_err}
+use Rattle.pcm_base.specs.{declared.answer.Reply.TheVariants.Done, declared.command.Call.TheVariants.Line}
+use Rattle.pcm_base.specs.{Shape.paste_line}
 use Rattle.envelope_view.specs.Answers.{IsUndamaged}
-use Rattle.piece_store.specs.declared.given.Given.TheVariants.{Nothing}
-use Rattle.piece_store.specs.Bringing.{brought, brought_by}
+use Rattle.block_writer.specs.{declared.given.Given.TheVariants.Nothing, Bringing.brought, Bringing.brought_by}
 use Rattle.editor_core.specs.Core.{core_of}
-use Rattle.editor_state.specs.Took.{Took, quietly, silent, told_by, with_sound}
-use Rattle.editor_tracks.proofs.PasteLaws.{no_paste_tells}
-use Rattle.editor_tracks.proofs.PasteRefusals.{paste_refused, paste_stopped}
-use Rattle.editor_tracks.proofs.PasteSteps.{paste_edit, paste_planned}
+use Rattle.editor_state.specs.Took.{Took, quietly, silent, as_reply, with_sound}
+use Rattle.editor_tracks.proofs.{PasteLaws.no_paste_tells, PasteRefusals.paste_refused, PasteRefusals.paste_stopped}
+use Rattle.editor_tracks.proofs.{PasteSteps.paste_edit, PasteSteps.paste_planned}
 use Rattle.editor_edits.proofs.KnownSamples.{known_took, planned_any}
 use Rattle.editor_core.proofs.studio.Studio.paste_strips.Goals as goal
 
@@ -25,17 +22,16 @@ pub returns-in_err-planned-clause-took : goal.returns-in_err-planned-clause-took
 returns-in_err-planned-clause-took g c =
     let s = core_of c.args.self.now in
     let call = Line (paste_line c.args.placing c.args.track c.args.at) in
-    let r = err_from_is_err_and c.from_residual.result c.from_residual.ensures.1 in
     let why = c.in_err-planned.field-0.0 in
-    subst (λ x. Took g.S.Store s (quietly call (told_by (λ (n : ℕ). Done) x)) s) (sym (r.1 ∙ ap Err r.2))
+    after_err (λ x. Took g.S.Store s (quietly call (as_reply (λ (n : ℕ). Done) x)) s) _ c.from_residual.result
+    c.from_residual.ensures.1
     (paste_refused g.S.Store s c.requires.studio c.args.placing c.args.track c.args.at why
     (g.met.S.Store.may_fewer s.store) c.in_default.is c.in_err-planned.ensures.err)
 
-pub returns-in_err-planned-clause-sound : goal.returns-in_err-planned-clause-sound
-returns-in_err-planned-clause-sound g c = λ held.
+pub returns-in_err-planned-clause-valid : goal.returns-in_err-planned-clause-valid
+returns-in_err-planned-clause-valid g c = λ held.
     let s = core_of c.args.self.now in
-    let r = err_from_is_err_and c.from_residual.result c.from_residual.ensures.1 in
-    subst (λ x. IfErr x IsUndamaged) (sym (r.1 ∙ ap Err r.2))
+    after_err (λ x. IfErr x IsUndamaged) _ c.from_residual.result c.from_residual.ensures.1
     (no_paste_tells c.args.placing c.args.track c.args.at s c.in_err-planned.field-0.0 c.in_err-planned.ensures.err)
 
 pub carry_out-requires-clause-planned : goal.carry_out-requires-clause-planned
@@ -55,7 +51,7 @@ returns-clause-took g c =
     let call = Line (paste_line c.args.placing c.args.track c.args.at) in
     let planned = c.in_ok-planned.ensures in
     known_took g.S.Store s c.in_ok-planned.planned 0 0 Nothing c.carry_out.result
-    (λ call sound. Took g.S.Store s (with_sound call sound (told_by (λ (n : ℕ). Done) c.carry_out.result))
+    (λ call sound. Took g.S.Store s (with_sound call sound (as_reply (λ (n : ℕ). Done) c.carry_out.result))
     (core_of c.carry_out.new.self)) c.carry_out.ensures.took c.carry_out.ensures.device call silent
     (paste_edit g.S.Store s c.requires.studio c.args.placing c.args.track c.args.at c.in_ok-planned.planned planned.plan
     planned.tracks planned.clip planned.layouts)

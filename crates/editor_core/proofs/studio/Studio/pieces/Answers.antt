@@ -1,17 +1,12 @@
 -- Pieces of a recording, or the first of them alone, are a step.
 use Rattle.std.proofs.Common.{◌≡◌, refl, sym, subst, ℕ, ℤ, false, IfErr, IsErr, List, length, take, Result, Ok, Err}
 use Rattle.std.proofs.Common.{arith}
-use Rattle.std.proofs.lemmas.Bool.{true≢false}
-use Rattle.std.proofs.lemmas.List.{length-take, take_all}
-use Rattle.pcm_base.specs.declared.answer.Reply.TheVariants.{Done}
-use Rattle.pcm_base.specs.declared.command.Call.TheVariants.{Piece}
-use Rattle.pcm_base.specs.declared.refusal.Refusal.{Refusal}
-use Rattle.editor_state.specs.Core.{Core}
+use Rattle.std.proofs.{lemmas.Bool.true≢false, lemmas.List.length-take, lemmas.List.take_all}
+use Rattle.pcm_base.specs.{declared.answer.Reply.TheVariants.Done, declared.command.Call.TheVariants.Piece}
+use Rattle.pcm_base.specs.{declared.refusal.Refusal.Refusal}
+use Rattle.editor_state.specs.Took.{Took, quietly, as_reply}
+use Rattle.editor_state.specs.{Core.Core, Edits.IsStill, Exchanges.may_begin, Studios.IsHeld}
 use Rattle.editor_core.specs.Core.{core_of}
-use Rattle.editor_state.specs.Edits.{IsStill}
-use Rattle.editor_state.specs.Exchanges.{may_begin}
-use Rattle.editor_state.specs.Studios.{IsHeld}
-use Rattle.editor_state.specs.Took.{Took, quietly, told_by}
 use Rattle.editor_core.proofs.studio.Studio.pieces.Goals as goal
 
 -- what a test refused has left the studio as it was
@@ -33,23 +28,23 @@ returns-then-is_idle-clause-took g c =
     let same = idle_same s (core_of c.piece-what.new.self) c.piece-what.result (c.if-is_idle.ensures refl)
     c.piece-what.ensures.still in
     let call = Piece c.args.track c.args.tag (take 256 c.args.samples.now) in
-    let told = told_by (λ (n : ℕ). Done) c.piece-what-then-is_idle.result in
+    let told = as_reply (λ (n : ℕ). Done) c.piece-what-then-is_idle.result in
     subst (λ (z : Core g.row.S.Denot). Took g.S.Store z (quietly call told)
     (core_of c.piece-what-then-is_idle.new.self))
     same c.piece-what-then-is_idle.ensures.took
 
-pub returns-then-is_idle-clause-sound : goal.returns-then-is_idle-clause-sound
-returns-then-is_idle-clause-sound g c = λ held.
+pub returns-then-is_idle-clause-valid : goal.returns-then-is_idle-clause-valid
+returns-then-is_idle-clause-valid g c = λ held.
     let s = core_of c.args.self.now in
     let same = idle_same s (core_of c.piece-what.new.self) c.piece-what.result (c.if-is_idle.ensures refl)
     c.piece-what.ensures.still in
-    c.piece-what-then-is_idle.ensures.sound (subst (λ (z : Core g.row.S.Denot). IsHeld g.S.Store z) (sym same) held)
+    c.piece-what-then-is_idle.ensures.valid (subst (λ (z : Core g.row.S.Denot). IsHeld g.S.Store z) (sym same) held)
 
 pub returns-clause-took : goal.returns-clause-took
 returns-clause-took g c =
     let s = core_of c.args.self.now in
     let xs = c.args.samples.now in
-    let told = told_by (λ (n : ℕ). Done) c.piece-what.result in
+    let told = as_reply (λ (n : ℕ). Done) c.piece-what.result in
     subst (λ (z : List ℤ). Took g.S.Store s (quietly (Piece c.args.track c.args.tag z) told)
     (core_of c.piece-what.new.self))
     (sym (take_all (length xs) xs (omega arith))) c.piece-what.ensures.took

@@ -1,25 +1,23 @@
 -- A pin is a step.
 use Rattle.std.proofs.Common.{◌≡◌, sym, ap, ◌∙◌, subst, ℕ, ◌+◌, ◌-◌, ◌<◌, ◌^◌, List, length, Err, Ok, arith}
-use Rattle.std.specs.Prelude.{IfErr}
 use Rattle.std.proofs.lemmas.Result.{err_from_is_err_and}
-use Rattle.pcm_base.specs.declared.answer.Reply.TheVariants as reply
-use Rattle.pcm_base.specs.declared.command.Call.TheVariants as call
-use Rattle.block_ledger.specs.Entries.{Kept, count_of}
+use Rattle.std.specs.Prelude.{IfErr}
+use Rattle.pcm_base.proofs.Exits.{after_err}
+use Rattle.block_ledger.specs.Entries.{LedgerState, count_of}
 use Rattle.undo_history.specs.Stored.{Stored}
 use Rattle.envelope_view.specs.Answers.{IsUndamaged}
-use Rattle.project_state.specs.declared.track.Track.{Track}
-use Rattle.record_body.specs.Kept.{current_tracks}
-use Rattle.project_state.specs.Meaning.{point_blocks}
-use Rattle.editor_state.specs.Core.{Core}
+use Rattle.project_state.specs.{declared.track.Track.Track, Meaning.point_blocks}
+use Rattle.record_body.specs.Saved.{current_tracks}
+use Rattle.editor_state.specs.{Core.Core, Occurrences.HasIds, Took.Took, Took.quietly, Took.as_reply}
 use Rattle.editor_core.specs.Core.{core_of}
 use Rattle.layout_uses.specs.Tallies.{Comes}
-use Rattle.editor_state.specs.Occurrences.{HasIds}
 use Rattle.editor_views.specs.Pins.{AnswersPin}
-use Rattle.editor_state.specs.Took.{Took, quietly, told_by}
 use Rattle.editor_state.proofs.Blocks.BlockNumbers.{named_there, few_more}
-use Rattle.editor_commits.proofs.CurrentProject.{current_sound, old_names}
+use Rattle.editor_commits.proofs.CurrentProject.{current_valid, old_names}
 use Rattle.editor_views.proofs.PinSteps.{pinned, pin_spent, pin_stopped, pin_wanting}
 use Rattle.layout_uses.proofs.Times.{Few}
+use Rattle.pcm_base.specs.declared.answer.Reply.TheVariants as reply
+use Rattle.pcm_base.specs.declared.command.Call.TheVariants as call
 use Rattle.editor_core.proofs.studio.Studio.pin.Goals as goal
 
 pub returns-in-Some-clause-took : goal.returns-in-Some-clause-took
@@ -37,15 +35,14 @@ returns-in_err-add_pin-clause-took g c =
     let e = err_from_is_err_and c.from_residual.result c.from_residual.ensures.1 in
     let s = core_of c.args.self.now in
     let mid = core_of c.add_pin.new.self in
-    subst (λ r. Took g.S.Store s (quietly call.Pin (told_by reply.Pinned r)) mid)
+    subst (λ r. Took g.S.Store s (quietly call.Pin (as_reply reply.Pinned r)) mid)
     (sym (e.1 ∙ ap Err (e.2 ∙ c.in_err-add_pin.ensures.memory)))
     (pin_wanting g.S.Store s c.requires (g.met.S.Store.may_fewer s.store) mid c.in_err-add_pin.ensures.err)
 
 pub returns-in_err-add_pin-clause-pinned : goal.returns-in_err-add_pin-clause-pinned
 returns-in_err-add_pin-clause-pinned g c =
-    let e = err_from_is_err_and c.from_residual.result c.from_residual.ensures.1 in
-    subst (λ r. AnswersPin (core_of c.args.self.now) r (core_of c.add_pin.new.self))
-    (sym (e.1 ∙ ap Err e.2)) c.in_err-add_pin.ensures.err
+    after_err (λ r. AnswersPin (core_of c.args.self.now) r (core_of c.add_pin.new.self)) _ c.from_residual.result
+    c.from_residual.ensures.1 c.in_err-add_pin.ensures.err
 
 -- the studio after the pin was added, whose uses may have more room
 same_history : (a b : Stored (List Track)) → a ≡ b → current_tracks a.history ≡ current_tracks b.history
@@ -59,7 +56,7 @@ use_current-requires-clause-room g c =
       arith,
       c.in_ok-add_pin.ensures.uses,
       ap (λ (ts : List Track). length ts) was,
-      (current_sound g.S.Store s c.requires).few,
+      (current_valid g.S.Store s c.requires).few,
     )
 
 pub use_current-requires-clause-there : goal.use_current-requires-clause-there
@@ -68,19 +65,17 @@ use_current-requires-clause-there g c =
     let was = same_history c.add_pin.new.self.history c.args.self.now.history c.in_ok-add_pin.ensures.history in
     let base : HasIds s.counts (point_blocks (current_tracks s.history)) = named_there g.S.Store s c.requires
     (point_blocks (current_tracks s.history)) (old_names g.S.Store s c.requires) in
-    subst (λ (l : Kept). HasIds (count_of l) (point_blocks (current_tracks c.add_pin.new.self.history.history)))
-    (sym c.in_ok-add_pin.ensures.ledger)
-    (subst (λ (ts : List Track). HasIds s.counts (point_blocks ts)) (sym was) base)
+    subst (λ (l : LedgerState). HasIds (count_of l) (point_blocks (current_tracks c.add_pin.new.self.history.history)))
+    (sym c.in_ok-add_pin.ensures.ledger) (subst (λ (ts : List Track). HasIds s.counts (point_blocks ts)) (sym was) base)
 
 pub use_current-requires-clause-few : goal.use_current-requires-clause-few
 use_current-requires-clause-few g c =
     let s = core_of c.args.self.now in
     let was = same_history c.add_pin.new.self.history c.args.self.now.history c.in_ok-add_pin.ensures.history in
     let base : Few s.counts (point_blocks (current_tracks s.history)) = few_more g.S.Store s c.requires
-    (current_tracks s.history) s.next_track (current_sound g.S.Store s c.requires) in
-    subst (λ (l : Kept). Few (count_of l) (point_blocks (current_tracks c.add_pin.new.self.history.history)))
-    (sym c.in_ok-add_pin.ensures.ledger)
-    (subst (λ (ts : List Track). Few s.counts (point_blocks ts)) (sym was) base)
+    (current_tracks s.history) s.next_track (current_valid g.S.Store s c.requires) in
+    subst (λ (l : LedgerState). Few (count_of l) (point_blocks (current_tracks c.add_pin.new.self.history.history)))
+    (sym c.in_ok-add_pin.ensures.ledger) (subst (λ (ts : List Track). Few s.counts (point_blocks ts)) (sym was) base)
 
 pub returns-clause-took : goal.returns-clause-took
 returns-clause-took g c =

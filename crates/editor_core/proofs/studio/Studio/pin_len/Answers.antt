@@ -1,17 +1,15 @@
 -- Looking how long a pin is changes nothing.
 use Rattle.std.proofs.Common.{◌∙◌, sym, ap, subst, List, Err, Some}
-use Rattle.std.specs.Prelude.{IfErr}
 use Rattle.std.proofs.lemmas.Result.{err_from_is_err_and}
-use Rattle.pcm_base.specs.declared.answer.Reply.TheVariants as reply
+use Rattle.std.specs.Prelude.{IfErr}
 use Rattle.pcm_base.specs.declared.command.Call.TheVariants.{PinLen}
 use Rattle.sample_block.specs.Sources.{sources_of}
 use Rattle.envelope_view.specs.Answers.{IsUndamaged}
-use Rattle.editor_state.specs.Adding.{IsNoWant}
+use Rattle.editor_state.specs.{Adding.IsNoWant, declared.pin.Pin.Pin, Took.Took, Took.quietly, Took.as_reply}
 use Rattle.editor_core.specs.Core.{core_of}
-use Rattle.editor_state.specs.declared.pin.Pin.{Pin}
 use Rattle.editor_views.specs.Pins.{LacksPin, MayFind}
-use Rattle.editor_state.specs.Took.{Took, quietly, told_by}
 use Rattle.editor_views.proofs.MixViews.{len_stopped, len_lacks, measured}
+use Rattle.pcm_base.specs.declared.answer.Reply.TheVariants as reply
 use Rattle.editor_core.proofs.studio.Studio.pin_len.Goals as goal
 
 pub returns-in-Some-clause-took : goal.returns-in-Some-clause-took
@@ -19,19 +17,18 @@ returns-in-Some-clause-took g c =
     let s = core_of c.args.self.now in
     len_stopped g.S.Store s c.requires (g.met.S.Store.may_fewer s.store) c.args.pin c.in-Some.faults c.in-Some.is
 
-pub returns-in_err-point-clause-took : goal.returns-in_err-point-clause-took
-returns-in_err-point-clause-took g c =
-    let p = err_from_is_err_and c.from_residual.result c.from_residual.ensures.1 in
-    let s = core_of c.args.self.now in
-    subst (λ r. Took g.S.Store s (quietly (PinLen c.args.pin) (told_by reply.Length r)) s)
-    (sym (p.1 ∙ ap Err (p.2 ∙ c.in_err-point.ensures.0)))
-    (len_lacks g.S.Store s c.requires (g.met.S.Store.may_fewer s.store) c.args.pin c.in_default.is
-    (subst (LacksPin c.args.pin) c.deref.ensures.value c.in_err-point.ensures.1))
-
-pub returns-in_err-point-clause-memory : goal.returns-in_err-point-clause-memory
-returns-in_err-point-clause-memory g c =
-    let p = err_from_is_err_and c.from_residual.result c.from_residual.ensures.1 in
-    subst (λ r. IfErr r IsNoWant) (sym (p.1 ∙ ap Err (p.2 ∙ c.in_err-point.ensures.0))) tt
+pub returns-in_err-point : goal.returns-in_err-point
+returns-in_err-point g c =
+    let p = err_from_is_err_and c.from_residual.result c.from_residual.ensures.1 in record {
+      took =
+          let s = core_of c.args.self.now in
+          subst (λ r. Took g.S.Store s (quietly (PinLen c.args.pin) (as_reply reply.Length r)) s)
+          (sym (p.1 ∙ ap Err (p.2 ∙ c.in_err-point.ensures.0)))
+          (len_lacks g.S.Store s c.requires (g.met.S.Store.may_fewer s.store) c.args.pin c.in_default.is
+          (subst (LacksPin c.args.pin) c.deref.ensures.value c.in_err-point.ensures.1));
+      memory = subst (λ r. IfErr r IsNoWant) (sym (p.1 ∙ ap Err (p.2 ∙ c.in_err-point.ensures.0))) tt;
+      undamaged = subst (λ r. IfErr r IsUndamaged) (sym (p.1 ∙ ap Err (p.2 ∙ c.in_err-point.ensures.0))) tt;
+    }
 
 pub returns-clause-took : goal.returns-clause-took
 returns-clause-took g c =
@@ -40,8 +37,3 @@ returns-clause-took g c =
     measured g.S.Store s c.requires (g.met.S.Store.may_fewer s.store) c.args.pin c.in_default.is point c.mix_len.result
     (subst (λ (ps : List Pin). MayFind ps c.args.pin (Some point)) c.deref.ensures.value c.in_ok-point.ensures)
     (c.mix_len.ensures.frames (sources_of (g.S.Store.reads s.store)))
-
-pub returns-in_err-point-clause-undamaged : goal.returns-in_err-point-clause-undamaged
-returns-in_err-point-clause-undamaged g c =
-    let p = err_from_is_err_and c.from_residual.result c.from_residual.ensures.1 in
-    subst (λ r. IfErr r IsUndamaged) (sym (p.1 ∙ ap Err (p.2 ∙ c.in_err-point.ensures.0))) tt

@@ -3,12 +3,12 @@ use Rattle.std.proofs.Common.{◌≡◌, ◌∙◌, sym, ap, subst, ℕ, ◌≤�
 use Rattle.clip_track.specs.declared.clips.Clip.{Clip}
 use Rattle.edit_ops.specs.Runs.{AllTracksHalfFull, layouts}
 use Rattle.project_state.specs.Tracks.{track_of}
-use Rattle.record_body.specs.Kept.{current_tracks}
+use Rattle.record_body.specs.Saved.{current_tracks}
 use Rattle.editor_tracks.specs.Copies.{run_of}
 use Rattle.editor_core.specs.Core.{core_of}
 use Rattle.editor_tracks.proofs.CutLaws.{cuts_few, run_half_full}
-use Rattle.editor_core.proofs.studio.Studio.planned_cut.Goals as goal
 use Rattle.pcm_base.specs.Edits.{removed}
+use Rattle.editor_core.proofs.studio.Studio.planned_cut.Goals as goal
 
 pub cut_range-requires : goal.cut_range-requires
 cut_range-requires g c =

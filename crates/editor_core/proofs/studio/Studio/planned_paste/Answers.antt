@@ -1,17 +1,14 @@
 -- The tracks of the run are half full, and each has at most one plan.
 use Rattle.std.proofs.Common.{◌≡◌, ◌∙◌, sym, ap, subst, ℕ, ◌≤◌, length, List, Some}
-use Rattle.clip_track.specs.declared.clips.Clip.{Clip}
-use Rattle.clip_track.specs.declared.items.Item.{Item}
-use Rattle.edit_ops.specs.Placing.{SumsFit}
-use Rattle.edit_ops.specs.Runs.{AllTracksHalfFull, layouts}
+use Rattle.clip_track.specs.{declared.clips.Clip.Clip, declared.items.Item.Item}
+use Rattle.edit_ops.specs.{Placing.SumsFit, Runs.AllTracksHalfFull, Runs.layouts}
 use Rattle.project_state.specs.Tracks.{track_of}
-use Rattle.record_body.specs.Kept.{current_tracks}
+use Rattle.record_body.specs.Saved.{current_tracks}
 use Rattle.editor_tracks.specs.Copies.{run_of}
 use Rattle.editor_core.specs.Core.{core_of}
-use Rattle.editor_tracks.proofs.CutLaws.{run_half_full}
-use Rattle.editor_tracks.proofs.PasteLaws.{pastes_few, sums_fit}
-use Rattle.editor_core.proofs.studio.Studio.planned_paste.Goals as goal
+use Rattle.editor_tracks.proofs.{CutLaws.run_half_full, PasteLaws.pastes_few, PasteLaws.sums_fit}
 use Rattle.pcm_base.specs.Edits.{placed}
+use Rattle.editor_core.proofs.studio.Studio.planned_paste.Goals as goal
 
 pub paste-requires-clause-half_full : goal.paste-requires-clause-half_full
 paste-requires-clause-half_full g c =

@@ -1,17 +1,14 @@
--- The track is sound, and its new layout is planned.
-use Rattle.std.proofs.Common.{◌≡◌, ◌∙◌, inr, refl, sym, ap, subst, ℕ, ◌≤◌, List, length, Some, None, IfErr, Err, arith}
-use Rattle.std.proofs.lemmas.Result.{err_from_is_err_and}
-use Rattle.pcm_base.specs.declared.sound.Cell.{Cell}
-use Rattle.pcm_base.specs.Counters.{blocks_of_edit}
-use Rattle.pcm_base.specs.Edits.{range_of}
+-- The track is valid, and its new layout is planned.
+use Rattle.std.proofs.Common.{◌≡◌, ◌∙◌, inr, refl, sym, ap, subst, ℕ, ◌≤◌, List, length, Some, None, IfErr, arith}
+use Rattle.pcm_base.proofs.Exits.{after_err}
+use Rattle.pcm_base.specs.{declared.sound.Cell.Cell, Counters.blocks_of_edit, Edits.range_of}
 use Rattle.clip_track.specs.Clips.{AllHalfFull, layout_blocks, layout_cells}
 use Rattle.edit_ops.specs.Plans.{IsPlan}
 use Rattle.project_state.specs.Tracks.{track_of}
-use Rattle.record_body.specs.Kept.{current_tracks}
+use Rattle.record_body.specs.Saved.{current_tracks}
 use Rattle.editor_core.specs.Core.{core_of}
 use Rattle.editor_state.specs.Points.{put_in}
-use Rattle.editor_tracks.specs.Ranges.{range_edit}
-use Rattle.editor_tracks.specs.TrackEdits.{NoTrackPlan, with_layout}
+use Rattle.editor_tracks.specs.{Ranges.range_edit, TrackEdits.NoTrackPlan, TrackEdits.with_layout}
 use Rattle.editor_tracks.proofs.RangeLaws.{part_range}
 use Rattle.editor_tracks.proofs.TrackPlans.{current_track, no_such_track, test_fails}
 use Rattle.editor_core.proofs.studio.Studio.planned_range.Goals as goal
@@ -34,10 +31,9 @@ returns-in_err-old-clause-err g c =
     let s = core_of c.args.self.now in
     let old = current_tracks s.history in
     let e = range_edit c.args.edit c.args.from c.args.to in
-    let r = err_from_is_err_and c.from_residual.result c.from_residual.ensures.1 in
     let not = c.in_err-old.ensures in
     let none : track_of c.args.track old ≡ None = ap (track_of c.args.track) (sym c.current-project.ensures) ∙ not.1 in
-    subst (λ x. IfErr x (NoTrackPlan e c.args.track old)) (sym (r.1 ∙ ap Err r.2))
+    after_err (λ x. IfErr x (NoTrackPlan e c.args.track old)) _ c.from_residual.result c.from_residual.ensures.1
     (no_such_track e c.args.track old c.in_err-old.field-0.0 not.0 none)
 
 pub returns-in_err-plan-clause-err : goal.returns-in_err-plan-clause-err
@@ -46,18 +42,18 @@ returns-in_err-plan-clause-err g c =
     let old = current_tracks s.history in
     let e = range_edit c.args.edit c.args.from c.args.to in
     let t = c.in_ok-old.old.now in
-    let r = err_from_is_err_and c.from_residual-in_err-plan.result c.from_residual-in_err-plan.ensures.1 in
     let found : track_of c.args.track old ≡ Some t =
     ap (track_of c.args.track) (sym c.current-project.ensures) ∙ c.in_ok-old.ensures in
-    subst (λ x. IfErr x (NoTrackPlan e c.args.track old)) (sym (r.1 ∙ ap Err r.2))
+    after_err (λ x. IfErr x (NoTrackPlan e c.args.track old)) _ c.from_residual-in_err-plan.result
+    c.from_residual-in_err-plan.ensures.1
     (test_fails e c.args.track old t c.in_err-plan.field-0.0 found c.in_err-plan.ensures.tests)
 
 pub returns-in_err-planned-clause-err : goal.returns-in_err-planned-clause-err
 returns-in_err-planned-clause-err g c =
     let s = core_of c.args.self.now in
     let e = range_edit c.args.edit c.args.from c.args.to in
-    let r = err_from_is_err_and c.from_residual-in_err-planned.result c.from_residual-in_err-planned.ensures.1 in
-    subst (λ x. IfErr x (NoTrackPlan e c.args.track (current_tracks s.history))) (sym (r.1 ∙ ap Err r.2)) (inr refl)
+    after_err (λ x. IfErr x (NoTrackPlan e c.args.track (current_tracks s.history))) _
+    c.from_residual-in_err-planned.result c.from_residual-in_err-planned.ensures.1 (inr refl)
 
 pub returns-clause-plan : goal.returns-clause-plan
 returns-clause-plan g c =

@@ -1,17 +1,13 @@
 -- Room in memory leaves the current point as it was. The numbers of layouts, or the records, refuse what is to be
 -- prepared.
-use Rattle.std.proofs.Common.{◌∙◌, ℕ, inl, inr, ⊎_elim, ap, subst, sym, ◌+◌, Err, IfErr}
-use Rattle.std.proofs.lemmas.Result.{err_from_is_err_and}
-use Rattle.pcm_base.specs.Counters.{record_test}
-use Rattle.pcm_base.specs.Refusals.{◌otherwise◌}
-use Rattle.editor_state.specs.Adding.{Undrawn}
+use Rattle.std.proofs.Common.{ℕ, inl, inr, ⊎_elim, subst, sym, ◌+◌, IfErr}
+use Rattle.pcm_base.proofs.Exits.{after_err}
+use Rattle.pcm_base.specs.{Counters.record_test, Refusals.◌otherwise◌}
 use Rattle.editor_state.specs.Bodies.{Writing, all_len, whole_len, writing}
-use Rattle.editor_state.specs.Edits.{NotPrepared}
+use Rattle.editor_state.specs.{Adding.Undrawn, Edits.NotPrepared, Core.Core}
 use Rattle.editor_state.proofs.Refusals.CommitTests.{outgrows}
-use Rattle.record_body.specs.Kept.{current_tracks}
+use Rattle.record_body.specs.{Saved.current_tracks, Numbers.BodyAgrees}
 use Rattle.project_state.specs.Numbers.{AgreeById}
-use Rattle.record_body.specs.Numbers.{BodyAgrees}
-use Rattle.editor_state.specs.Core.{Core}
 use Rattle.editor_core.specs.Core.{core_of}
 use Rattle.editor_core.proofs.studio.Studio.prepare.Goals as goal
 
@@ -28,15 +24,14 @@ write_records-requires-clause-again g c =
 -- numbers of layouts are not left
 pub returns-in_err-may_draw-clause-err : goal.returns-in_err-may_draw-clause-err
 returns-in_err-may_draw-clause-err g c =
-    let p = err_from_is_err_and c.from_residual-in_err-may_draw.result c.from_residual-in_err-may_draw.ensures.1 in
     let s = core_of c.args.self.now in
     let w : Writing = writing c.args.more c.args.body.now in
     let why = c.in_err-may_draw.field-0.0 in
     let lacks : Undrawn s.journal_end s.next_layout c.args.layouts (whole_len s w) why =
     subst (λ (n : ℕ). Undrawn s.journal_end s.next_layout c.args.layouts n why) c.in_ok-whole.ensures.value
     c.in_err-may_draw.ensures.err in
-    subst (λ r. IfErr r (NotPrepared s c.args.blocks c.args.tracks c.args.layouts (c.args.more + 1) (whole_len s w)
-    (all_len s w))) (sym (p.1 ∙ ap Err p.2))
+    after_err (λ r. IfErr r (NotPrepared s c.args.blocks c.args.tracks c.args.layouts (c.args.more + 1) (whole_len s w)
+    (all_len s w))) _ c.from_residual-in_err-may_draw.result c.from_residual-in_err-may_draw.ensures.1
     (inr (inr (
       c.in_ok-may_make.ensures.blocks,
       c.in_ok-may_make.ensures.ids,
@@ -47,13 +42,12 @@ returns-in_err-may_draw-clause-err g c =
 -- the journal has no places for the records, or they are too long
 pub returns-in_err-may_write-clause-err : goal.returns-in_err-may_write-clause-err
 returns-in_err-may_write-clause-err g c =
-    let p = err_from_is_err_and c.from_residual-in_err-may_write.result c.from_residual-in_err-may_write.ensures.1 in
     let s = core_of c.args.self.now in
     let w : Writing = writing c.args.more c.args.body.now in
     let why = c.in_err-may_write.field-0.0 in
     let room = c.in_ok-may_draw.ensures.ok in
-    subst (λ r. IfErr r (NotPrepared s c.args.blocks c.args.tracks c.args.layouts (c.args.more + 1) (whole_len s w)
-    (all_len s w))) (sym (p.1 ∙ ap Err p.2))
+    after_err (λ r. IfErr r (NotPrepared s c.args.blocks c.args.tracks c.args.layouts (c.args.more + 1) (whole_len s w)
+    (all_len s w))) _ c.from_residual-in_err-may_write.result c.from_residual-in_err-may_write.ensures.1
     (⊎_elim
     (λ memory. inl memory)
     (λ over. inr (inr (

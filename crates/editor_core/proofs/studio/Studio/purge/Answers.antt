@@ -1,53 +1,42 @@
 -- A purge is a step.
 use Rattle.std.proofs.Common.{◌≡◌, ◌∙◌, refl, sym, ap, subst, ℕ, ◌≤◌, [], ◌∷◌, length, Err, arith, Some, IfErr, IfOk}
 use Rattle.std.proofs.Common.{List, nat_lt, nat_le, ◌&&◌, not}
-use Rattle.std.proofs.lemmas.Result.{err_from_is_err_and}
-use Rattle.pcm_base.specs.declared.answer.Reply.TheVariants.{Done}
-use Rattle.pcm_base.specs.declared.command.Call.TheVariants.{Line}
-use Rattle.pcm_base.specs.declared.command.Command.TheVariants as command
-use Rattle.pcm_base.specs.declared.refusal.Refusal.{Refusal}
-use Rattle.pcm_base.specs.declared.refusal.Refusal.TheVariants.{BadRange}
-use Rattle.pcm_base.specs.History.{History, purged}
-use Rattle.pcm_base.specs.Refusals.{bad_range}
+use Rattle.pcm_base.proofs.Exits.{after_err}
+use Rattle.pcm_base.specs.{declared.answer.Reply.TheVariants.Done, declared.command.Call.TheVariants.Line}
+use Rattle.pcm_base.specs.{declared.refusal.Refusal.Refusal, declared.refusal.Refusal.TheVariants.BadRange}
+use Rattle.pcm_base.specs.{History.History, History.purged, Refusals.bad_range}
 use Rattle.block_ledger.specs.Entries.{count_of}
 use Rattle.envelope_view.specs.Answers.{IsUndamaged}
-use Rattle.record_body.specs.declared.body.Body.TheVariants.{Purge}
+use Rattle.record_body.specs.{declared.body.Body.TheVariants.Purge, Spelling.spelling}
 use Rattle.project_state.specs.declared.track.Track.{Track}
-use Rattle.record_body.specs.Spelling.{spelling}
-use Rattle.editor_state.specs.Adding.{Adds, IsNoWant}
-use Rattle.editor_state.specs.Bodies.{single}
-use Rattle.editor_state.specs.Core.{Core}
+use Rattle.editor_state.specs.Took.{Took, quietly, silent, as_reply}
+use Rattle.editor_state.specs.{Adding.Adds, Adding.IsNoWant, Bodies.single, Core.Core}
 use Rattle.editor_core.specs.Core.{core_of}
-use Rattle.layout_uses.specs.Layouts.{history_tracks}
-use Rattle.layout_uses.specs.Tallies.{Becomes, MayBecome}
-use Rattle.editor_state.specs.Took.{Took, quietly, silent, told_by}
-use Rattle.editor_commits.proofs.CommitFailures.{fails}
-use Rattle.editor_commits.proofs.HistoryMoves.{in_range, purged_by}
+use Rattle.layout_uses.specs.{Layouts.history_tracks, Tallies.Becomes, Tallies.MayBecome}
 use Rattle.editor_commits.proofs.MoveSteps.{purge_call, purges, moves, may_purge, purged_counts, tested_out, no_want}
 use Rattle.editor_commits.proofs.MoveSteps.{added_range, other_reason, own_range}
+use Rattle.editor_commits.proofs.{CommitFailures.fails, HistoryMoves.in_range, HistoryMoves.purged_by}
 use Rattle.editor_state.proofs.Refusals.DamageTests.{TellsNone, range_tells, undamaged_test}
-use Rattle.editor_state.proofs.Refusals.EarlyRefusals.{none_made}
-use Rattle.editor_state.proofs.Blocks.CachePages.{pages_of_blocks}
+use Rattle.editor_state.proofs.{Refusals.EarlyRefusals.none_made, Blocks.CachePages.pages_of_blocks}
+use Rattle.pcm_base.specs.declared.command.Command.TheVariants as command
 use Rattle.editor_core.proofs.studio.Studio.purge.Goals as goal
 
 pub returns-in_err-may_commit-clause-took : goal.returns-in_err-may_commit-clause-took
 returns-in_err-may_commit-clause-took g c =
-    let p = err_from_is_err_and c.from_residual.result c.from_residual.ensures.1 in
     let s = core_of c.args.self.now in
-    subst (λ r. Took g.S.Store s (quietly (Line (command.Purge c.args.count)) (told_by (λ (n : ℕ). Done) r)) s)
-    (sym (p.1 ∙ ap Err p.2))
+    after_err (λ r. Took g.S.Store s (quietly (Line (command.Purge c.args.count)) (as_reply (λ (n : ℕ). Done) r)) s) _
+    c.from_residual.result c.from_residual.ensures.1
     (tested_out g.S.Store s (Line (command.Purge c.args.count)) 0 9 c.purge_refusal.result c.in_err-may_commit.field-0.0
     c.requires (g.met.S.Store.may_fewer s.store) (purge_call c.args.count)
     (omega arith) (λ held. (refl, refl)) c.purge_refusal.ensures.value c.in_err-may_commit.ensures)
 
 pub returns-in_err-may_commit-clause-number : goal.returns-in_err-may_commit-clause-number
 returns-in_err-may_commit-clause-number g c =
-    let p = err_from_is_err_and c.from_residual.result c.from_residual.ensures.1 in
-    subst (λ r. IfOk r (λ (n : ℕ). n ≡ c.args.self.now.commit_number)) (sym (p.1 ∙ ap Err p.2)) tt
+    after_err (λ r. IfOk r (λ (n : ℕ). n ≡ c.args.self.now.commit_number)) _ c.from_residual.result
+    c.from_residual.ensures.1 tt
 
 pub returns-in_err-may_commit-clause-memory : goal.returns-in_err-may_commit-clause-memory
 returns-in_err-may_commit-clause-memory g c =
-    let p = err_from_is_err_and c.from_residual.result c.from_residual.ensures.1 in
     let s = core_of c.args.self.now in
     let why = c.in_err-may_commit.field-0.0 in
     let reason : (r : Refusal) → c.purge_refusal.result ≡ Some r → IsNoWant r =
@@ -55,110 +44,86 @@ returns-in_err-may_commit-clause-memory g c =
     (sym (c.purge_refusal.ensures.value) ∙ e) in
     let is : IsNoWant why = no_want s.stopped c.purge_refusal.result s.next_track 0 s.commit_number why reason
     c.in_err-may_commit.ensures in
-    subst (λ r. IfErr r IsNoWant) (sym (p.1 ∙ ap Err p.2)) is
+    after_err (λ r. IfErr r IsNoWant) _ c.from_residual.result c.from_residual.ensures.1 is
 
 pub returns-in_err-may_commit-clause-undamaged : goal.returns-in_err-may_commit-clause-undamaged
 returns-in_err-may_commit-clause-undamaged g c =
-    let p = err_from_is_err_and c.from_residual.result c.from_residual.ensures.1 in
     let s = core_of c.args.self.now in
     let why = c.in_err-may_commit.field-0.0 in
     let own : TellsNone c.purge_refusal.result =
     subst TellsNone (sym (c.purge_refusal.ensures.value)) (range_tells 0 c.args.count s.history.cursor) in
     let is : IsUndamaged why = undamaged_test s.stopped c.purge_refusal.result s.next_track 0 s.commit_number why own
     c.in_err-may_commit.ensures in
-    subst (λ r. IfErr r IsUndamaged) (sym (p.1 ∙ ap Err p.2)) is
+    after_err (λ r. IfErr r IsUndamaged) _ c.from_residual.result c.from_residual.ensures.1 is
 
-pub returns-in_err-commit_small-clause-took : goal.returns-in_err-commit_small-clause-took
-returns-in_err-commit_small-clause-took g c =
-    let p =
-    err_from_is_err_and c.from_residual-in_err-commit_small.result c.from_residual-in_err-commit_small.ensures.1 in
+pub returns-in_err-commit_small : goal.returns-in_err-commit_small
+returns-in_err-commit_small g c =
     let s = core_of c.args.self.now in
-    let mid = core_of c.commit_small.new.self in
-    let may = c.in_ok-may_commit.ensures in
-    let own = sym (c.purge_refusal.ensures.value) ∙ may.1 in
-    let some = in_range c.args.count s.history.cursor own in
-    let why = c.in_err-commit_small.field-0.0 in
-    let adds =
-    subst (λ b. Adds g.S.Store s (b ∷ []) 1 (length b) (Err why) mid) c.purge_body.ensures
-    c.in_err-commit_small.ensures.record in
-    subst (λ r. Took g.S.Store s (quietly (Line (command.Purge c.args.count)) (told_by (λ (n : ℕ). Done) r)) mid)
-    (sym (p.1 ∙ ap Err p.2))
-    (fails g.S.Store s [] (Line (command.Purge c.args.count)) silent 0 (single (Purge c.args.count))
-    (purged s.history c.args.count) s.clipboard s.next_track c.requires (none_made g.S.Store s)
-    (purges g.S.Store s c.requires c.args.count some.0 some.1 c.ranges.count.fits) may.0 own may.2 (omega (arith, may.3))
-    (omega (arith, c.requires.layouts)) why mid
-    (g.met.S.Store.may_fewer s.store) adds)
-
-pub returns-in_err-commit_small-clause-number : goal.returns-in_err-commit_small-clause-number
-returns-in_err-commit_small-clause-number g c =
-    let p =
-    err_from_is_err_and c.from_residual-in_err-commit_small.result c.from_residual-in_err-commit_small.ensures.1 in
-    subst (λ r. IfOk r (λ (n : ℕ). n ≡ c.commit_small.new.self.commit_number)) (sym (p.1 ∙ ap Err p.2)) tt
-
-pub returns-in_err-commit_small-clause-memory : goal.returns-in_err-commit_small-clause-memory
-returns-in_err-commit_small-clause-memory g c =
-    let p =
-    err_from_is_err_and c.from_residual-in_err-commit_small.result c.from_residual-in_err-commit_small.ensures.1 in
-    subst (λ r. IfErr r IsNoWant) (sym (p.1 ∙ ap Err p.2)) c.in_err-commit_small.ensures.memory
-
-pub returns-in_err-commit_small-clause-undamaged : goal.returns-in_err-commit_small-clause-undamaged
-returns-in_err-commit_small-clause-undamaged g c =
-    let p =
-    err_from_is_err_and c.from_residual-in_err-commit_small.result c.from_residual-in_err-commit_small.ensures.1 in
-    subst (λ r. IfErr r IsUndamaged) (sym (p.1 ∙ ap Err p.2)) c.in_err-commit_small.ensures.undamaged
+    let why = c.in_err-commit_small.field-0.0 in record {
+      took =
+          let mid = core_of c.commit_small.new.self in
+          let may = c.in_ok-may_commit.ensures in
+          let own = sym (c.purge_refusal.ensures.value) ∙ may.1 in
+          let some = in_range c.args.count s.history.cursor own in
+          let adds =
+          subst (λ b. Adds g.S.Store s (b ∷ []) 1 (length b) (Err why) mid) c.purge_body.ensures
+          c.in_err-commit_small.ensures.record in
+          after_err
+          (λ r. Took g.S.Store s (quietly (Line (command.Purge c.args.count)) (as_reply (λ (n : ℕ). Done) r)) mid) _
+          c.from_residual-in_err-commit_small.result c.from_residual-in_err-commit_small.ensures.1
+          (fails g.S.Store s [] (Line (command.Purge c.args.count)) silent 0 (single (Purge c.args.count))
+          (purged s.history c.args.count) s.clipboard s.next_track c.requires (none_made g.S.Store s)
+          (purges g.S.Store s c.requires c.args.count some.0 some.1 c.ranges.count.fits) may.0 own may.2
+          (omega (arith, may.3)) (omega (arith, c.requires.layouts)) why mid
+          (g.met.S.Store.may_fewer s.store) adds);
+      number =
+          after_err (λ r. IfOk r (λ (n : ℕ). n ≡ c.commit_small.new.self.commit_number)) _
+          c.from_residual-in_err-commit_small.result c.from_residual-in_err-commit_small.ensures.1 tt;
+      memory =
+          after_err (λ r. IfErr r IsNoWant) _ c.from_residual-in_err-commit_small.result
+          c.from_residual-in_err-commit_small.ensures.1 c.in_err-commit_small.ensures.memory;
+      undamaged =
+          after_err (λ r. IfErr r IsUndamaged) _ c.from_residual-in_err-commit_small.result
+          c.from_residual-in_err-commit_small.ensures.1 c.in_err-commit_small.ensures.undamaged;
+      range =
+          let is : why ≡ BadRange → bad_range 0 c.args.count s.history.cursor ≡ Some BadRange =
+          λ bad. absurd (added_range g.S.Store s (core_of c.commit_small.new.self) _ 1 _ why
+          c.in_err-commit_small.ensures.record bad) in
+          after_err
+          (λ r. IfErr r (λ (w : Refusal). w ≡ BadRange → bad_range 0 c.args.count s.history.cursor ≡ Some BadRange))
+          _ c.from_residual-in_err-commit_small.result c.from_residual-in_err-commit_small.ensures.1 is;
+    }
 
 pub returns-in_err-may_commit-clause-range : goal.returns-in_err-may_commit-clause-range
 returns-in_err-may_commit-clause-range g c =
-    let p = err_from_is_err_and c.from_residual.result c.from_residual.ensures.1 in
     let s = core_of c.args.self.now in
     let why = c.in_err-may_commit.field-0.0 in
     let is : why ≡ BadRange → bad_range 0 c.args.count s.history.cursor ≡ Some BadRange =
     λ bad. sym c.purge_refusal.ensures.value
     ∙ own_range s.stopped c.purge_refusal.result s.next_track 0 s.commit_number why c.in_err-may_commit.ensures bad in
-    subst
-    (λ r. IfErr r (λ (w : Refusal). w ≡ BadRange → bad_range 0 c.args.count s.history.cursor ≡ Some BadRange))
-    (sym (p.1 ∙ ap Err p.2)) is
+    after_err (λ r. IfErr r (λ (w : Refusal). w ≡ BadRange → bad_range 0 c.args.count s.history.cursor ≡ Some BadRange))
+    _ c.from_residual.result c.from_residual.ensures.1 is
 
-pub returns-in_err-commit_small-clause-range : goal.returns-in_err-commit_small-clause-range
-returns-in_err-commit_small-clause-range g c =
-    let p =
-    err_from_is_err_and c.from_residual-in_err-commit_small.result c.from_residual-in_err-commit_small.ensures.1 in
-    let s = core_of c.args.self.now in
-    let why = c.in_err-commit_small.field-0.0 in
-    let is : why ≡ BadRange → bad_range 0 c.args.count s.history.cursor ≡ Some BadRange =
-    λ bad. absurd (added_range g.S.Store s (core_of c.commit_small.new.self) _ 1 _ why
-    c.in_err-commit_small.ensures.record bad) in
-    subst
-    (λ r. IfErr r (λ (w : Refusal). w ≡ BadRange → bad_range 0 c.args.count s.history.cursor ≡ Some BadRange))
-    (sym (p.1 ∙ ap Err p.2)) is
-
-pub count_purge-requires-clause-within : goal.count_purge-requires-clause-within
-count_purge-requires-clause-within g c =
-    let s = core_of c.args.self.now in
-    let n = c.args.count in
-    let mid = core_of c.commit_small.new.self in
-    let may = c.in_ok-may_commit.ensures in
-    let own = sym c.purge_refusal.ensures.value ∙ may.1 in
-    let some = in_range n s.history.cursor own in
-    let adds = subst (λ r. Adds g.S.Store s (spelling (Purge n) ∷ []) 1 9 r mid) c.in_ok-commit_small.was (subst
-    (λ b. Adds g.S.Store s (b ∷ []) 1 (length b) c.commit_small.result mid) c.purge_body.ensures
-    c.commit_small.ensures.record) in
-    let same : mid.history ≡ s.history = ap (λ (z : Core g.row.S.Denot). z.history) adds.fields.0 in
-    subst (λ (h : History (List Track)). n ≤ h.cursor) (sym same) some.1
-
-pub count_purge-requires-clause-counted : goal.count_purge-requires-clause-counted
-count_purge-requires-clause-counted g c =
+pub count_purge-requires : goal.count_purge-requires
+count_purge-requires g c =
     let s = core_of c.args.self.now in
     let n = c.args.count in
     let mid = core_of c.commit_small.new.self in
     let adds = subst (λ r. Adds g.S.Store s (spelling (Purge n) ∷ []) 1 9 r mid) c.in_ok-commit_small.was (subst
     (λ b. Adds g.S.Store s (b ∷ []) 1 (length b) c.commit_small.result mid) c.purge_body.ensures
     c.commit_small.ensures.record) in
-    let same : mid.history ≡ s.history = ap (λ (z : Core g.row.S.Denot). z.history) adds.fields.0 in
-    let tally = c.commit_small.new.self.tally in
-    subst (λ (h : History (List Track)). MayBecome [] (history_tracks h) tally) (sym same)
-    (may_purge g.S.Store s c.requires tally (ap (λ (z : Core g.row.S.Denot). z.uses) adds.fields.0)
-    (ap (λ (z : Core g.row.S.Denot). z.counts) adds.fields.0))
+    let same : mid.history ≡ s.history = ap (λ (z : Core g.row.S.Denot). z.history) adds.fields.0 in record {
+      within =
+          let may = c.in_ok-may_commit.ensures in
+          let own = sym c.purge_refusal.ensures.value ∙ may.1 in
+          let some = in_range n s.history.cursor own in
+          subst (λ (h : History (List Track)). n ≤ h.cursor) (sym same) some.1;
+      counted =
+          let tally = c.commit_small.new.self.tally in
+          subst (λ (h : History (List Track)). MayBecome [] (history_tracks h) tally) (sym same)
+          (may_purge g.S.Store s c.requires tally (ap (λ (z : Core g.row.S.Denot). z.uses) adds.fields.0)
+          (ap (λ (z : Core g.row.S.Denot). z.counts) adds.fields.0));
+    }
 
 pub returns-clause-took : goal.returns-clause-took
 returns-clause-took g c =

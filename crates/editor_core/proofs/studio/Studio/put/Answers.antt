@@ -1,10 +1,10 @@
 -- Samples put in at a place are a step.
 use Rattle.std.proofs.Common.{refl}
-use Rattle.pcm_base.specs.declared.command.Call.TheVariants as call
-use Rattle.pcm_base.specs.declared.command.Command.TheVariants as command
-use Rattle.piece_store.specs.declared.given.Given.TheVariants as given
 use Rattle.editor_state.specs.Took.{silent}
 use Rattle.editor_tracks.proofs.InsertLaws.{put_call}
+use Rattle.pcm_base.specs.declared.command.Call.TheVariants as call
+use Rattle.pcm_base.specs.declared.command.Command.TheVariants as command
+use Rattle.block_writer.specs.declared.given.Given.TheVariants as given
 use Rattle.editor_core.proofs.studio.Studio.put.Goals as goal
 
 pub returns-clause-took : goal.returns-clause-took

@@ -1,10 +1,9 @@
 -- A ramp is a step.
-use Rattle.std.proofs.Common.{arith}
-use Rattle.std.proofs.lemmas.Int.{ints}
-use Rattle.pcm_base.specs.declared.command.Call.TheVariants as call
-use Rattle.pcm_base.specs.declared.command.Command.TheVariants as command
+use Rattle.std.proofs.{Common.arith, lemmas.Int.ints}
 use Rattle.editor_state.specs.Took.{silent}
 use Rattle.editor_tracks.proofs.InsertLaws.{ramp_again}
+use Rattle.pcm_base.specs.declared.command.Call.TheVariants as call
+use Rattle.pcm_base.specs.declared.command.Command.TheVariants as command
 use Rattle.editor_core.proofs.studio.Studio.ramp.Goals as goal
 
 pub returns-clause-took : goal.returns-clause-took

@@ -1,21 +1,20 @@
 -- Hearing a pin is a step that changes nothing.
 use Rattle.std.proofs.Common.{◌∙◌, sym, ap, subst, ◌+◌, ◌^◌, ◌<◌, ◌≤◌, List, length, Some, Err}
-use Rattle.std.specs.Prelude.{IfOk}
 use Rattle.std.proofs.lemmas.Result.{err_from_is_err_and}
-use Rattle.pcm_base.specs.declared.answer.Reply.TheVariants.{Frames}
-use Rattle.pcm_base.specs.declared.command.Call.TheVariants.{ReadPin}
-use Rattle.pcm_base.specs.declared.refusal.Refusal.{Refusal}
-use Rattle.pcm_base.specs.declared.refusal.Refusal.TheVariants as refusal
+use Rattle.std.specs.Prelude.{IfOk}
+use Rattle.pcm_base.proofs.Exits.{after_err}
+use Rattle.pcm_base.specs.{declared.answer.Reply.TheVariants.Frames, declared.command.Call.TheVariants.ReadPin}
+use Rattle.pcm_base.specs.{declared.refusal.Refusal.Refusal}
 use Rattle.sample_block.specs.Sources.{sources_of}
 use Rattle.project_state.specs.Meaning.{point_blocks}
 use Rattle.editor_core.specs.Core.{core_of}
-use Rattle.editor_state.specs.declared.pin.Pin.{Pin}
+use Rattle.editor_state.specs.{declared.pin.Pin.Pin, Reads.Sees}
 use Rattle.editor_views.specs.Pins.{LacksPin, MayFind}
-use Rattle.editor_state.specs.Reads.{Sees}
 use Rattle.editor_views.proofs.MixViews.{as_many, read_stopped, read_lacks, read_done, read_failed}
-use Rattle.editor_state.proofs.Calls.LookAnswers.{idle_sees, read_sees, unread_sees, seen}
 use Rattle.editor_views.proofs.UnpinSteps.{pin_may_read, pin_named, pin_whole}
+use Rattle.editor_state.proofs.Calls.LookAnswers.{idle_sees, read_sees, unread_sees, seen}
 use Rattle.editor_state.proofs.Blocks.CachePages.{reads_among}
+use Rattle.pcm_base.specs.declared.refusal.Refusal.TheVariants as refusal
 use Rattle.editor_core.proofs.studio.Studio.read_pin.Goals as goal
 
 pub returns-in-Some-clause-seen : goal.returns-in-Some-clause-seen
@@ -42,8 +41,8 @@ returns-in_err-point-clause-seen g c =
 
 pub returns-in_err-point-clause-limit : goal.returns-in_err-point-clause-limit
 returns-in_err-point-clause-limit g c =
-    let p = err_from_is_err_and c.from_residual.result c.from_residual.ensures.1 in
-    subst (λ r. IfOk r (λ n. 0 < n → c.args.from + n ≤ 2 ^ 32)) (sym (p.1 ∙ ap Err p.2)) tt
+    after_err (λ r. IfOk r (λ n. 0 < n → c.args.from + n ≤ 2 ^ 32)) _ c.from_residual.result c.from_residual.ensures.1
+    tt
 
 pub read_mix-requires-clause-named : goal.read_mix-requires-clause-named
 read_mix-requires-clause-named g c =
@@ -67,8 +66,7 @@ returns-in-Ok-clause-seen g c =
     let n = c.in-Ok.count in
     let src = sources_of (g.S.Store.reads s.store) in
     read_sees g.S.Store s (ReadPin c.args.pin c.args.from count) store c.in-Ok.ensures.reads.kept cache Frames
-    c.read_mix.new.out
-    n c.in-Ok.ensures.fits
+    c.read_mix.new.out n c.in-Ok.ensures.fits
     (read_done g.S.Store s c.requires fewer c.args.pin c.args.from count c.in_default.is point found store
     c.in-Ok.ensures.reads.kept cache keeps _ c.in-Ok.ensures.reads.faults
     (λ held. c.in-Ok.ensures.read held.tells (pin_whole g.S.Store s c.requires c.args.pin point found held)
@@ -92,6 +90,6 @@ returns-in-Err-clause-seen g c =
     (record s { store = store; cache = cache })) (sym c.into.ensures)
     (unread_sees g.S.Store s
     (ReadPin c.args.pin c.args.from count) store c.in-Err.ensures.reads.kept cache Frames c.read_mix.new.out fault
-    (λ held. c.in-Err.ensures.sound held.tells (pin_whole g.S.Store s c.requires c.args.pin point found held))
+    (λ held. c.in-Err.ensures.valid held.tells (pin_whole g.S.Store s c.requires c.args.pin point found held))
     (read_failed g.S.Store s c.requires fewer c.args.pin c.args.from count c.in_default.is point found store
     c.in-Err.ensures.reads.kept cache keeps fault c.in-Err.ensures.reads.faults c.in-Err.ensures.reads.damaged))

@@ -1,15 +1,13 @@
 -- What was heard of a pin is the answer.
-use Rattle.std.proofs.Common.{◌∙◌, refl, sym, ap, subst, List, length, Ok, Err, arith}
-use Rattle.std.proofs.lemmas.Result.{err_from_is_err_and}
-use Rattle.pcm_base.specs.declared.answer.Reply.TheVariants as reply
-use Rattle.pcm_base.specs.declared.command.Call.TheVariants.{ReadPin}
-use Rattle.pcm_base.specs.declared.sound.Frame.{Frame}
+use Rattle.std.proofs.Common.{◌∙◌, refl, sym, ap, subst, List, length, Ok, arith}
+use Rattle.pcm_base.proofs.Exits.{after_err}
+use Rattle.pcm_base.specs.{declared.command.Call.TheVariants.ReadPin, declared.sound.Frame.Frame}
 use Rattle.editor_core.specs.Core.{core_of}
 use Rattle.editor_state.specs.Took.{Took, quietly, silent}
-use Rattle.editor_views.proofs.PinReads.{read_as_many}
 use Rattle.editor_views.proofs.PinRefusals.{len_refused, read_refused}
+use Rattle.editor_views.proofs.{PinReads.read_as_many, BufferFronts.view_front}
 use Rattle.editor_state.proofs.Refusals.EarlyRefusals.{wants}
-use Rattle.editor_views.proofs.BufferFronts.{view_front}
+use Rattle.pcm_base.specs.declared.answer.Reply.TheVariants as reply
 use Rattle.editor_core.proofs.studio.Studio.read_reply.Goals as goal
 
 pub returns : goal.returns
@@ -37,8 +35,7 @@ pub returns-in_err-pin_len : goal.returns-in_err-pin_len
 returns-in_err-pin_len g c =
     let s = core_of c.args.self.now in
     let call = ReadPin c.args.pin c.args.from c.args.count in
-    let p = err_from_is_err_and c.from_residual.result c.from_residual.ensures.1 in
-    subst (λ r. Took g.S.Store s (quietly call r) s) (sym (p.1 ∙ ap Err p.2))
+    after_err (λ r. Took g.S.Store s (quietly call r) s) _ c.from_residual.result c.from_residual.ensures.1
     (len_refused g.S.Store s c.args.pin c.args.from c.args.count c.in_err-pin_len.field-0.0 s
     c.in_err-pin_len.ensures.took)
 
@@ -46,8 +43,8 @@ pub returns-in_err-frames : goal.returns-in_err-frames
 returns-in_err-frames g c =
     let s = core_of c.args.self.now in
     let call = ReadPin c.args.pin c.args.from c.args.count in
-    let p = err_from_is_err_and c.from_residual-in_err-frames.result c.from_residual-in_err-frames.ensures.1 in
-    subst (λ r. Took g.S.Store s (quietly call r) s) (sym (p.1 ∙ ap Err p.2))
+    after_err (λ r. Took g.S.Store s (quietly call r) s) _ c.from_residual-in_err-frames.result
+    c.from_residual-in_err-frames.ensures.1
     (wants g.S.Store s call silent c.requires (g.met.S.Store.may_fewer s.store) tt refl 0 (λ held. (0, (refl, refl))))
 
 pub returns-in_err-read : goal.returns-in_err-read
@@ -55,7 +52,7 @@ returns-in_err-read g c =
     let s = core_of c.args.self.now in
     let call = ReadPin c.args.pin c.args.from c.args.count in
     let new = core_of c.read_pin.new.self in
-    let p = err_from_is_err_and c.from_residual-in_err-read.result c.from_residual-in_err-read.ensures.1 in
-    subst (λ r. Took g.S.Store s (quietly call r) new) (sym (p.1 ∙ ap Err p.2))
+    after_err (λ r. Took g.S.Store s (quietly call r) new) _ c.from_residual-in_err-read.result
+    c.from_residual-in_err-read.ensures.1
     (read_refused g.S.Store s c.args.pin c.args.from c.args.count
     (length c.as_mut_slice.result.now) c.in_err-read.field-0.0 new c.in_err-read.ensures.seen.looks.took)

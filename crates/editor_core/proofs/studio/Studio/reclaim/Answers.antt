@@ -1,14 +1,12 @@
 -- The files that went, and the answer.
 use Rattle.std.proofs.Common.{◌≡◌, ◌∙◌, sym, ap, subst, Some, Err, Ok}
 use Rattle.pcm_base.specs.Studio.{fault_sum}
-use Rattle.pcm_base.specs.declared.refusal.Refusal.TheVariants as refusal
 use Rattle.editor_state.specs.Core.{Core}
 use Rattle.editor_core.specs.Core.{core_of}
-use Rattle.editor_cleanup.specs.Frees.{Reclaims}
-use Rattle.editor_cleanup.specs.Passes.{DropsFirst}
-use Rattle.editor_cleanup.proofs.ForgetPass.{forgotten}
-use Rattle.editor_cleanup.proofs.ReclaimFaults.{reclaim_fails}
+use Rattle.editor_cleanup.specs.{Frees.Reclaims, Passes.DropsFirst}
 use Rattle.editor_cleanup.proofs.ReclaimAnswers.{reclaim_stopped, reclaimed}
+use Rattle.editor_cleanup.proofs.{ForgetPass.forgotten, ReclaimFaults.reclaim_fails}
+use Rattle.pcm_base.specs.declared.refusal.Refusal.TheVariants as refusal
 use Rattle.editor_core.proofs.studio.Studio.reclaim.Goals as goal
 
 pub returns-in-Some : goal.returns-in-Some

@@ -1,11 +1,9 @@
 -- One file after another.
-use Rattle.std.proofs.Common.{◌≡◌, inr, refl, sym, subst, ℕ, [], ◌∷◌, ◌++◌, IsSome, Some}
-use Rattle.std.proofs.Common.{Option, arith}
+use Rattle.std.proofs.Common.{◌≡◌, inr, refl, sym, subst, ℕ, [], ◌∷◌, ◌++◌, IsSome, Some, Option, arith}
 use Rattle.block_ledger.specs.Entries.{count_of}
 use Rattle.editor_core.specs.Core.{core_of}
-use Rattle.editor_cleanup.proofs.IdRemovals.{long}
-use Rattle.editor_cleanup.proofs.RemovePass.{next_here, none_here, removes_all, removes_fail, removing_more}
-use Rattle.editor_cleanup.proofs.RemovePass.{removing_none}
+use Rattle.editor_cleanup.proofs.{IdRemovals.long, RemovePass.next_here, RemovePass.none_here, RemovePass.removes_all}
+use Rattle.editor_cleanup.proofs.{RemovePass.removes_fail, RemovePass.removing_more, RemovePass.removing_none}
 use Rattle.editor_core.proofs.studio.Studio.remove_first.Goals as goal
 
 is_some : (o : Option ℕ) → o ≡ Some 0 → IsSome o
@@ -25,19 +23,14 @@ returns-in_default g c =
     removes_all g.S.Store s tt c.args.most c.loop-count.count is.0 c.loop-count.from mid is.2 is.1 (omega (arith, few))
     (inr (none_here g.S.Store s is.0 c.loop-count.from mid is.2 c.in_default.ensures.none))
 
-pub remove_unnamed-requires-clause-low : goal.remove_unnamed-requires-clause-low
-remove_unnamed-requires-clause-low g c =
+pub remove_unnamed-requires : goal.remove_unnamed-requires
+remove_unnamed-requires g c =
     let is = c.loop-count.invariant in
     let next = next_here g.S.Store (core_of c.args.self.now) is.0 c.loop-count.from c.in-Some.id
-    (core_of c.loop-count.self) is.2 c.in-Some.ensures.found in
-    c.requires.low c.in-Some.id (is_some (count_of c.args.self.now.tally.ledger c.in-Some.id) next.free)
-
-pub remove_unnamed-requires-clause-high : goal.remove_unnamed-requires-clause-high
-remove_unnamed-requires-clause-high g c =
-    let is = c.loop-count.invariant in
-    let next = next_here g.S.Store (core_of c.args.self.now) is.0 c.loop-count.from c.in-Some.id
-    (core_of c.loop-count.self) is.2 c.in-Some.ensures.found in
-    c.requires.high c.in-Some.id (is_some (count_of c.args.self.now.tally.ledger c.in-Some.id) next.free)
+    (core_of c.loop-count.self) is.2 c.in-Some.ensures.found in record {
+      low = c.requires.low c.in-Some.id (is_some (count_of c.args.self.now.tally.ledger c.in-Some.id) next.free);
+      high = c.requires.high c.in-Some.id (is_some (count_of c.args.self.now.tally.ledger c.in-Some.id) next.free);
+    }
 
 pub returns-in-Err : goal.returns-in-Err
 returns-in-Err g c =

@@ -1,22 +1,16 @@
 -- A line is a step, of which the vault's move is a part.
-use Rattle.std.proofs.lemmas.Bool.{true≢false}
-use Rattle.std.proofs.lemmas.Option.{none-some}
 use Rattle.std.proofs.Common.{◌≡◌, ◌∙◌, refl, sym, ap, subst, is_some, ℕ, List, Result}
-use Rattle.pcm_base.specs.declared.answer.Reply.{Reply}
-use Rattle.pcm_base.specs.declared.answer.Reply.TheVariants as reply
-use Rattle.pcm_base.specs.declared.command.Command.{Command}
-use Rattle.pcm_base.specs.declared.command.Call.TheVariants.{Line}
-use Rattle.pcm_base.specs.declared.command.Command.TheVariants as command
-use Rattle.pcm_base.specs.declared.refusal.Refusal.{Refusal}
-use Rattle.pcm_base.specs.Outside.{Sounds}
-use Rattle.pcm_base.specs.Run.{name_in_line}
-use Rattle.editor_state.specs.Applied.{Imported, TookOver}
+use Rattle.std.proofs.{lemmas.Bool.true≢false, lemmas.Option.none-some}
+use Rattle.pcm_base.specs.{declared.answer.Reply.Reply, declared.command.Command.Command}
+use Rattle.pcm_base.specs.{declared.command.Call.TheVariants.Line, declared.refusal.Refusal.Refusal, Outside.Sounds}
+use Rattle.pcm_base.specs.{Run.name_in_line}
+use Rattle.editor_state.specs.Took.{Took, as_reply, with_sound}
+use Rattle.editor_state.specs.{Applied.Imported, Applied.TookOver, Exports.moved_from, Vaults.VaultCounted}
 use Rattle.editor_core.specs.Core.{core_of}
-use Rattle.editor_state.specs.Exports.{moved_from}
-use Rattle.editor_state.specs.Vaults.{VaultCounted}
-use Rattle.editor_state.specs.Took.{Took, told_by, with_sound}
 use Rattle.editor_state.proofs.Calls.VaultCalls.{counted_told, export_none, import_name, imported_done, names_none}
 use Rattle.editor_state.proofs.Calls.VaultCalls.{over_silent, over_sound, spanned}
+use Rattle.pcm_base.specs.declared.answer.Reply.TheVariants as reply
+use Rattle.pcm_base.specs.declared.command.Command.TheVariants as command
 use Rattle.editor_core.proofs.studio.Studio.reply_to.Goals as goal
 
 pub returns-in-Import-clause-took : goal.returns-in-Import-clause-took
@@ -26,7 +20,7 @@ returns-in-Import-clause-took g c =
     let before = g.V.Vault.holds c.args.vault.now in
     let span = spanned (g.V.Vault.tells c.args.vault.now) s new before (g.V.Vault.holds c.import.new.vault) in
     let name = c.as_str.result.now in
-    let told = told_by (λ _. reply.Done) c.import.result in
+    let told = as_reply (λ _. reply.Done) c.import.result in
     let line = Line (command.Import name) in
     let same = c.import.ensures.same in
     let over : TookOver g.S.Store span line told =
@@ -59,7 +53,7 @@ returns-in-Export-clause-took g c =
     let span = spanned (g.V.Vault.tells c.args.vault.now) s (core_of c.export.new.self)
     (g.V.Vault.holds c.args.vault.now) (g.V.Vault.holds c.export.new.vault) in
     let name = c.as_str-in-Export.result.now in
-    let told = told_by reply.Wrote c.export.result in
+    let told = as_reply reply.Wrote c.export.result in
     let line = Line (command.Export name) in
     let over : TookOver g.S.Store span line told =
     over_sound g.S.Store span line name told refl c.export.ensures.took c.export.ensures.others

@@ -24,7 +24,6 @@ returns-in_default-clause-took g c = (
   c.other_reply.result,
   c.reply_of-in_default.ensures,
   over_silent g.S.Store (core_of c.args.self.now) (g.V.Vault.tells c.args.vault.now)
-      (g.V.Vault.holds c.args.vault.now) c.args.call.now c.other_reply.result []
-      (core_of c.other_reply.new.self)
+      (g.V.Vault.holds c.args.vault.now) c.args.call.now c.other_reply.result [] (core_of c.other_reply.new.self)
       (other_none c.args.call.now (other_of c.args.call.now c.in_default.not-Line)) c.other_reply.ensures.took,
 )

@@ -22,5 +22,5 @@ returns g c =
     (record s { store = store; cache = k; block_size = c.check.new.self })) (sym c.check.ensures.pages)
     (scans_block g.S.Store s c.requires.studio c.requires.going c.args.block c.requires.named
     c.check.result store c.check.ensures.kept
-    c.check.new.self c.check.ensures.same c.check.ensures.whole c.check.ensures.checked c.check.ensures.sound
+    c.check.new.self c.check.ensures.same c.check.ensures.whole c.check.ensures.checked c.check.ensures.valid
     c.check.ensures.faults)

@@ -1,30 +1,28 @@
 -- Showing a track is a step that changes nothing.
-use Rattle.std.proofs.Common.{◌∙◌, sym, ap, subst, Err}
-use Rattle.std.proofs.lemmas.Result.{err_from_is_err_and}
-use Rattle.pcm_base.specs.declared.answer.Reply.TheVariants.{Cells}
-use Rattle.pcm_base.specs.declared.command.Call.TheVariants.{Line}
-use Rattle.pcm_base.specs.declared.command.Command.TheVariants.{Show}
-use Rattle.pcm_base.specs.declared.refusal.Refusal.TheVariants as refusal
+use Rattle.std.proofs.{Common.◌∙◌, Common.sym, Common.ap, Common.subst, Common.Err, lemmas.Result.err_from_is_err_and}
+use Rattle.pcm_base.proofs.Exits.{after_err}
+use Rattle.pcm_base.specs.{declared.answer.Reply.TheVariants.Cells, declared.command.Call.TheVariants.Line}
+use Rattle.pcm_base.specs.{declared.command.Command.TheVariants.Show}
 use Rattle.clip_track.specs.Clips.{layout_blocks}
 use Rattle.editor_core.specs.Core.{core_of}
-use Rattle.editor_state.specs.Points.{lacks}
-use Rattle.editor_state.specs.Reads.{Sees}
+use Rattle.editor_state.specs.{Points.lacks, Reads.Sees}
 use Rattle.editor_commits.proofs.CursorTracks.{layout_may_read, layout_named, layout_whole}
 use Rattle.editor_state.proofs.Calls.LookAnswers.{idle_sees, read_sees, unread_sees, seen}
-use Rattle.editor_views.proofs.CellViews.{show_stopped, show_lacks, show_beyond, show_done, show_failed}
 use Rattle.editor_state.proofs.Blocks.CachePages.{reads_among}
+use Rattle.editor_views.proofs.CellViews.{show_stopped, show_lacks, show_beyond, show_done, show_failed}
+use Rattle.pcm_base.specs.declared.refusal.Refusal.TheVariants as refusal
 use Rattle.editor_core.proofs.studio.Studio.show.Goals as goal
 
-pub returns-in-Some : goal.returns-in-Some
-returns-in-Some g c =
+pub returns-in-Some-clause-seen : goal.returns-in-Some-clause-seen
+returns-in-Some-clause-seen g c =
     let s = core_of c.args.self.now in
     let fewer = g.met.S.Store.may_fewer s.store in
     let call = Line (Show c.args.track c.args.from c.args.to) in
     idle_sees g.S.Store s call Cells c.args.out.now fewer (refusal.Stopped c.in-Some.faults) tt tt
     (show_stopped g.S.Store s c.requires.studio c.args.track c.args.from c.args.to fewer c.in-Some.faults c.in-Some.is)
 
-pub returns-in_err-layout : goal.returns-in_err-layout
-returns-in_err-layout g c =
+pub returns-in_err-layout-clause-seen : goal.returns-in_err-layout-clause-seen
+returns-in_err-layout-clause-seen g c =
     let p = err_from_is_err_and c.from_residual.result c.from_residual.ensures.1 in
     let s = core_of c.args.self.now in
     let fewer = g.met.S.Store.may_fewer s.store in
@@ -36,8 +34,8 @@ returns-in_err-layout g c =
     (show_lacks g.S.Store s c.requires.studio c.args.track c.args.from c.args.to fewer why c.in_default.is
     (ap (lacks c.args.track) c.in_err-layout.ensures.1)))
 
-pub returns-in_err-may_view : goal.returns-in_err-may_view
-returns-in_err-may_view g c =
+pub returns-in_err-may_view-clause-seen : goal.returns-in_err-may_view-clause-seen
+returns-in_err-may_view-clause-seen g c =
     let p = err_from_is_err_and c.from_residual-in_err-may_view.result c.from_residual-in_err-may_view.ensures.1 in
     let s = core_of c.args.self.now in
     let fewer = g.met.S.Store.may_fewer s.store in
@@ -53,9 +51,8 @@ read_view-requires-clause-named g c =
     let s = core_of c.args.self.now in
     layout_may_read g.S.Store s c.requires.studio c.args.track c.in_ok-layout.layout.now c.in_ok-layout.ensures
 
-pub returns-in_err-count : goal.returns-in_err-count
-returns-in_err-count g c =
-    let p = err_from_is_err_and c.from_residual-in_err-count.result c.from_residual-in_err-count.ensures.1 in
+pub returns-in_err-count-clause-seen : goal.returns-in_err-count-clause-seen
+returns-in_err-count-clause-seen g c =
     let s = core_of c.args.self.now in
     let fewer = g.met.S.Store.may_fewer s.store in
     let call = Line (Show c.args.track c.args.from c.args.to) in
@@ -66,17 +63,18 @@ returns-in_err-count g c =
     let keeps = reads_among g.S.Store s (layout_blocks layout) cache
     (layout_named g.S.Store s c.requires.studio c.args.track layout has) c.in_err-count.ensures.reads.cache in
     let fault = c.in_err-count.field-0.0 in
-    subst (λ r. Sees g.S.Store s (seen call Cells c.read_view.new.out r) (record s { store = store; cache = cache }))
-    (sym (p.1 ∙ ap Err p.2))
+    after_err
+    (λ r. Sees g.S.Store s (seen call Cells c.read_view.new.out r) (record s { store = store; cache = cache })) _
+    c.from_residual-in_err-count.result c.from_residual-in_err-count.ensures.1
     (unread_sees g.S.Store s call store c.in_err-count.ensures.reads.kept cache Cells c.read_view.new.out fault
-    (λ held. c.in_err-count.ensures.sound held.tells
+    (λ held. c.in_err-count.ensures.valid held.tells
     (layout_whole g.S.Store s c.requires.studio c.args.track layout has held))
     (show_failed g.S.Store s c.requires.studio c.args.track c.args.from c.args.to fewer layout has c.in_default.is store
     c.in_err-count.ensures.reads.kept cache keeps fault c.in_err-count.ensures.reads.faults
     c.in_err-count.ensures.reads.damaged))
 
-pub returns : goal.returns
-returns g c =
+pub returns-clause-seen : goal.returns-clause-seen
+returns-clause-seen g c =
     let s = core_of c.args.self.now in
     let fewer = g.met.S.Store.may_fewer s.store in
     let call = Line (Show c.args.track c.args.from c.args.to) in

@@ -1,22 +1,20 @@
 -- What was seen is the answer, and without memory nothing is.
-use Rattle.std.proofs.Common.{◌∙◌, refl, sym, ap, subst, List, length, Ok, Err, arith}
-use Rattle.std.proofs.lemmas.Result.{err_from_is_err_and}
-use Rattle.pcm_base.specs.declared.answer.Reply.TheVariants as reply
-use Rattle.pcm_base.specs.declared.command.Call.TheVariants.{Line}
-use Rattle.pcm_base.specs.declared.command.Command.TheVariants as command
-use Rattle.pcm_base.specs.declared.sound.Cell.{Cell}
+use Rattle.std.proofs.Common.{◌∙◌, refl, sym, ap, subst, List, length, Ok, arith}
+use Rattle.pcm_base.proofs.Exits.{after_err}
+use Rattle.pcm_base.specs.{declared.command.Call.TheVariants.Line, declared.sound.Cell.Cell}
 use Rattle.editor_core.specs.Core.{core_of}
 use Rattle.editor_state.specs.Took.{Took, quietly, silent}
 use Rattle.editor_state.proofs.Refusals.EarlyRefusals.{wants}
 use Rattle.editor_views.proofs.BufferFronts.{view_front}
+use Rattle.pcm_base.specs.declared.answer.Reply.TheVariants as reply
+use Rattle.pcm_base.specs.declared.command.Command.TheVariants as command
 use Rattle.editor_core.proofs.studio.Studio.show_reply.Goals as goal
 
 pub returns-in_err-cells : goal.returns-in_err-cells
 returns-in_err-cells g c =
     let s = core_of c.args.self.now in
     let call = Line (command.Show c.args.track c.args.from c.args.to) in
-    let p = err_from_is_err_and c.from_residual.result c.from_residual.ensures.1 in
-    subst (λ r. Took g.S.Store s (quietly call r) s) (sym (p.1 ∙ ap Err p.2))
+    after_err (λ r. Took g.S.Store s (quietly call r) s) _ c.from_residual.result c.from_residual.ensures.1
     (wants g.S.Store s call silent c.requires (g.met.S.Store.may_fewer s.store) tt refl 0 (λ held. (0, (refl, refl))))
 
 pub returns : goal.returns
@@ -25,9 +23,9 @@ returns g c =
     let call = Line (command.Show c.args.track c.args.from c.args.to) in
     subst (λ (xs : List Cell). Took g.S.Store s (quietly call (Ok (reply.Cells xs))) (core_of c.show.new.self))
     (sym (c.new.ensures ∙ c.truncate.ensures.items ∙ view_front c.in_ok-count.count c.in_ok-cells.cells.len
-    c.show.new.out _ c.in_ok-count.ensures.count (omega (
+    c.show.new.out _ c.in_ok-count.ensures.seen.count (omega (
       arith,
       c.show.auto.out,
       c.as_mut_slice.ensures.len,
       ap length c.as_mut_slice.ensures.value,
-    )))) c.in_ok-count.ensures.looks.took
+    )))) c.in_ok-count.ensures.seen.looks.took

@@ -1,12 +1,10 @@
 -- Each line is a step by the call that is its own.
 use Rattle.std.proofs.Common.{sym, subst, [], Result}
-use Rattle.pcm_base.specs.declared.answer.Reply.{Reply}
-use Rattle.pcm_base.specs.declared.command.Command.{Command}
-use Rattle.pcm_base.specs.declared.command.Command.TheVariants as command
-use Rattle.pcm_base.specs.declared.command.Call.TheVariants.{Line}
-use Rattle.pcm_base.specs.declared.refusal.Refusal.{Refusal}
+use Rattle.pcm_base.specs.{declared.answer.Reply.Reply, declared.command.Command.Command}
+use Rattle.pcm_base.specs.{declared.command.Call.TheVariants.Line, declared.refusal.Refusal.Refusal}
 use Rattle.editor_core.specs.Core.{core_of}
 use Rattle.editor_state.specs.Took.{Took, freeing, quietly}
+use Rattle.pcm_base.specs.declared.command.Command.TheVariants as command
 use Rattle.editor_core.proofs.studio.Studio.silent_reply.Goals as goal
 
 pub returns-in-Track : goal.returns-in-Track
@@ -107,8 +105,7 @@ returns-in-Show g c =
     let s = core_of c.args.self.now in (
       [],
       subst (λ (k : Command). Took g.S.Store s (quietly (Line k) c.show_reply.result) (core_of c.show_reply.new.self))
-          (sym c.in-Show.is)
-          (c.show_reply.ensures),
+          (sym c.in-Show.is) (c.show_reply.ensures),
     )
 
 pub returns-in-Mix : goal.returns-in-Mix
@@ -116,8 +113,7 @@ returns-in-Mix g c =
     let s = core_of c.args.self.now in (
       [],
       subst (λ (k : Command). Took g.S.Store s (quietly (Line k) c.mix_reply.result) (core_of c.mix_reply.new.self))
-          (sym c.in-Mix.is)
-          (c.mix_reply.ensures),
+          (sym c.in-Mix.is) (c.mix_reply.ensures),
     )
 
 pub returns-in-Envelope : goal.returns-in-Envelope

@@ -1,8 +1,7 @@
 -- One sync after another.
 use Rattle.std.proofs.Common.{◌≡◌, ℕ, Some, refl, subst, arith}
 use Rattle.editor_core.specs.Core.{core_of}
-use Rattle.editor_state.specs.Made.{ids_from}
-use Rattle.editor_state.specs.Makes.{Synced}
+use Rattle.editor_state.specs.{Made.ids_from, Makes.Synced}
 use Rattle.editor_blocks.proofs.BlocksWritten.{synced_none, synced_more, unsynced_here}
 use Rattle.editor_core.proofs.studio.Studio.sync_blocks.Goals as goal
 
@@ -22,8 +21,7 @@ rows-preserved g c =
     let new = record mid { store = store; cache = c.sync.new.self.cache } in
     let calls = c.sync.ensures in
     let done = c.in_default.ensures in record {
-      synced = synced_more g.S.Store
-          (core_of c.args.self.now) c.args.first c.rows.i mid new c.rows.invariant.synced
+      synced = synced_more g.S.Store (core_of c.args.self.now) c.args.first c.rows.i mid new c.rows.invariant.synced
           (λ i. record mid { store = store; cache = calls.cache i }) calls.reads done.durable calls.changed
           calls.read_faults done.faults.kept;
       history = c.rows.invariant.history;

@@ -1,15 +1,13 @@
 -- One sync after another.
-use Rattle.std.proofs.Common.{◌≡◌, ◌∙◌, ap, refl, sym, subst, ℕ, ◌+◌, [], ◌∷◌, ◌++◌}
-use Rattle.std.proofs.Common.{IsSome, Some, Option, Err, arith}
-use Rattle.std.proofs.lemmas.Result.{err_from_is_err_and}
+use Rattle.std.proofs.Common.{◌≡◌, refl, sym, subst, ℕ, ◌+◌, [], ◌∷◌, ◌++◌, IsSome, Some, Option, Err, arith}
+use Rattle.pcm_base.proofs.Exits.{after_err}
 use Rattle.block_cache.specs.Caches.{Entries}
 use Rattle.block_ledger.specs.Entries.{count_of}
 use Rattle.editor_core.specs.Core.{core_of}
 use Rattle.editor_cleanup.specs.Passes.{SyncsFirst}
-use Rattle.editor_cleanup.proofs.FirstIds.{first_none}
-use Rattle.editor_cleanup.proofs.IdRemovals.{long}
 use Rattle.editor_cleanup.proofs.SyncPass.{Syncing, next_there, none_there, syncing_more, syncing_none, syncs_all}
 use Rattle.editor_cleanup.proofs.SyncPass.{syncs_fail}
+use Rattle.editor_cleanup.proofs.{FirstIds.first_none, IdRemovals.long}
 use Rattle.editor_core.proofs.studio.Studio.sync_first.Goals as goal
 
 is_some : (o : Option ℕ) → o ≡ Some 0 → IsSome o
@@ -36,10 +34,9 @@ returns-in_err-sync g c =
     let mid = core_of c.loop-i.self in
     let is = c.loop-i.invariant in
     let few = c.loop-i-test.true in
-    let e = err_from_is_err_and c.from_residual.result c.from_residual.ensures.1 in
     let store = c.sync.new.self.store in
-    subst (λ r. SyncsFirst g.S.Store s c.args.count r (record mid { store = store; cache = c.sync.new.self.cache }))
-    (sym (e.1 ∙ ap Err e.2))
+    after_err (λ r. SyncsFirst g.S.Store s c.args.count r (record mid { store = store; cache = c.sync.new.self.cache }))
+    _ c.from_residual.result c.from_residual.ensures.1
     (subst (λ (k : Entries). SyncsFirst g.S.Store s c.args.count (Err c.in_err-sync.field-0.0)
     (record mid { store = store; cache = k })) (sym c.sync.ensures.cache)
     (syncs_fail g.S.Store s is.0 c.loop-i.from mid is.2 c.in-Some.id store c.in_err-sync.ensures.reads

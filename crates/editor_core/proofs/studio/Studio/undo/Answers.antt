@@ -1,68 +1,57 @@
 -- Undo is a step.
-use Rattle.std.proofs.Common.{◌≡◌, ◌∙◌, refl, sym, ap, subst, ℕ, ◌-◌, ◌<◌, ◌==◌, [], ◌∷◌, Err, Some, IfErr, IfOk, arith}
-use Rattle.std.proofs.lemmas.Result.{err_from_is_err_and}
-use Rattle.pcm_base.specs.declared.answer.Reply.TheVariants.{Done}
-use Rattle.pcm_base.specs.declared.command.Call.TheVariants.{Line}
-use Rattle.pcm_base.specs.declared.command.Command.TheVariants as command
-use Rattle.pcm_base.specs.declared.refusal.Refusal.{Refusal}
-use Rattle.pcm_base.specs.declared.refusal.Refusal.TheVariants.{NothingToUndo}
-use Rattle.pcm_base.specs.History.{at_cursor}
+use Rattle.std.proofs.Common.{◌≡◌, ◌∙◌, refl, sym, ap, subst, ℕ, ◌-◌, ◌<◌, ◌==◌, [], ◌∷◌, Some, IfErr, IfOk, arith}
+use Rattle.pcm_base.proofs.Exits.{after_err}
+use Rattle.pcm_base.specs.{declared.answer.Reply.TheVariants.Done, declared.command.Call.TheVariants.Line}
+use Rattle.pcm_base.specs.{declared.refusal.Refusal.Refusal, declared.refusal.Refusal.TheVariants.NothingToUndo}
+use Rattle.pcm_base.specs.{History.at_cursor}
 use Rattle.envelope_view.specs.Answers.{IsUndamaged}
-use Rattle.record_body.specs.declared.body.Body.TheVariants.{Undo}
-use Rattle.record_body.specs.Spelling.{spelling}
-use Rattle.editor_state.specs.Adding.{Adds, IsNoWant}
-use Rattle.editor_state.specs.Bodies.{single}
-use Rattle.editor_state.specs.Core.{Core}
+use Rattle.record_body.specs.{declared.body.Body.TheVariants.Undo, Spelling.spelling}
+use Rattle.editor_state.specs.Took.{Took, quietly, silent, as_reply}
+use Rattle.editor_state.specs.{Adding.Adds, Adding.IsNoWant, Bodies.single, Core.Core}
 use Rattle.editor_core.specs.Core.{core_of}
-use Rattle.editor_state.specs.Took.{Took, quietly, silent, told_by}
-use Rattle.editor_commits.proofs.CommitFailures.{fails}
-use Rattle.editor_commits.proofs.HistoryMoves.{undone, positive}
 use Rattle.editor_commits.proofs.MoveSteps.{undo_call, undoes, moved, tested_out, no_want, other_reason}
+use Rattle.editor_commits.proofs.{CommitFailures.fails, HistoryMoves.undone, HistoryMoves.positive}
 use Rattle.editor_state.proofs.Refusals.DamageTests.{TellsNone, one_tells, undamaged_test}
-use Rattle.editor_state.proofs.Refusals.EarlyRefusals.{none_made}
-use Rattle.editor_state.proofs.Blocks.CachePages.{pages_of_blocks}
+use Rattle.editor_state.proofs.{Refusals.EarlyRefusals.none_made, Blocks.CachePages.pages_of_blocks}
+use Rattle.pcm_base.specs.declared.command.Command.TheVariants as command
 use Rattle.editor_core.proofs.studio.Studio.undo.Goals as goal
 
 pub returns-in_err-may_commit-clause-took : goal.returns-in_err-may_commit-clause-took
 returns-in_err-may_commit-clause-took g c =
-    let p = err_from_is_err_and c.from_residual.result c.from_residual.ensures.1 in
     let s = core_of c.args.self.now in
-    subst (λ r. Took g.S.Store s (quietly (Line command.Undo) (told_by (λ (n : ℕ). Done) r)) s) (sym (p.1 ∙ ap Err p.2))
+    after_err (λ r. Took g.S.Store s (quietly (Line command.Undo) (as_reply (λ (n : ℕ). Done) r)) s) _
+    c.from_residual.result c.from_residual.ensures.1
     (tested_out g.S.Store s (Line command.Undo) 0 1 c.undo_refusal.result c.in_err-may_commit.field-0.0 c.requires
     (g.met.S.Store.may_fewer s.store) undo_call (omega arith) (λ held. (refl, refl))
     c.undo_refusal.ensures c.in_err-may_commit.ensures)
 
 pub returns-in_err-may_commit-clause-number : goal.returns-in_err-may_commit-clause-number
 returns-in_err-may_commit-clause-number g c =
-    let p = err_from_is_err_and c.from_residual.result c.from_residual.ensures.1 in
-    subst (λ r. IfOk r (λ (n : ℕ). n ≡ c.args.self.now.commit_number)) (sym (p.1 ∙ ap Err p.2)) tt
+    after_err (λ r. IfOk r (λ (n : ℕ). n ≡ c.args.self.now.commit_number)) _ c.from_residual.result
+    c.from_residual.ensures.1 tt
 
 pub returns-in_err-may_commit-clause-memory : goal.returns-in_err-may_commit-clause-memory
 returns-in_err-may_commit-clause-memory g c =
-    let p = err_from_is_err_and c.from_residual.result c.from_residual.ensures.1 in
     let s = core_of c.args.self.now in
     let why = c.in_err-may_commit.field-0.0 in
     let reason : (r : Refusal) → c.undo_refusal.result ≡ Some r → IsNoWant r =
     λ r e. other_reason (s.history.cursor == 0) NothingToUndo tt r (sym (c.undo_refusal.ensures) ∙ e) in
     let is : IsNoWant why =
     no_want s.stopped c.undo_refusal.result s.next_track 0 s.commit_number why reason c.in_err-may_commit.ensures in
-    subst (λ r. IfErr r IsNoWant) (sym (p.1 ∙ ap Err p.2)) is
+    after_err (λ r. IfErr r IsNoWant) _ c.from_residual.result c.from_residual.ensures.1 is
 
 pub returns-in_err-may_commit-clause-undamaged : goal.returns-in_err-may_commit-clause-undamaged
 returns-in_err-may_commit-clause-undamaged g c =
-    let p = err_from_is_err_and c.from_residual.result c.from_residual.ensures.1 in
     let s = core_of c.args.self.now in
     let why = c.in_err-may_commit.field-0.0 in
     let own : TellsNone c.undo_refusal.result =
     subst TellsNone (sym (c.undo_refusal.ensures)) (one_tells (s.history.cursor == 0) NothingToUndo tt) in
     let is : IsUndamaged why = undamaged_test s.stopped c.undo_refusal.result s.next_track 0 s.commit_number why own
     c.in_err-may_commit.ensures in
-    subst (λ r. IfErr r IsUndamaged) (sym (p.1 ∙ ap Err p.2)) is
+    after_err (λ r. IfErr r IsUndamaged) _ c.from_residual.result c.from_residual.ensures.1 is
 
 pub returns-in_err-commit_small-clause-took : goal.returns-in_err-commit_small-clause-took
 returns-in_err-commit_small-clause-took g c =
-    let p =
-    err_from_is_err_and c.from_residual-in_err-commit_small.result c.from_residual-in_err-commit_small.ensures.1 in
     let s = core_of c.args.self.now in
     let mid = core_of c.commit_small.new.self in
     let may = c.in_ok-may_commit.ensures in
@@ -70,8 +59,8 @@ returns-in_err-commit_small-clause-took g c =
     let some = positive s.history.cursor NothingToUndo own in
     let why = c.in_err-commit_small.field-0.0 in
     let adds = c.in_err-commit_small.ensures.record in
-    subst (λ r. Took g.S.Store s (quietly (Line command.Undo) (told_by (λ (n : ℕ). Done) r)) mid)
-    (sym (p.1 ∙ ap Err p.2))
+    after_err (λ r. Took g.S.Store s (quietly (Line command.Undo) (as_reply (λ (n : ℕ). Done) r)) mid) _
+    c.from_residual-in_err-commit_small.result c.from_residual-in_err-commit_small.ensures.1
     (fails g.S.Store s [] (Line command.Undo) silent 0 (single Undo)
     (at_cursor s.history (s.history.cursor - 1)) s.clipboard s.next_track c.requires (none_made g.S.Store s)
     (undoes g.S.Store s c.requires some) may.0 own may.2 (omega (arith, may.3))
@@ -79,21 +68,18 @@ returns-in_err-commit_small-clause-took g c =
 
 pub returns-in_err-commit_small-clause-number : goal.returns-in_err-commit_small-clause-number
 returns-in_err-commit_small-clause-number g c =
-    let p =
-    err_from_is_err_and c.from_residual-in_err-commit_small.result c.from_residual-in_err-commit_small.ensures.1 in
-    subst (λ r. IfOk r (λ (n : ℕ). n ≡ c.commit_small.new.self.commit_number)) (sym (p.1 ∙ ap Err p.2)) tt
+    after_err (λ r. IfOk r (λ (n : ℕ). n ≡ c.commit_small.new.self.commit_number)) _
+    c.from_residual-in_err-commit_small.result c.from_residual-in_err-commit_small.ensures.1 tt
 
 pub returns-in_err-commit_small-clause-memory : goal.returns-in_err-commit_small-clause-memory
 returns-in_err-commit_small-clause-memory g c =
-    let p =
-    err_from_is_err_and c.from_residual-in_err-commit_small.result c.from_residual-in_err-commit_small.ensures.1 in
-    subst (λ r. IfErr r IsNoWant) (sym (p.1 ∙ ap Err p.2)) c.in_err-commit_small.ensures.memory
+    after_err (λ r. IfErr r IsNoWant) _ c.from_residual-in_err-commit_small.result
+    c.from_residual-in_err-commit_small.ensures.1 c.in_err-commit_small.ensures.memory
 
 pub returns-in_err-commit_small-clause-undamaged : goal.returns-in_err-commit_small-clause-undamaged
 returns-in_err-commit_small-clause-undamaged g c =
-    let p =
-    err_from_is_err_and c.from_residual-in_err-commit_small.result c.from_residual-in_err-commit_small.ensures.1 in
-    subst (λ r. IfErr r IsUndamaged) (sym (p.1 ∙ ap Err p.2)) c.in_err-commit_small.ensures.undamaged
+    after_err (λ r. IfErr r IsUndamaged) _ c.from_residual-in_err-commit_small.result
+    c.from_residual-in_err-commit_small.ensures.1 c.in_err-commit_small.ensures.undamaged
 
 pub returns-clause-took : goal.returns-clause-took
 returns-clause-took g c =

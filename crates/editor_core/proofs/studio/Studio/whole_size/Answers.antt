@@ -1,5 +1,5 @@
 -- The lengths of records that come together, written out whole.
-use Rattle.record_body.specs.Kept.{current_tracks}
+use Rattle.record_body.specs.Saved.{current_tracks}
 use Rattle.editor_core.specs.Core.{core_of}
 use Rattle.editor_commits.proofs.RecordRows.{whole_total}
 use Rattle.editor_core.proofs.studio.Studio.whole_size.Goals as goal

@@ -1,10 +1,7 @@
 -- The same record as often as it is asked for.
 use Rattle.std.proofs.Common.{◌≡◌, ◌∙◌, ap, [], List, ℕ, subst, sym}
 use Rattle.std.proofs.lemmas.Result.{on_ok_weaker}
-use Rattle.record_body.specs.Batches.{with_point}
-use Rattle.record_body.specs.declared.body.Body.{Body}
-use Rattle.record_body.specs.Kept.{current_tracks}
-use Rattle.record_body.specs.Numbers.{BodyAgrees}
+use Rattle.record_body.specs.{Batches.with_point, declared.body.Body.Body, Saved.current_tracks, Numbers.BodyAgrees}
 use Rattle.record_body.proofs.Agreeing.{again_agrees}
 use Rattle.editor_state.specs.Bodies.{body_bytes}
 use Rattle.editor_core.specs.Core.{core_of}

@@ -1,16 +1,13 @@
 -- One block after another.
-use Rattle.std.proofs.Common.{◌≡◌, ◌∙◌, ℕ, false, length, refl, sym, ap, subst, arith, Err}
+use Rattle.std.proofs.Common.{◌≡◌, ◌∙◌, ℕ, false, length, refl, sym, subst, arith}
 use Rattle.std.proofs.lemmas.Option.{slice_get_read}
-use Rattle.std.proofs.lemmas.Result.{err_from_is_err_and}
+use Rattle.pcm_base.proofs.Exits.{after_err}
 use Rattle.edit_ops.specs.declared.types.NewBlock.{NewBlock}
-use Rattle.piece_store.specs.Brought.{AreInOrder, Brought, MayBring}
+use Rattle.block_writer.specs.Brought.{AreInOrder, Brought, MayBring}
 use Rattle.block_cache.specs.Caches.{AllPass}
 use Rattle.block_ledger.specs.Entries.{count_of}
-use Rattle.editor_state.specs.Core.{Core}
+use Rattle.editor_state.specs.{Core.Core, Made.batch_of, Makes.MadeOne, Makes.Writes, Makes.Written, Studios.is_given}
 use Rattle.editor_core.specs.Core.{core_of}
-use Rattle.editor_state.specs.Made.{batch_of}
-use Rattle.editor_state.specs.Makes.{MadeOne, Writes, Written}
-use Rattle.editor_state.specs.Studios.{is_given}
 use Rattle.editor_blocks.proofs.BroughtSamples.{brought_more, brought_none, next_order}
 use Rattle.editor_blocks.proofs.BlocksWritten.{making_next, making_size}
 use Rattle.editor_blocks.proofs.NextBlock.{item, ready_item, fresh_next, stuck_here}
@@ -92,16 +89,16 @@ returns-in_err-write_one-clause-written g c =
     let n = c.rows.block-index in
     let b : NewBlock = c.block-item.result in
     let here = slice_get_read bs _ n b refl c.rows-test.true c.block-item.is in
-    let e = err_from_is_err_and c.from_residual.result c.from_residual.ensures.1 in
     let new = core_of c.write_one.new.self in
     let failed = c.in_err-write_one.ensures in
     let was = c.rows.invariant.brought in (
       was.samples,
       was.may,
-      subst (λ r. Writes g.S.Store s (batch_of was.samples bs) r new) (sym (e.1 ∙ ap Err e.2))
+      after_err (λ r. Writes g.S.Store s (batch_of was.samples bs) r new) _ c.from_residual.result
+          c.from_residual.ensures.1
           (stuck_here g.S.Store s was.samples bs n
           (core_of c.rows.self) was.written.making c.rows-test.true c.requires.new b here
-          c.in_err-write_one.field-0.0 new was.written.read_faults failed.made failed.sound failed.damaged),
+          c.in_err-write_one.field-0.0 new was.written.read_faults failed.made failed.valid failed.damaged),
     )
 
 pub write_one-requires-clause-order : goal.write_one-requires-clause-order

@@ -19,7 +19,6 @@ use_track-requires-clause-few c =
 pub loop-i-preserved : goal.loop-i-preserved
 loop-i-preserved c =
     let next : c.loop-i.i ≡ c.loop-i.i - 1 + 1 = omega (arith, c.loop-i-test.true) in
-    came_here c.args.point.now (c.loop-i.i - 1) _ c.track_at.ensures c.args.self.now c.loop-i.self
-    c.use_track.new.self
+    came_here c.args.point.now (c.loop-i.i - 1) _ c.track_at.ensures c.args.self.now c.loop-i.self c.use_track.new.self
     (subst (λ (n : ℕ). Comes (drop n c.args.point.now) c.args.self.now c.loop-i.self) next c.loop-i.invariant)
     c.use_track.ensures

@@ -1,7 +1,6 @@
 -- One call more.
 use Rattle.std.proofs.Common.{◌≡◌, ◌+◌, ℕ, None, Some, List, set, refl, sym, subst, ap, ◌∙◌, arith}
-use Rattle.std.specs.Prelude.{Vec}
-use Rattle.std.specs.declared.alloc.Global.{Global}
+use Rattle.std.specs.{Prelude.Vec, declared.alloc.Global.Global}
 use Rattle.memory_disk.specs.Index.{IsIndexed, MakesFile, reads_at, file_at, no_call, head_of, size_from}
 use Rattle.memory_disk.specs.declared.heads.Head.{Head}
 use Rattle.memory_disk.proofs.CallsLemmas.{held_at}

@@ -1,11 +1,7 @@
 -- The files that have a size are there.
-use Rattle.std.proofs.Common.{◌≡◌, List, sym, ap, ◌∙◌}
+use Rattle.std.proofs.{Common.◌≡◌, Common.List, Common.sym, Common.ap, Common.◌∙◌, lemmas.Result.on_ok_weaker}
 use Rattle.std.specs.Prelude.{is_some}
-use Rattle.std.proofs.lemmas.Result.{on_ok_weaker}
-use Rattle.memory_disk.specs.History.{reads_of}
-use Rattle.memory_disk.specs.Index.{head_of, size_from}
-use Rattle.memory_disk.specs.Ram.{Log}
-use Rattle.memory_disk.specs.declared.heads.Head.{Head}
+use Rattle.memory_disk.specs.{History.reads_of, Index.head_of, Index.size_from, Ram.Log, declared.heads.Head.Head}
 use Rattle.memory_disk.proofs.ReadChain.{there_read}
 use Rattle.memory_disk.proofs.log.CallLog.list.Goals as goal
 

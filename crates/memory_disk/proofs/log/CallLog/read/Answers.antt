@@ -2,10 +2,7 @@
 use Rattle.std.proofs.Common.{◌≡◌, ◌++◌, ◌-◌, ℕ, Option, Some, None, List, length, min, take, drop, refl, sym, subst}
 use Rattle.std.proofs.Common.{ap, ◌∙◌, arith}
 use Rattle.disk_model.specs.Disk.{bytes_of}
-use Rattle.memory_disk.specs.History.{reads_of}
-use Rattle.memory_disk.specs.Index.{head_of, size_from}
-use Rattle.memory_disk.specs.Ram.{Log}
-use Rattle.memory_disk.specs.declared.heads.Head.{Head}
+use Rattle.memory_disk.specs.{History.reads_of, Index.head_of, Index.size_from, Ram.Log, declared.heads.Head.Head}
 use Rattle.memory_disk.proofs.ReadChain.{absent_read, reads_seen, head_seen}
 use Rattle.memory_disk.proofs.log.CallLog.read.Goals as goal
 
@@ -25,22 +22,17 @@ returns-in-None-clause-count c =
     ∙ absent_read _ _ _ _ c.self.invariant.indexed c.args.file none in
     omega (arith, ap (λ (o : Option (List ℕ)). length (bytes_of o)) absent)
 
-pub returns-in-Some-clause-read : goal.returns-in-Some-clause-read
-returns-in-Some-clause-read c =
+pub returns-in-Some : goal.returns-in-Some
+returns-in-Some c =
     let found = subst (λ (l : List Head). head_of l c.args.file ≡ Some c.in-Some.head) c.deref.ensures.value
     c.in-Some.ensures.there.0 in
     let same = reads_seen _ _ _ _ _ _ c.deref-in-Some-2.ensures.value c.deref-in-Some.ensures.value
     (c.self.invariant.indexed.known c.args.file c.in-Some.head found).0
-    ∙ ap (λ (log : Log). reads_of log.history c.args.file) c.self.view_is in
-    c.read_part.ensures.read ∙ ap (λ (o : Option (List ℕ)). take c.read_part.result (drop c.args.at (bytes_of o))
-    ++ drop c.read_part.result c.args.buf.now) same
-
-pub returns-in-Some-clause-count : goal.returns-in-Some-clause-count
-returns-in-Some-clause-count c =
-    let found = subst (λ (l : List Head). head_of l c.args.file ≡ Some c.in-Some.head) c.deref.ensures.value
-    c.in-Some.ensures.there.0 in
-    let same = reads_seen _ _ _ _ _ _ c.deref-in-Some-2.ensures.value c.deref-in-Some.ensures.value
-    (c.self.invariant.indexed.known c.args.file c.in-Some.head found).0
-    ∙ ap (λ (log : Log). reads_of log.history c.args.file) c.self.view_is in
-    c.read_part.ensures.count
-    ∙ ap (λ (o : Option (List ℕ)). min (length c.args.buf.now) (length (bytes_of o) - c.args.at)) same
+    ∙ ap (λ (log : Log). reads_of log.history c.args.file) c.self.view_is in record {
+      read =
+          c.read_part.ensures.read ∙ ap (λ (o : Option (List ℕ)). take c.read_part.result (drop c.args.at (bytes_of o))
+          ++ drop c.read_part.result c.args.buf.now) same;
+      count =
+          c.read_part.ensures.count
+          ∙ ap (λ (o : Option (List ℕ)). min (length c.args.buf.now) (length (bytes_of o) - c.args.at)) same;
+    }

@@ -1,11 +1,9 @@
 -- The write stands in the list and in its index.
 use Rattle.std.proofs.Common.{◌≡◌, ◌+◌, ◌-◌, ◌∷◌, ℕ, None, List, length, refl, sym, ap, ◌∙◌, arith}
-use Rattle.std.specs.Prelude.{vec_len}
 use Rattle.std.proofs.lemmas.Bool.{false≢true}
-use Rattle.memory_disk.specs.History.{Step, Wrote, reads_of}
-use Rattle.memory_disk.specs.Calls.{history_of}
-use Rattle.memory_disk.specs.Index.{MakesFile, reads_at, file_at}
-use Rattle.memory_disk.specs.Ram.{Log, files_after, with_write}
+use Rattle.std.specs.Prelude.{vec_len}
+use Rattle.memory_disk.specs.{History.Step, History.Wrote, History.reads_of, Calls.history_of, Index.MakesFile}
+use Rattle.memory_disk.specs.{Index.reads_at, Index.file_at, Ram.Log, Ram.files_after, Ram.with_write}
 use Rattle.memory_disk.proofs.Grown.{on_ok, indexed_grown, indexed_seen, makes_seen, made_absent}
 use Rattle.memory_disk.proofs.Places.{size_none, not_both, heads_fit, files_are, full_files, not_full}
 use Rattle.memory_disk.proofs.log.CallLog.write.Goals as goal

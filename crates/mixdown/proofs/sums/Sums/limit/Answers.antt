@@ -1,9 +1,7 @@
 -- One frame more is stored.
-use Rattle.std.proofs.Common.{◌≡◌, ℤ, refl, arith, ◌∙◌, to_z, of_z, w64}
+use Rattle.std.proofs.Common.{◌≡◌, ℤ, refl, arith, ◌∙◌, to_z, of_z, w32}
+use Rattle.std.proofs.{lemmas.Int.ints, lemmas.List.take_more_set, lemmas.List.FromFn.map-range_with_len_more}
 use Rattle.std.specs.Prelude.{◌+ℤ◌}
-use Rattle.std.proofs.lemmas.Int.{ints}
-use Rattle.std.proofs.lemmas.List.{take_more_set}
-use Rattle.std.proofs.lemmas.List.FromFn.{map-range_with_len_more}
 use Rattle.mixdown.specs.Sums.{sum_in, limited, frame_in}
 use Rattle.mixdown.proofs.sums.Sums.limit.Goals as goal
 
@@ -20,9 +18,8 @@ loop-k-preserved c =
     let left = c.requires.left c.loop-k.k (omega arith) in
     let right = c.requires.right c.loop-k.k (omega arith) in
     let here : c.limited.result ≡ frame_in self.both self.left self.right c.loop-k.k =
-    c.limited.ensures ∙ frame_is (to_z w64 (of_z w64 c.add.result))
-    (to_z w64 (of_z w64 c.add-in-loop-k.result)) (sum_in self.both c.loop-k.k +ℤ sum_in self.left c.loop-k.k)
-    (sum_in self.both c.loop-k.k +ℤ sum_in self.right c.loop-k.k)
-    (omega (arith, ints, both, left, c.add.ensures.value))
+    c.limited.ensures ∙ frame_is (to_z w32 (of_z w32 c.add.result))
+    (to_z w32 (of_z w32 c.add-in-loop-k.result)) (sum_in self.both c.loop-k.k +ℤ sum_in self.left c.loop-k.k)
+    (sum_in self.both c.loop-k.k +ℤ sum_in self.right c.loop-k.k) (omega (arith, ints, both, left, c.add.ensures.value))
     (omega (arith, ints, both, right, c.add-in-loop-k.ensures.value)) in
     cc

@@ -1,8 +1,8 @@
 -- The first seat is the last one left, so it has seen all, and the value is at home.
 use Rattle.std.proofs.Common.{rules, sym, ap, subst, ◌∙◌, ◌≡◌, Some}
 use Rattle.std.specs.Prelude.{IsSome}
-use mathlib.Core.Option.{some-injective}
 use Rattle.pin_turn.proofs.KeepsEnd.{closes}
+use mathlib.Core.Option.{some-injective}
 use Rattle.pin_turn.proofs.turn.Turn.close.Goals as goal
 
 pub unwrap-value-requires : goal.unwrap-value-requires

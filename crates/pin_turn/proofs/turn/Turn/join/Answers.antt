@@ -1,7 +1,6 @@
 -- The join and the comparison after it keep the rule, and the seat knows what the two steps told.
 use Rattle.std.proofs.Common.{rules, ap, ◌∙◌}
-use Rattle.pin_turn.proofs.KeepsJoins.{joins, compares}
-use Rattle.pin_turn.proofs.Calls.{is_settled, hears}
+use Rattle.pin_turn.proofs.{KeepsJoins.joins, KeepsJoins.compares, Calls.is_settled, Calls.hears}
 use Rattle.pin_turn.proofs.turn.Turn.join.Goals as goal
 
 pub join_seat-requires : goal.join_seat-requires

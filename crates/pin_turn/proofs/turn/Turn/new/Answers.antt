@@ -1,10 +1,8 @@
 -- The rule holds of the table as it is made.
 use Rattle.std.proofs.Common.{◌≡◌, List, [], ◌∷◌, ◌++◌, Option, Some, refl, ap, sym, subst, ◌∙◌}
 use Rattle.atomic_table.specs.Table.{opening}
-use Rattle.pin_turn.specs.Views.{first_view}
-use Rattle.pin_turn.specs.Rule.{TurnRule}
-use Rattle.pin_turn.proofs.KeepsTurn.{starts}
-use Rattle.pin_turn.proofs.Calls.{rests}
+use Rattle.pin_turn.specs.{Views.first_view, Rule.TurnRule}
+use Rattle.pin_turn.proofs.{KeepsTurn.starts, Calls.rests}
 use Rattle.pin_turn.proofs.turn.Turn.new.Goals as goal
 
 pub new-requires : goal.new-requires

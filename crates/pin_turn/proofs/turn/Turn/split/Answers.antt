@@ -1,9 +1,7 @@
 -- The draw of a number and the split keep the rule, and both seats rest afterwards.
 use Rattle.std.proofs.Common.{◌≡◌, ℕ, rules, refl, sym, subst, ap, ◌∙◌}
-use Rattle.pin_turn.specs.Views.{drawn_or}
-use Rattle.pin_turn.specs.Rule.{IsNewNumber}
-use Rattle.pin_turn.proofs.KeepsSplits.{draws_number, splits}
-use Rattle.pin_turn.proofs.Calls.{rests, is_settled}
+use Rattle.pin_turn.specs.{Views.drawn_or, Rule.IsNewNumber}
+use Rattle.pin_turn.proofs.{KeepsSplits.draws_number, KeepsSplits.splits, Calls.rests, Calls.is_settled}
 use Rattle.pin_turn.proofs.turn.Turn.split.Goals as goal
 
 pub load-requires : goal.load-requires

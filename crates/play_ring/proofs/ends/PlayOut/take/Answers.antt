@@ -1,7 +1,6 @@
 -- One frame more, and the end mark.
 use Rattle.std.proofs.Common.{◌≡◌, [], ◌∷◌, ◌++◌, ◌+◌, take, slice_set, append_assoc, rules, arith, ap, ◌∙◌}
-use Rattle.std.proofs.lemmas.List.{take_more_set, map-append}
-use Rattle.std.proofs.lemmas.Grind.{common_steps}
+use Rattle.std.proofs.{lemmas.List.take_more_set, lemmas.List.map-append, lemmas.Grind.common_steps}
 use Rattle.play_ring.specs.declared.ends.Item.TheVariants.{Sound, End}
 use Rattle.play_ring.specs.Ends.{received, sounds}
 use Rattle.play_ring.proofs.KnownLemmas.{IsPrefix-pop}

@@ -1,7 +1,7 @@
 -- The first frames were received.
 use Rattle.std.proofs.Common.{◌≡◌, ◌≤◌, ◌-◌, ◌++◌, length, take}
-use mathlib.Core.List.{IsPrefix}
 use Rattle.play_ring.specs.Ends.{received, sounds, known_items, SameOut}
+use mathlib.Core.List.{IsPrefix}
 use Rattle.play_ring.proofs.ends.PlayOut.take.Given as goal
 
 abbrev pub invariant-loop-count : goal.invariant-loop-count

@@ -1,7 +1,6 @@
 -- The track at the place that is looked at first, or the first of its id, or none.
 use Rattle.std.proofs.Common.{◌≡◌, ℕ, Some, sym, ap, subst, ◌∙◌}
-use Rattle.project_state.specs.declared.track.Track.{Track}
-use Rattle.project_state.specs.Tracks.{track_of}
+use Rattle.project_state.specs.{declared.track.Track.Track, Tracks.track_of}
 use Rattle.project_state.proofs.Points.{some_is, track_here, track_more, track_there}
 use Rattle.project_state.proofs.point.Point.place_of.Goals as goal
 

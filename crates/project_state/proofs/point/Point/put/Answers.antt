@@ -2,8 +2,7 @@
 use Rattle.std.proofs.Common.{ap, subst, sym, ◌∙◌, [], ◌∷◌, ◌<◌, length}
 use Rattle.std.proofs.lemmas.List.{map-append}
 use Rattle.std.specs.Arc.{arc_value}
-use Rattle.project_state.specs.Tracks.{AllBelow, IsPoint}
-use Rattle.project_state.specs.Shared.{tracks_of}
+use Rattle.project_state.specs.{Tracks.AllBelow, Tracks.IsPoint, Shared.tracks_of}
 use Rattle.project_state.proofs.Points.{IsPoint-push}
 use Rattle.project_state.proofs.point.Point.put.Goals as goal
 

@@ -1,7 +1,6 @@
 -- One track more is shared, or put in its place.
 use Rattle.std.proofs.Common.{List, ◌∷◌, [], ◌++◌, sym, ap, subst, ◌∙◌, arith, take}
-use Rattle.project_state.specs.declared.track.Track.{Track}
-use Rattle.project_state.specs.Tracks.{AllBelow, put_in, put_one}
+use Rattle.project_state.specs.{declared.track.Track.Track, Tracks.AllBelow, Tracks.put_in, Tracks.put_one}
 use Rattle.project_state.proofs.Points.{some_at, take_some, put_taken_below, put_more}
 use Rattle.project_state.proofs.point.Point.with.Goals as goal
 

@@ -1,7 +1,6 @@
 -- One track more is shared, or left out.
 use Rattle.std.proofs.Common.{List, ◌++◌, sym, ap, subst, ◌∙◌, arith, take, length, length-take, ◌<◌}
-use Rattle.project_state.specs.declared.track.Track.{Track}
-use Rattle.project_state.specs.Tracks.{AllBelow, without, other_one}
+use Rattle.project_state.specs.{declared.track.Track.Track, Tracks.AllBelow, Tracks.without, Tracks.other_one}
 use Rattle.project_state.proofs.Points.{some_at, take_some, without_taken_below, without_more, without_few}
 use Rattle.project_state.proofs.point.Point.without.Goals as goal
 

@@ -3,7 +3,8 @@ use Rattle.std.proofs.Common.{◌≡◌, sym, subst, true, false, ℕ, ◌+◌, 
 use Rattle.std.proofs.lemmas.Option.{slice_get-get_or}
 use Rattle.pcm_base.specs.declared.block.BlockRef.{BlockRef}
 use Rattle.purge_size.specs.Fits.{Takes}
-use Rattle.purge_size.proofs.Taking.{same_takes, single, took_no_more}
+use Rattle.purge_size.proofs.Taking.{same_takes, took_no_more}
+use Rattle.layout_uses.proofs.Turns.{single}
 use Rattle.purge_size.proofs.fitting.Fitting.take_blocks.Goals as goal
 
 pub returns-then-not-branch : goal.returns-then-not-branch
@@ -16,6 +17,5 @@ returns-then-not-branch c =
     let was = subst (λ (n : ℕ). Takes true (drop n bs) c.args.self.now c.loop-i.self) next c.loop-i.invariant in
     subst (λ z. Takes false z c.args.self.now c.take_block.new.self) (single bs)
     (took_no_more (λ (b : BlockRef). b ∷ []) bs i _ (slice_get-get_or bs i none within) c.args.self.now c.loop-i.self
-    c.take_block.new.self
-    (subst (λ z. Takes true z c.args.self.now c.loop-i.self) (sym (single (drop (i + 1) bs))) was)
+    c.take_block.new.self (subst (λ z. Takes true z c.args.self.now c.loop-i.self) (sym (single (drop (i + 1) bs))) was)
     (same_takes _ false _ _ _ c.if-not-branch.true c.in_ok-take_block.ensures))

@@ -1,10 +1,10 @@
 -- A clip that fits, or does not.
 use Rattle.std.proofs.Common.{◌≡◌, refl, sym, subst, ap, ◌∙◌, true, false, ℕ, ◌+◌, ◌-◌, drop, arith, ◌<◌, length}
 use Rattle.std.proofs.lemmas.Option.{slice_get_read}
-use Rattle.clip_track.specs.declared.clips.Clip.{Clip}
-use Rattle.clip_track.specs.Clips.{layout_blocks}
+use Rattle.clip_track.specs.{declared.clips.Clip.Clip, Clips.layout_blocks}
 use Rattle.purge_size.specs.Fits.{AreSmall, Takes}
-use Rattle.purge_size.proofs.Taking.{layout_flat, same_takes, small_here, took_no_more}
+use Rattle.purge_size.proofs.Taking.{same_takes, small_here, took_no_more}
+use Rattle.layout_uses.proofs.Turns.{layout_flat}
 use Rattle.purge_size.proofs.fitting.Fitting.take_clips.Goals as goal
 
 pub take_blocks-requires : goal.take_blocks-requires
@@ -29,7 +29,6 @@ returns-then-not-branch c =
     c.loop-i.invariant in
     subst (λ z. Takes false z c.args.self.now c.take_blocks.new.self) (sym (layout_flat cs))
     (took_no_more (λ (x : Clip). x.blocks) cs i c.index-clips-i.result here c.args.self.now c.loop-i.self
-    c.take_blocks.new.self
-    (subst (λ z. Takes true z c.args.self.now c.loop-i.self) (layout_flat (drop (i + 1) cs)) was)
+    c.take_blocks.new.self (subst (λ z. Takes true z c.args.self.now c.loop-i.self) (layout_flat (drop (i + 1) cs)) was)
     (subst (λ z. Takes false z c.loop-i.self c.take_blocks.new.self) value
     (same_takes _ false _ _ _ c.if-not-branch.true c.in_ok-take_blocks.ensures)))

@@ -1,6 +1,5 @@
 -- The upper bits of the next state.
-use Rattle.std.proofs.Common.{arith}
-use Rattle.std.proofs.lemmas.Grind.{common_steps}
+use Rattle.std.proofs.{Common.arith, lemmas.Grind.common_steps}
 use Rattle.script_gen.specs.Draws.{drawn}
 use Rattle.script_gen.proofs.place.Place.draw.Goals as goal
 

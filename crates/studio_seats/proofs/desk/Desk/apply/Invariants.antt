@@ -1,15 +1,13 @@
 -- The deed of the turn.
 use Rattle.std.proofs.Common.{[], ◌∷◌}
-use Rattle.pcm_base.specs.declared.command.Call.TheVariants.{Line}
-use Rattle.pcm_base.specs.Run.{name_in_line}
+use Rattle.pcm_base.specs.{declared.command.Call.TheVariants.Line, Run.name_in_line}
 use Rattle.pin_turn.specs.Calls.{known}
-use Rattle.editor_state.specs.Applied.{move_of}
-use Rattle.editor_state.specs.Took.{told_by}
+use Rattle.editor_state.specs.{Applied.move_of, Took.as_reply}
 use Rattle.studio_seats.specs.Deeds.{deed}
 use Rattle.studio_seats.proofs.desk.Desk.apply.Given as goal
 
 abbrev pub ghosts-with : goal.ghosts-with
 ghosts-with g a = record {
-  added = λ r f'. deed (known a.seat.now).number (Line a.f.now.2.now) (told_by (λ _. f'.3.now.reply) r.what)
+  added = λ r f'. deed (known a.seat.now).number (Line a.f.now.2.now) (as_reply (λ _. f'.3.now.reply) r.what)
       (move_of (name_in_line a.f.now.2.now) (g.V.Vault.holds a.f.now.1.now) (g.V.Vault.holds f'.1.now)) ∷ [];
 }

@@ -1,16 +1,13 @@
 -- The pieces of some chunks are one turn of the seat, and a reclaim after it another.
 use Rattle.std.proofs.Common.{◌≡◌, ◌+◌, ◌-◌, ◌≤◌, List, ℤ, ℕ, Bool, length, take, sym, ◌∙◌, subst, false, arith}
-use Rattle.std.specs.Prelude.{IfErr, IfOk, is_err}
 use Rattle.std.proofs.lemmas.List.{length-take-le}
-use Rattle.pcm_base.specs.declared.answer.Reply.TheVariants.{Done}
-use Rattle.pcm_base.specs.declared.command.Call.TheVariants.{Piece}
+use Rattle.std.specs.Prelude.{IfErr, IfOk, is_err}
+use Rattle.pcm_base.specs.{declared.answer.Reply.TheVariants.Done, declared.command.Call.TheVariants.Piece}
 use Rattle.pin_turn.specs.Calls.{known}
-use Rattle.editor_state.specs.Took.{silent, told_by}
+use Rattle.editor_state.specs.Took.{silent, as_reply}
 use Rattle.edit_ports.specs.Answers.{AreTaken, samples_of}
 use Rattle.studio_seats.specs.Desks.{Says, asked, start_at, views}
-use Rattle.studio_seats.specs.Pieces.{pieces_by}
-use Rattle.studio_seats.specs.Recording.{RecordsOn, recorder}
-use Rattle.studio_seats.specs.Stands.{origin}
+use Rattle.studio_seats.specs.{Pieces.pieces_by, Recording.RecordsOn, Recording.recorder, Stands.origin}
 use Rattle.studio_seats.proofs.Batches.{are_taken, if_ok_as, taken_err, taken_is_err, taken_ok, taken_on, tried_first}
 use Rattle.studio_seats.proofs.PieceLemmas.{tagged, takes_err, takes_ok}
 use Rattle.studio_seats.proofs.RecordingLemmas.{number_free, pieces_free, records_free, records_turn}
@@ -113,7 +110,7 @@ returns-clause-goes g c = λ first h.
     let low = firsts.few in
     let few : s.since + c.pieces_in-pieces.result ≤ 64 = omega (arith, low, s.few, c.pieces_in-pieces.ensures) in
     let named = subst (λ (z : ℕ × ℕ). Says (origin g.S.Store g.V.Vault (start_at s.desk.now))
-    (asked (Piece z.0 z.1 samples) (told_by (λ (n : ℕ). Done) said.what) silent) said (views (known s.seat) mid))
+    (asked (Piece z.0 z.1 samples) (as_reply (λ (n : ℕ). Done) said.what) silent) said (views (known s.seat) mid))
     (λ i. (h.1 i, h.2 i)) c.pieces-tried.ensures.says in (
       h.0,
       h.1,

@@ -1,0 +1,277 @@
+-- Clips and blocks that are passed.
+use Rattle.std.specs.Prelude.{Contains, replicate}
+use Rattle.std.proofs.Common.{◌≡◌, ℕ, ◌+◌, ◌-◌, ◌≤◌, ◌<◌, ⊎_elim, List, [], ◌∷◌, ◌++◌, length, take, drop, map, min}
+use Rattle.std.proofs.Common.{get_or, refl, sym, ap, ap₂, subst, ◌∙◌, arith, length-append, length-drop, append_assoc}
+use Rattle.std.proofs.Common.{append-nil}
+use Rattle.std.proofs.lemmas.List.{drop_all, length-take, get_or-take, get_or-drop, get_or_past, get_or-replicate}
+use Rattle.std.proofs.lemmas.List.{length-map, length-replicate, map-append, get_or_append_left, get_or-append_right}
+use Rattle.std.proofs.lemmas.List.{ext_get_or, take_min}
+use Rattle.std.proofs.{lemmas.List.Elements.Contains-append_right, lemmas.Bool.cases_lt}
+use Rattle.pcm_base.specs.{declared.block.BlockRef.BlockRef, declared.sound.Cell.Cell, Pieces.Sources, Pieces.stretch}
+use Rattle.pcm_base.specs.{Blocks.blocks_len, Blocks.block_samples, Edits.part}
+use Rattle.pcm_base.proofs.Pieces.{length-stretch}
+use Rattle.block_sequence.proofs.Whole.{length-blocks}
+use Rattle.clip_track.specs.declared.clips.Clip.{Clip}
+use Rattle.clip_track.specs.Clips.{AreClips, end_of, clip_end, cells_from, layout_cells, layout_blocks}
+use Rattle.clip_track.proofs.Layouts.{AreClips-next}
+use Rattle.sample_block.specs.Sources.{AllNamed}
+use Rattle.block_cache.specs.Caches.{Entries}
+use Rattle.cell_reader.specs.Kept.{HasBlocks, HasClips, HasRest}
+use Rattle.cell_reader.specs.Rests.{rest_cells, rest_blocks, IsRest, IsRestOf, AreSeen}
+use Rattle.cell_reader.specs.{Seen.place_in, Seen.Puts, declared.places.View.View, declared.rest.TrackRest.TrackRest}
+use Rattle.cell_reader.proofs.{PartLists.take_front, SeenLaws.named_front, SeenLaws.named_back}
+use borrow.Rule.Slice.PartMut.{put_mid}
+use Rattle.pcm_base.specs.declared.sound.Cell.TheVariants as cell
+
+abbrev pub cells_at : Sources → ℕ → ℕ → ℕ → List BlockRef → List Clip → List Cell
+cells_at src at start end bs cs =
+    replicate (start - at) cell.Gap ++ map cell.Sample (block_samples src bs) ++ cells_from src end cs
+
+-- a front of a rest's cells is passed
+moved : (from : ℕ) (cs : List Clip) (r r' : TrackRest) (gone : List BlockRef) (xs : Sources → List Cell) → IsRest r'
+    → r'.at ≤ from
+    → ((src : Sources) → r.at + length (xs src) ≡ r'.at)
+    → ((src : Sources) → rest_cells src r ≡ xs src ++ rest_cells src r')
+    → end_of r'.end r'.clips.now ≡ end_of r.end r.clips.now → rest_blocks r ≡ gone ++ rest_blocks r'
+    → ((a : Entries) (view : View) → HasRest a view r → HasRest a view r') → IsRestOf from cs r → IsRestOf from cs r'
+moved from cs r r' gone xs rest passed size cells same blocks kept is = record {
+  rest = rest;
+  passed = passed;
+  same_end = same ∙ is.same_end;
+  cells = λ src i le.
+      let place : i - r.at - length (xs src) ≡ i - r'.at = omega (arith, size src) in
+      ap (λ (k : ℕ). get_or (rest_cells src r') k cell.Gap) (sym place)
+      ∙ sym (get_or-append_right (xs src) (rest_cells src r') (length (xs src)) (i - r.at) cell.Gap refl
+      (omega (arith, size src, le, passed)))
+      ∙ ap (λ (ys : List Cell). get_or ys (i - r.at) cell.Gap) (sym (cells src))
+      ∙ is.cells src i le;
+  blocks = λ b has. is.blocks b (subst (λ (bs : List BlockRef). Contains bs b) (sym blocks)
+      (Contains-append_right gone (rest_blocks r') b has));
+  kept = λ a from to has. kept a (record { from = from; to = to }) (is.kept a from to has);
+}
+
+module _ (r r' : TrackRest) (b : BlockRef) (same : r.blocks.now ≡ b ∷ r'.blocks.now) (at : r'.at ≡ r.start + b.len)
+    (start : r'.start ≡ r'.at) (end : r'.end ≡ r.end) (clips : r'.clips.now ≡ r.clips.now) where
+  pub block_rest : IsRest r → IsRest r'
+  block_rest is =
+      let N : List BlockRef → Type 0 = AllNamed in
+      let C : List Clip → Type 0 = λ cs. AreClips r.end cs in
+      let L : List Clip → Type 0 = λ cs. AllNamed (layout_blocks cs) in
+      let A : ℕ → Type 0 = λ n. AreClips n r'.clips.now in
+      record {
+        later = omega (arith, start);
+        whole = omega (arith, start, at, end, is.whole, ap blocks_len same);
+        apart = subst A (sym end) (subst C (sym clips) is.apart);
+        few = omega (arith, ap (end_of r.end) clips, ap (λ n. end_of n r'.clips.now) end, is.few);
+        named = (subst N same is.named).1;
+        clips_named = subst L (sym clips) is.clips_named;
+      }
+
+  block_cells : (src : Sources) → rest_cells src r
+      ≡ (replicate (r.start - r.at) cell.Gap ++ map cell.Sample (stretch (src.block b.id) 0 b.len)) ++ rest_cells src r'
+  block_cells src =
+      let gap : List Cell = replicate (r.start - r.at) cell.Gap in
+      let one : List Cell = map cell.Sample (stretch (src.block b.id) 0 b.len) in
+      let more : List Cell = map cell.Sample (block_samples src r'.blocks.now) in
+      let rest : List Cell = cells_from src r.end r.clips.now in
+      let none : 0 ≡ r'.start - r'.at = omega (arith, start) in
+      ap (λ (bs : List BlockRef). cells_at src r.at r.start r.end bs r.clips.now) same
+      ∙ ap (λ (xs : List Cell). (gap ++ xs) ++ rest)
+      (map-append cell.Sample (stretch (src.block b.id) 0 b.len) (block_samples src r'.blocks.now))
+      ∙ ap (λ (xs : List Cell). xs ++ rest) (sym (append_assoc gap one more))
+      ∙ append_assoc (gap ++ one) more rest
+      ∙ ap (λ (xs : List Cell). (gap ++ one) ++ (more ++ xs)) (ap₂ (λ n cs. cells_from src n cs) (sym end) (sym clips))
+      ∙ ap (λ (n : ℕ). (gap ++ one) ++ ((replicate n cell.Gap ++ more) ++ cells_from src r'.end r'.clips.now)) none
+
+  block_kept : (a : Entries) (view : View) → HasRest a view r → HasRest a view r'
+  block_kept a view has =
+      let B : List BlockRef → Type 0 = HasBlocks a view r.start in
+      let P : ℕ → Type 0 = λ n. HasBlocks a view n r'.blocks.now in
+      let C : List Clip → Type 0 = HasClips a view in
+      (subst P (sym (start ∙ at)) (subst B same has.0).1, subst C (sym clips) has.1)
+
+  pub block_passed : IsRest r → (from : ℕ) (cs : List Clip) → r'.at ≤ from → IsRestOf from cs r → IsRestOf from cs r'
+  block_passed ok from cs passed is =
+      let xs : Sources → List Cell =
+      λ src. replicate (r.start - r.at) cell.Gap ++ map cell.Sample (stretch (src.block b.id) 0 b.len) in
+      moved from cs r r' (b ∷ []) xs (block_rest ok) passed
+      (λ src. omega (
+        arith,
+        length-append (replicate (r.start - r.at) cell.Gap) (map cell.Sample (stretch (src.block b.id) 0 b.len)),
+        length-replicate (r.start - r.at) cell.Gap,
+        length-map (stretch (src.block b.id) 0 b.len) cell.Sample,
+        length-stretch (src.block b.id) 0 b.len,
+        at,
+        ok.later,
+      ))
+      block_cells (ap₂ (λ n ds. end_of n ds) end clips) (ap₂ (λ bs ds. bs ++ layout_blocks ds) same (sym clips))
+      block_kept is
+
+module _ (r r' : TrackRest) (c : Clip) (same : r.clips.now ≡ c ∷ r'.clips.now) (at : r'.at ≡ r.end) (start : r'.start
+    ≡ c.start) (end : r'.end ≡ c.start + blocks_len c.blocks) (blocks : r'.blocks.now ≡ c.blocks) where
+  pub clip_rest : IsRest r → IsRest r'
+  clip_rest is =
+      let C : List Clip → Type 0 = λ cs. AreClips r.end cs in
+      let L : List Clip → Type 0 = λ cs. AllNamed (layout_blocks cs) in
+      let N : List BlockRef → Type 0 = AllNamed in
+      let A : ℕ → Type 0 = λ n. AreClips n r'.clips.now in
+      let here = subst C same is.apart in
+      let all = subst L same is.clips_named in
+      record {
+        later = omega (arith, at, start, here.0);
+        whole = omega (arith, start, end, ap blocks_len blocks);
+        apart = subst A (sym end) (AreClips-next r.end c r'.clips.now here);
+        few = omega (arith, ap (end_of r.end) same, ap (λ n. end_of n r'.clips.now) end, is.few);
+        named = subst N (sym blocks) (named_front c.blocks (layout_blocks r'.clips.now) all);
+        clips_named = named_back c.blocks (layout_blocks r'.clips.now) all;
+      }
+
+  clip_cells : (src : Sources) → rest_cells src r
+      ≡ (replicate (r.start - r.at) cell.Gap ++ map cell.Sample (block_samples src r.blocks.now)) ++ rest_cells src r'
+  clip_cells src =
+      let gap : List Cell = replicate (r.start - r.at) cell.Gap in
+      let sound : List Cell = map cell.Sample (block_samples src r.blocks.now) in
+      ap (λ (ds : List Clip). (gap ++ sound) ++ cells_from src r.end ds) same
+      ∙ ap (λ (xs : List Cell). (gap ++ sound) ++ xs)
+      (ap₂ (λ n e. (replicate n cell.Gap ++ map cell.Sample (block_samples src c.blocks))
+      ++ cells_from src e r'.clips.now) (ap₂ (λ (a b : ℕ). a - b) (sym start) (sym at)) (sym end)
+      ∙ ap (λ (bs : List BlockRef). (replicate (r'.start - r'.at) cell.Gap ++ map cell.Sample (block_samples src bs))
+      ++ cells_from src r'.end r'.clips.now) (sym blocks))
+
+  clip_kept : (a : Entries) (view : View) → HasRest a view r → HasRest a view r'
+  clip_kept a view has =
+      let C : List Clip → Type 0 = HasClips a view in
+      let P : ℕ → Type 0 = λ n. HasBlocks a view n r'.blocks.now in
+      let B : List BlockRef → Type 0 = HasBlocks a view c.start in
+      let more = subst C same has.1 in
+      (subst P (sym start) (subst B (sym blocks) more.0), more.1)
+
+  pub clip_passed : IsRest r → (from : ℕ) (cs : List Clip) → r'.at ≤ from → IsRestOf from cs r → IsRestOf from cs r'
+  clip_passed ok from cs passed is =
+      let xs : Sources → List Cell =
+      λ src. replicate (r.start - r.at) cell.Gap ++ map cell.Sample (block_samples src r.blocks.now) in
+      moved from cs r r' r.blocks.now xs (clip_rest ok) passed
+      (λ src. omega (
+        arith,
+        length-append (replicate (r.start - r.at) cell.Gap) (map cell.Sample (block_samples src r.blocks.now)),
+        length-replicate (r.start - r.at) cell.Gap,
+        length-map (block_samples src r.blocks.now) cell.Sample,
+        length-blocks src r.blocks.now,
+        at,
+        ok.later,
+        ok.whole,
+      ))
+      clip_cells (sym (ap (end_of r.end) same ∙ ap (λ n. end_of n r'.clips.now) (sym end)))
+      (ap (λ (ds : List Clip). r.blocks.now ++ layout_blocks ds) same
+      ∙ ap (λ (bs : List BlockRef). r.blocks.now ++ (bs ++ layout_blocks r'.clips.now)) (sym blocks)) clip_kept is
+
+-- a rest from one place on is one from a later place on
+pub rest_later : (from to : ℕ) (cs : List Clip) (r : TrackRest) → from ≤ to → IsRestOf from cs r → IsRestOf to cs r
+rest_later from to cs r le is = record {
+  rest = is.rest;
+  passed = omega (arith, is.passed, le);
+  same_end = is.same_end;
+  cells = λ src i after. is.cells src i (omega (arith, le, after));
+  blocks = is.blocks;
+  kept = is.kept;
+}
+
+-- clips end no earlier than they begin
+pub ends_from : (at : ℕ) (cs : List Clip) → AreClips at cs → at ≤ end_of at cs
+ends_from at [] are = omega arith
+ends_from at (c ∷ cs) are = omega (arith, are.0, are.1, ends_from (clip_end c) cs (AreClips-next at c cs are))
+
+pub length_from : (src : Sources) (at : ℕ) (cs : List Clip) → AreClips at cs
+    → at + length (cells_from src at cs) ≡ end_of at cs
+length_from src at [] are = omega arith
+length_from src at (c ∷ cs) are =
+    let gap : List Cell = replicate (c.start - at) cell.Gap in
+    let sound : List Cell = map cell.Sample (block_samples src c.blocks) in
+    omega (
+      arith,
+      length-append (gap ++ sound) (cells_from src (clip_end c) cs),
+      length-append gap sound,
+      length-replicate (c.start - at) cell.Gap,
+      length-map (block_samples src c.blocks) cell.Sample,
+      length-blocks src c.blocks,
+      length_from src (clip_end c) cs (AreClips-next at c cs are),
+      are.0,
+    )
+
+pub length_rest : (src : Sources) (r : TrackRest) → IsRest r
+    → r.at + length (rest_cells src r) ≡ end_of r.end r.clips.now
+length_rest src r is =
+    let gap : List Cell = replicate (r.start - r.at) cell.Gap in
+    let sound : List Cell = map cell.Sample (block_samples src r.blocks.now) in
+    omega (
+      arith,
+      length-append (gap ++ sound) (cells_from src r.end r.clips.now),
+      length-append gap sound,
+      length-replicate (r.start - r.at) cell.Gap,
+      length-map (block_samples src r.blocks.now) cell.Sample,
+      length-blocks src r.blocks.now,
+      length_from src r.end r.clips.now is.apart,
+      is.later,
+      is.whole,
+    )
+
+-- cells that are put, and gaps after them, are those that are seen
+pub seen : (src : Sources) (view : View) (cs : List Clip) (r : TrackRest) (count m : ℕ) (old mid new : List Cell)
+    → IsRestOf view.from cs r → view.from + length mid ≡ view.to → count ≡ place_in view (end_of 0 cs)
+    → Puts view r.at (rest_cells src r) old mid → m ≡ length mid - count
+    → new ≡ take count mid ++ replicate m cell.Gap → AreSeen src view.from cs new
+seen src view cs r count m old mid new is size place puts many whole k lt =
+    let cells : List Cell = rest_cells src r in
+    let long = length_rest src r is.rest in
+    let front : place_in view r.at ≡ 0 = omega (arith, is.passed) in
+    let end : place_in view (r.at + length cells) ≡ count = omega (arith, long, is.same_end, place) in
+    let there : take count mid ≡ part (view.from - r.at) (view.to - r.at) cells =
+    ap (λ (n : ℕ). take n mid) (sym end) ∙ puts
+    ∙ ap (λ (n : ℕ). take n old ++ part (view.from - r.at) (view.to - r.at) cells) front in
+    let offset : view.from - r.at + k ≡ view.from + k - r.at = omega (arith, is.passed) in
+    let total : length new ≡ count + m =
+    omega (
+      arith,
+      ap length whole,
+      length-append (take count mid) (replicate m cell.Gap),
+      length-replicate m cell.Gap,
+      length-take count mid,
+      place,
+      size,
+    ) in
+    let fits : length (take count mid) ≡ count = omega (arith, length-take count mid, place, size) in
+    ap (λ (ys : List Cell). get_or ys k cell.Gap) whole
+    ∙ ⊎_elim
+    (λ (below : k < count).
+    get_or_append_left (take count mid) (replicate m cell.Gap) cell.Gap k (omega (arith, fits, below))
+    ∙ ap (λ (ys : List Cell). get_or ys k cell.Gap) there
+    ∙ get_or-take (view.to - r.at - (view.from - r.at)) (drop (view.from - r.at) cells) k cell.Gap
+    (omega (arith, place, below, is.passed)) ∙ get_or-drop (view.from - r.at) cells k cell.Gap
+    ∙ ap (λ (n : ℕ). get_or cells n cell.Gap) offset)
+    (λ (above : count ≤ k).
+    get_or-append_right (take count mid) (replicate m cell.Gap) count k cell.Gap fits above
+    ∙ get_or-replicate m (k - count) cell.Gap cell.Gap (omega (arith, total, lt, above))
+    ∙ sym (get_or_past cells (view.from + k - r.at) cell.Gap
+    (omega (arith, long, is.same_end, place, size, above, lt, total, many))))
+    (cases_lt k count)
+    ∙ is.cells src (view.from + k) (omega arith)
+
+-- the end of a list is written anew
+pub put_tail : {A : Type 0} (a k : ℕ) (xs ys : List A) → length xs ≤ a + k → put_mid a k xs ys ≡ take a xs ++ ys
+put_tail a k xs ys all = ap (λ zs. take a xs ++ (ys ++ zs))
+    (drop_all k (drop a xs) (omega (arith, length-drop a xs, all))) ∙ ap (λ zs. take a xs ++ zs) (append-nil ys)
+
+-- cells that are seen from a place on are those of the layout, as many as there are
+pub seen_cells : (src : Sources) (from n : ℕ) (cs : List Clip) (count : ℕ) (xs others : List Cell) → length xs ≡ count
+    → count ≡ min n (length (layout_cells src cs) - from) → AreSeen src from cs xs
+    → take count (xs ++ others) ≡ take n (drop from (layout_cells src cs))
+seen_cells src from n cs count xs others size few are =
+    let left : List Cell = drop from (layout_cells src cs) in
+    let long : length (take count left) ≡ count =
+    omega (arith, length-take count left, length-drop from (layout_cells src cs), few) in
+    let all : count ≡ min n (length left) = omega (arith, few, length-drop from (layout_cells src cs)) in
+    take_front count xs others size
+    ∙ ext_get_or cell.Gap xs (take count left) (size ∙ sym long)
+    (λ k lt. are k lt ∙ sym (get_or-take count left k cell.Gap (omega (arith, lt, size))
+    ∙ get_or-drop from (layout_cells src cs) k cell.Gap))
+    ∙ ap (λ (k : ℕ). take k left) all ∙ take_min n left

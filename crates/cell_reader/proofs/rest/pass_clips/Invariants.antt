@@ -1,0 +1,14 @@
+-- What is left is the rest of the same tracks.
+use Rattle.std.proofs.Common.{List, length}
+use Rattle.clip_track.specs.declared.clips.Clip.{Clip as clip_of}
+use Rattle.cell_reader.specs.Rests.{IsRest, IsRestOf}
+use Rattle.cell_reader.proofs.rest.pass_clips.Given as goal
+
+abbrev pub invariant-rows : goal.invariant-rows
+invariant-rows l = record {
+  rest : IsRest l.left;
+  of : (cs : List clip_of) → IsRestOf l.from cs l.rest → IsRestOf l.from cs l.left;
+}
+
+abbrev pub decreases-rows : goal.decreases-rows
+decreases-rows l = length l.left.clips.now

@@ -1,0 +1,4 @@
+pub mod Kept
+pub mod Rests
+pub mod Seen
+pub mod Stored

@@ -1,5 +1,0 @@
-pub mod NearLaws
-pub mod PartLists
-pub mod RestLaws
-pub mod SeenLaws
-pub mod StoredLaws

@@ -1,3 +1,0 @@
-pub mod Rests
-pub mod Seen
-pub mod Stored

@@ -1,0 +1,4 @@
+pub mod CountLaws
+pub mod HeardLaws
+pub mod PageLaws
+pub mod TrackLaws

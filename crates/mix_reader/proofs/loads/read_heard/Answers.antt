@@ -1,0 +1,112 @@
+-- One track more is read, from the last to the first.
+use Rattle.std.proofs.Common.{◌≡◌, ℕ, ◌+◌, ◌-◌, ◌*◌, ◌≤◌, List, ◌∷◌, length, drop, sym, ap, subst, ◌∙◌}
+use Rattle.std.proofs.Common.{arith, refl}
+use Rattle.std.proofs.{Math.Nat.mul-le-mul_right, lemmas.List.drop_all}
+use Rattle.std.specs.Prelude.{if◌then◌else◌}
+use Rattle.disk_model.specs.Disk.{Files}
+use Rattle.pcm_base.specs.Mix.{unmuted}
+use Rattle.clip_track.specs.Clips.{layout_blocks}
+use Rattle.project_state.specs.{declared.track.Track.Track, Meaning.meant, Meaning.meant_track, Meaning.point_blocks}
+use Rattle.project_state.proofs.Points.{drop_some}
+use Rattle.block_cache.proofs.CacheLaws.{same_none, same_turn}
+use Rattle.block_cache.proofs.ReaderLaws.{reads_err, reads_more, reads_none, reads_ok, reads_then, told_on}
+use Rattle.cell_reader.specs.Stored.{stored_of}
+use Rattle.mixdown.specs.Stretches.{AreStretches}
+use Rattle.mix_reader.specs.Heard.{heard_count}
+use Rattle.mix_reader.proofs.{HeardLaws.count_drop, HeardLaws.named_at, PageLaws.heard_at, TrackLaws.blocks_at}
+use Rattle.mix_reader.proofs.loads.read_heard.Goals as goal
+
+pub rows-init : goal.rows-init
+rows-init g c =
+    let ts : List Track = c.args.point.now in
+    let len : ℕ = c.args.len in
+    let all = drop_all c.len-i.result ts (omega (arith, c.len-i.ensures.value)) in
+    let none : heard_count (drop c.len-i.result ts) * len ≡ 0 * len = ap (λ us. heard_count us * len) all in
+    let P : List Track → Type 0 =
+    λ us. AreStretches c.args.from len (unmuted (meant (stored_of (g.S.Store.reads c.args.reader.now.store)) us))
+    (drop (length c.args.cells.now) c.args.cells.now) in
+    record {
+      within = omega (arith, c.len-i.ensures.value);
+      place = omega (arith, none, c.requires.room);
+      reads = reads_none tt (g.met.S.Store.may_fewer _);
+      hit = λ has. (refl, same_none _);
+      stored = λ told. subst P (sym all) tt;
+    }
+
+pub read_before-requires-clause-named : goal.read_before-requires-clause-named
+read_before-requires-clause-named g c =
+    let ts : List Track = c.args.point.now in
+    let k : ℕ = c.rows.i - 1 in
+    named_at k ts (drop (k + 1) ts) c.track_at-track.result.now
+    (drop_some ts k c.track_at-track.result.now c.track_at-track.ensures) c.requires.named
+
+pub read_before-requires-clause-room : goal.read_before-requires-clause-room
+read_before-requires-clause-room g c =
+    let ts : List Track = c.args.point.now in
+    let k : ℕ = c.rows.i - 1 in
+    let len : ℕ = c.args.len in
+    let t : Track = c.track_at-track.result.now in
+    let one : ℕ = if t.mute then 0 else 1 in
+    let next : k + 1 ≡ c.rows.i = omega (arith, c.rows-test.true) in
+    let e : drop k ts ≡ t ∷ drop c.rows.i ts =
+    drop_some ts k t c.track_at-track.ensures ∙ ap (λ n. t ∷ drop n ts) next in
+    let h : ℕ = heard_count (drop c.rows.i ts) in
+    let fewer : one + h ≤ heard_count ts = subst (λ n. n ≤ heard_count ts) (ap heard_count e) (count_drop k ts) in
+    let rows : (one + h) * len ≤ heard_count ts * len = mul-le-mul_right len fewer in
+    omega (arith, rows, c.rows.invariant.place)
+
+pub rows-preserved : goal.rows-preserved
+rows-preserved g c =
+    let ts : List Track = c.args.point.now in
+    let k : ℕ = c.rows.i - 1 in
+    let len : ℕ = c.args.len in
+    let t : Track = c.track_at-track.result.now in
+    let one : ℕ = if t.mute then 0 else 1 in
+    let inv = c.rows.invariant in
+    let ens = c.in-Ok.ensures in
+    let files : Files = g.S.Store.reads c.args.reader.now.store in
+    let next : k + 1 ≡ c.rows.i = omega (arith, c.rows-test.true) in
+    let e : drop k ts ≡ t ∷ drop c.rows.i ts =
+    drop_some ts k t c.track_at-track.ensures ∙ ap (λ n. t ∷ drop n ts) next in
+    let h : ℕ = heard_count (drop c.rows.i ts) in
+    let more : heard_count (drop k ts) * len ≡ (one + h) * len = ap (λ us. heard_count us * len) e in
+    record {
+      within = omega (arith, inv.within);
+      place = omega (arith, more, ens.place, inv.place);
+      reads = reads_then {x = tt} inv.reads (reads_ok {x = c.in-Ok.at} {y = tt}
+          (reads_more (layout_blocks t.layout) (point_blocks ts)
+          (λ b has. blocks_at k ts (drop (k + 1) ts) t b (drop_some ts k t c.track_at-track.ensures) has) ens.reads));
+      hit = λ has.
+          let before = inv.hit has in
+          let on = ens.hit (heard_at _ _ c.args.from (c.args.from + len) k ts (drop (k + 1) ts) t
+          (drop_some ts k t c.track_at-track.ensures) before.1 has) in
+          (on.1 ∙ before.0, same_turn _ _ _ before.1 on.2);
+      stored = λ told.
+          let still = told_on inv.reads told in
+          let P : Files → Type 0 = λ f. AreStretches c.args.from len
+          (unmuted (meant_track (stored_of f) t ∷ meant (stored_of files) (drop c.rows.i ts)))
+          (drop c.in-Ok.at c.read_before.new.cells) in
+          let S : List Track → Type 0 = λ us. AreStretches c.args.from len (unmuted (meant (stored_of files) us))
+          (drop c.in-Ok.at c.read_before.new.cells) in
+          subst S (sym e) (subst P inv.reads.kept.same_reads
+          (ens.stored still (meant (stored_of files) (drop c.rows.i ts)) (inv.stored told)));
+    }
+
+pub returns-in-Err-clause-reads : goal.returns-in-Err-clause-reads
+returns-in-Err-clause-reads g c =
+    let ts : List Track = c.args.point.now in
+    let k : ℕ = c.rows.i - 1 in
+    let t : Track = c.track_at-track.result.now in
+    reads_then {x = tt} c.rows.invariant.reads (reads_more (layout_blocks t.layout) (point_blocks ts)
+    (λ b has. blocks_at k ts (drop (k + 1) ts) t b (drop_some ts k t c.track_at-track.ensures) has)
+    (reads_err c.in-Err.ensures.reads))
+
+pub returns-in-Err-clause-hit : goal.returns-in-Err-clause-hit
+returns-in-Err-clause-hit g c = λ has.
+    let ts : List Track = c.args.point.now in
+    let k : ℕ = c.rows.i - 1 in
+    let t : Track = c.track_at-track.result.now in
+    let before = c.rows.invariant.hit has in
+    let on = c.in-Err.ensures.hit (heard_at _ _ c.args.from (c.args.from + c.args.len) k ts (drop (k + 1) ts) t
+    (drop_some ts k t c.track_at-track.ensures) before.1 has) in
+    (on.0, on.1 ∙ before.0, same_turn _ _ _ before.1 on.2)

@@ -1,0 +1,25 @@
+-- The stretches of the tracks after it are read.
+use Rattle.std.proofs.Common.{◌≡◌, ◌≤◌, ◌+◌, ◌*◌, length, drop, Ok}
+use Rattle.std.specs.Prelude.{IsTrue}
+use Rattle.pcm_base.specs.Mix.{unmuted}
+use Rattle.project_state.specs.Meaning.{meant, point_blocks}
+use Rattle.block_cache.specs.{Caches.SameCache, Readers.Reads}
+use Rattle.cell_reader.specs.Stored.{stored_of}
+use Rattle.mixdown.specs.Stretches.{AreStretches}
+use Rattle.mix_reader.specs.Heard.{heard_count, HasHeard}
+use Rattle.mix_reader.proofs.loads.read_heard.Given as goal
+
+abbrev pub invariant-rows : goal.invariant-rows
+invariant-rows g l = record {
+  within : l.i ≤ length l.point;
+  place : l.end + heard_count (drop l.i l.point) * l.len ≡ heard_count l.point * l.len;
+  reads : Reads (point_blocks l.point) l.fn.reader l.reader (Ok (tt {0}));
+  hit : HasHeard l.fn.reader.cache l.from (l.from + l.len) l.point
+      → (l.reader.store ≡ l.fn.reader.store) × SameCache l.fn.reader.cache l.reader.cache;
+  stored : IsTrue (g.S.Store.tells l.fn.reader.store)
+      → AreStretches l.from l.len (unmuted (meant (stored_of (g.S.Store.reads l.fn.reader.store)) (drop l.i l.point)))
+      (drop l.end l.cells);
+}
+
+abbrev pub decreases-rows : goal.decreases-rows
+decreases-rows g l = l.i

@@ -1,0 +1,1 @@
+-- A law on the bytes of frames.

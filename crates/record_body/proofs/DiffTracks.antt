@@ -1,0 +1,134 @@
+-- Tracks that are told by those of the current point.
+use Rattle.std.proofs.Common.{◌≡◌, ℕ, zero, suc, ◌+◌, ◌-◌, ◌==◌, ◌<◌, ◌≤◌, inl, inr, List, [], ◌∷◌, ◌++◌, Option, Some}
+use Rattle.std.proofs.Common.{None, Result, Ok, Err, refl, sym, ◌∙◌, ap, subst, arith}
+use Rattle.std.proofs.lemmas.Bool.{cases_Bool, eqb-true}
+use Rattle.pcm_base.specs.declared.block.BlockRef.{BlockRef}
+use Rattle.clip_track.specs.Clips.{AllHalfFull}
+use Rattle.project_journal.specs.{Fields.field, Header.first_failed, declared.fault.Damaged.Damaged}
+use Rattle.record_body.specs.Changes.{Change, Same, Whole, Tail, changed, tailed}
+use Rattle.record_body.specs.ChangePlaces.{mark_at, change_at, diff_at, diff_size, whole_at, HasDiff, HaveDiff}
+use Rattle.record_body.specs.ChangeTests.{id_tests, change_tests, mark_tests, marked_tests, mark_want, diff_tests}
+use Rattle.record_body.specs.FirstFault.{Finds, place}
+use Rattle.record_body.specs.{declared.limits.BadBody.BadBody, declared.limits.Limits.Limits, Lengths.AreHalfFull}
+use Rattle.project_state.specs.{declared.track.Track.Track, Numbers.unnumbered, Tracks.track_of}
+use Rattle.record_body.proofs.Passing.{pass_parts}
+use Rattle.project_journal.proofs.{AnyFormats.Pass, Headers.none_first}
+use Rattle.record_body.specs.declared.limits.BadBody.TheVariants as bad
+
+pub some_is : {A : Type 0} (x y : A) → Some x ≡ Some y → x ≡ y
+some_is x y e = cc
+
+none_some : {A : Type 0} (x : A) → None ≡ Some x → ⊥
+none_some x e = cc
+
+pub record IsIn (id m : ℕ) (t : Track) : Type 0 where
+  pub same : t.id ≡ id
+  pub half_full : AllHalfFull m t.layout
+
+-- a track that was found
+pub found_in : (id m : ℕ) (ts : List Track) (t : Track) → AreHalfFull m ts → track_of id ts ≡ Some t → IsIn id m t
+found_in id m [] t half e = absurd (none_some t e)
+found_in id m (x ∷ ts) t half e = elim (cases_Bool (id == x.id)) [
+  | inl same ↦
+      let is : x ≡ t = some_is x t (rw same at e) in
+      record {
+        same = sym (ap (λ (k : Track). k.id) is) ∙ sym (eqb-true id x.id same);
+        half_full = subst (λ (k : Track). AllHalfFull m k.layout) is half.0;
+      }
+  | inr differ ↦ found_in id m ts t half.1 (rw differ at e)
+]
+
+pub found_id : (id : ℕ) (ts : List Track) (t : Track) → track_of id ts ≡ Some t → t.id ≡ id
+found_id id [] t e = absurd (none_some t e)
+found_id id (x ∷ ts) t e = elim (cases_Bool (id == x.id)) [
+  | inl same ↦ sym (ap (λ (k : Track). k.id) (some_is x t (rw same at e))) ∙ sym (eqb-true id x.id same)
+  | inr differ ↦ found_id id ts t (rw differ at e)
+]
+
+changed_id : (id : ℕ) (old : Option Track) (change : Change) (t : Track) → ((o : Track) → old ≡ Some o → o.id ≡ id)
+    → ((w : Track) → change ≡ Whole w → w.id ≡ id) → changed old change ≡ Some t → t.id ≡ id
+changed_id id None Same t known whole e = absurd (none_some t e)
+changed_id id (Some o) Same t known whole e =
+    sym (ap (λ (k : Track). k.id) (some_is (unnumbered o) t e)) ∙ known o refl
+changed_id id old (Whole w) t known whole e = sym (ap (λ (k : Track). k.id) (some_is (unnumbered w) t e)) ∙ whole w refl
+changed_id id None (Tail gone bs) t known whole e = absurd (none_some t e)
+changed_id id (Some o) (Tail gone bs) t known whole e =
+    sym (ap (λ (k : Track). k.id) (some_is (tailed gone bs o) t e)) ∙ known o refl
+
+whole_same : (v w : Track) → Whole v ≡ Whole w → v ≡ w
+whole_same v w e = cc
+
+change_whole : (at : ℕ) (bytes : List ℕ) (w : Track) → change_at at bytes ≡ Whole w → w ≡ whole_at at bytes
+change_whole at bytes w e = elim (cases_Bool (mark_at at bytes == 0)) [
+  | inl none ↦ let no : Same ≡ Whole w = rw none at e in absurd cc
+  | inr some ↦ elim (cases_Bool (mark_at at bytes == 1)) [
+    | inl one ↦ sym (whole_same (whole_at at bytes) w (rw (some, one) at e))
+    | inr more ↦ absurd (tail_not _ _ w (rw (some, more) at e))
+  ]
+]
+  where
+    tail_not : (gone : ℕ) (bs : List BlockRef) (w : Track) → Tail gone bs ≡ Whole w → ⊥
+    tail_not gone bs w e = cc
+
+-- the track that is told has the id that is told
+pub diff_id : (current : List Track) (at : ℕ) (bytes : List ℕ) (t : Track) → diff_at current at bytes ≡ Some t
+    → t.id ≡ field at 8 bytes
+diff_id current at bytes t =
+    changed_id (field at 8 bytes) (track_of (field at 8 bytes) current) (change_at at bytes) t
+    (λ o e. found_id (field at 8 bytes) current o e)
+    (λ w e. ap (λ (k : Track). k.id) (change_whole at bytes w e))
+
+-- its layout has no number
+changed_unnumbered : (old : Option Track) (change : Change) (t : Track) → changed old change ≡ Some t → t.number ≡ 0
+changed_unnumbered None Same t e = absurd (none_some t e)
+changed_unnumbered (Some o) Same t e = sym (ap (λ (k : Track). k.number) (some_is (unnumbered o) t e))
+changed_unnumbered old (Whole w) t e = sym (ap (λ (k : Track). k.number) (some_is (unnumbered w) t e))
+changed_unnumbered None (Tail gone bs) t e = absurd (none_some t e)
+changed_unnumbered (Some o) (Tail gone bs) t e = sym (ap (λ (k : Track). k.number) (some_is (tailed gone bs o) t e))
+
+pub diff_unnumbered : (current : List Track) (at : ℕ) (bytes : List ℕ) (t : Track) → diff_at current at bytes ≡ Some t
+    → t.number ≡ 0
+diff_unnumbered current at bytes t =
+    changed_unnumbered (track_of (field at 8 bytes) current) (change_at at bytes) t
+
+-- and where it is written out it is that
+pub diff_whole : (current : List Track) (at : ℕ) (bytes : List ℕ) (t : Track) → diff_at current at bytes ≡ Some t
+    → mark_at at bytes ≡ 1 → t ≡ whole_at at bytes
+diff_whole current at bytes t e one = sym (some_is (whole_at at bytes) t (rw one at e))
+
+pub known_mark : (l : Limits) (current : List Track) (from at : ℕ) (bytes : List ℕ)
+    → Pass (diff_tests l current from at bytes) → mark_at at bytes ≤ 2
+known_mark l current from at bytes pass =
+    let old = track_of (field at 8 bytes) current in
+    let change = (pass_parts (id_tests l from at bytes) (change_tests l old at bytes) pass).1 in
+    let mark = (pass_parts (mark_tests (place l.base (at + 8)) (mark_want old (mark_at at bytes)) (mark_at at bytes))
+    (marked_tests l old at bytes) change).0 in
+    omega (arith, mark.0)
+
+pub id_bounds : (l : Limits) (current : List Track) (from at : ℕ) (bytes : List ℕ)
+    → Pass (diff_tests l current from at bytes)
+    → (1 ≤ field at 8 bytes) × (from ≤ field at 8 bytes) × (field at 8 bytes < l.next_track)
+id_bounds l current from at bytes pass =
+    let old = track_of (field at 8 bytes) current in
+    let id = (pass_parts (id_tests l from at bytes) (change_tests l old at bytes) pass).0 in
+    (omega (arith, id.0), omega (arith, id.1.0), omega (arith, id.0, id.1.1.0))
+
+-- tests that pass, and others after them
+pub finds_on : {T : Type 0} (xs ys : List Damaged) (P : T → Type 0) (r : Result T BadBody) → first_failed xs ≡ None
+    → Finds ys P r → Finds (xs ++ ys) P r
+finds_on xs ys P (Ok x) none e = (none_first xs ys none ∙ e.0, e.1)
+finds_on xs ys P (Err bad.NoMemory) none e = tt
+finds_on xs ys P (Err (bad.Damaged d)) none e = none_first xs ys none ∙ e
+
+-- the first of some, and those after it
+pub have_first : (n at : ℕ) (bytes : List ℕ) → 0 < n → HaveDiff n at bytes → HasDiff at bytes
+have_first zero at bytes some have = absurd (omega (arith, some))
+have_first (suc n) at bytes some have = have.0
+
+pub have_rest : (n k at next : ℕ) (bytes : List ℕ) → 0 < n → k ≡ n - 1 → next ≡ at + diff_size at bytes
+    → mark_at at bytes ≤ 2 → HaveDiff n at bytes → HaveDiff k next bytes
+have_rest zero k at next bytes some less behind known have = absurd (omega (arith, some))
+have_rest (suc n) k at next bytes some less behind known have =
+    let here : k ≡ n = omega (arith, less) in
+    subst (λ (j : ℕ). HaveDiff j next bytes) (sym here)
+    (subst (λ (a : ℕ). HaveDiff n a bytes) (sym behind) (have.1 known))

@@ -1,0 +1,265 @@
+-- What a body of kind 5 says by a valid point is valid, where all its tests pass.
+use Rattle.std.proofs.Common.{◌≡◌, ℕ, zero, suc, ◌+◌, ◌-◌, ◌^◌, ◌≤◌, ◌<◌, ◌==◌, inl, inr, List, [], ◌∷◌, ◌++◌, length}
+use Rattle.std.proofs.Common.{map, take, Option, Some, None, refl, sym, ap, subst, ◌∙◌, arith, slice_index}
+use Rattle.std.proofs.lemmas.Bool.{cases_Bool, eq-eqb, eqb-true, eqb-false}
+use Rattle.pcm_base.specs.{Blocks.blocks_len, declared.block.BlockRef.BlockRef}
+use Rattle.clip_track.specs.declared.clips.Clip.{Clip}
+use Rattle.project_journal.specs.{Fields.field, Header.first_failed}
+use Rattle.record_body.specs.declared.body.Body.TheVariants.{Edit, Undo, Redo, Purge}
+use Rattle.record_body.specs.Changes.{changed, last_blocks, last_start, tailed, with_last}
+use Rattle.record_body.specs.ChangePlaces.{mark_at, gone_at, fresh_at, whole_at, change_at, diff_at, diff_size}
+use Rattle.record_body.specs.ChangePlaces.{all_diff_at}
+use Rattle.record_body.specs.ChangeTests.{mark_want, mark_tests, how_tests, whole_tests, kept_blocks, tail_tests}
+use Rattle.record_body.specs.ChangeTests.{id_tests, marked_tests, change_tests, diff_tests, all_diff_tests}
+use Rattle.record_body.specs.ChangeTests.{delta_edit_tests, delta_tests}
+use Rattle.record_body.specs.FirstFault.{place, clips_tests, head_tests, limits_at}
+use Rattle.record_body.specs.Places.{blocks_at, clip_count, track_at, track_count}
+use Rattle.record_body.specs.Valid.{AllGiven, AllClipsGiven, IsValidTrack, AllValidTracks, IsValidPoint, IsValidBody}
+use Rattle.record_body.specs.{declared.body.Body.Body, declared.limits.Before.Before, declared.limits.Limits.Limits}
+use Rattle.record_body.specs.{DeltaBodies.SaysBody}
+use Rattle.project_state.specs.{declared.track.Track.Track, Numbers.AreUnnumbered, Numbers.unnumbered, Tracks.AreAbove}
+use Rattle.project_state.specs.{Tracks.track_of}
+use Rattle.record_body.proofs.ValidBodies.{few_tracks, valid_clips}
+use Rattle.record_body.proofs.Tails.{end_last, last_end, valid_tail, layout_with, half_with}
+use Rattle.record_body.proofs.DiffTracks.{some_is, diff_id, diff_unnumbered, id_bounds}
+use Rattle.record_body.proofs.{SavedBounds.tracks_more, Numbers.field_small, Passing.pass_parts}
+use Rattle.sample_block.proofs.Numerals.{IsBytes}
+use Rattle.project_journal.proofs.AnyFormats.{all_pass, Pass}
+
+-- ---- blocks that were given
+
+given_take : (next n : ℕ) (bs : List BlockRef) → AllGiven next bs → AllGiven next (take n bs)
+given_take next zero bs g = tt
+given_take next (suc n) [] g = tt
+given_take next (suc n) (b ∷ bs) g = (g.0, g.1, given_take next n bs g.2)
+
+given_append : (next : ℕ) (xs ys : List BlockRef) → AllGiven next xs → AllGiven next ys → AllGiven next (xs ++ ys)
+given_append next [] ys p q = q
+given_append next (x ∷ xs) ys p q = (p.0, p.1, given_append next xs ys p.2 q)
+
+given_last : (next : ℕ) (cs : List Clip) → AllClipsGiven next cs → AllGiven next (last_blocks cs)
+given_last next [] g = tt
+given_last next (c ∷ []) g = g.0
+given_last next (c ∷ d ∷ cs) g = given_last next (d ∷ cs) g.1
+
+given_with : (next : ℕ) (cs : List Clip) (bs : List BlockRef) → AllClipsGiven next cs → AllGiven next bs
+    → AllClipsGiven next (with_last bs cs)
+given_with next [] bs g h = tt
+given_with next (c ∷ []) bs g h = (h, tt)
+given_with next (c ∷ d ∷ cs) bs g h = (g.0, given_with next (d ∷ cs) bs g.1 h)
+
+-- ---- one track
+
+abbrev ValidIn : Limits → Track → Type 0
+ValidIn l t = IsValidTrack l.block_size l.next_block l.next_track t
+
+-- a track of the current point, whose blocks were given by now
+record IsOld (l : Limits) (id : ℕ) (old : Track) : Type 0 where
+  next : ℕ
+  valid : IsValidTrack l.block_size l.next_block next old
+  same : old.id ≡ id
+
+valid_same : (l : Limits) (id : ℕ) (old : Track) → id < l.next_track → IsOld l id old → ValidIn l (unnumbered old)
+valid_same l id old below is = record {
+  given = omega (arith, below, is.same);
+  gain = is.valid.gain;
+  layout = is.valid.layout;
+  half_full = is.valid.half_full;
+  blocks = is.valid.blocks;
+}
+
+valid_whole : (l : Limits) (id at : ℕ) (bytes : List ℕ) → id < l.next_track → Pass (whole_tests l at bytes)
+    → ValidIn l (record (track_at at bytes) { id = id })
+valid_whole l id at bytes below pass =
+    let p = pass_parts (how_tests l at bytes) (clips_tests l (clip_count at bytes) 0 (at + 18) bytes) pass in
+    let clips = valid_clips l (clip_count at bytes) 0 0 (at + 18) bytes (omega arith) p.1 in
+    record {
+      given = below;
+      gain = omega (arith, p.0.0);
+      layout = record { apart = clips.0; few = clips.1 };
+      half_full = clips.2;
+      blocks = clips.3;
+    }
+
+valid_tailed : (l : Limits) (id : ℕ) (old : Track) (at : ℕ) (bytes : List ℕ) → id < l.next_track
+    → 0 < length old.layout → IsOld l id old
+    → Pass (tail_tests l (last_start old.layout) (last_blocks old.layout) at bytes)
+    → ValidIn l (tailed (gone_at at bytes) (blocks_at (fresh_at at bytes) (at + 17) bytes) old)
+valid_tailed l id old at bytes below some is pass =
+    let s = is.valid in
+    let cs = old.layout in
+    let olds = last_blocks cs in
+    let kept = kept_blocks olds (gone_at at bytes) in
+    let fresh = blocks_at (fresh_at at bytes) (at + 17) bytes in
+    let end = last_end l.block_size 0 cs s.layout.apart s.half_full in
+    let near : last_start cs + blocks_len olds ≤ 2 ^ 32 = omega (arith, end_last 0 cs some, s.layout.few) in
+    let tail = valid_tail l (last_start cs) olds at bytes end.half_full end.none_empty near pass in
+    let given = given_append l.next_block kept fresh
+    (given_take l.next_block (length olds - gone_at at bytes) olds (given_last l.next_block cs s.blocks)) tail.given in
+    record {
+      given = omega (arith, below, is.same);
+      gain = s.gain;
+      layout = layout_with cs (kept ++ fresh) some s.layout tail.none_empty tail.some tail.end;
+      half_full = half_with l.block_size cs (kept ++ fresh) s.half_full tail.half_full;
+      blocks = given_with l.next_block cs (kept ++ fresh) s.blocks given;
+    }
+
+-- a track whose end is replaced has clips
+pub has_clips : (old : Track) (mark : ℕ) → mark ≡ 2 → mark_want (Some old) mark ≡ mark → 0 < length old.layout
+has_clips old mark two want = elim (cases_Bool (length old.layout == 0)) [
+  | inl none ↦
+      let one : 1 ≡ mark = rw (eq-eqb mark 2 two, none) at want in
+      absurd (omega (arith, two, one))
+  | inr some ↦ let ne = eqb-false (length old.layout) 0 some in omega (arith, ne)
+]
+
+valid_new : (l : Limits) (at : ℕ) (bytes : List ℕ) (t : Track) → field at 8 bytes < l.next_track
+    → Pass (change_tests l None at bytes) → changed None (change_at at bytes) ≡ Some t → ValidIn l t
+valid_new l at bytes t below pass e =
+    let mark = mark_at at bytes in
+    let p = pass_parts (mark_tests (place l.base (at + 8)) 1 mark) (whole_tests l (at + 1) bytes) pass in
+    let one : mark ≡ 1 = sym p.0.1.0 in
+    let is : whole_at at bytes ≡ t = some_is (whole_at at bytes) t (rw one at e) in
+    subst (ValidIn l) is (valid_whole l (field at 8 bytes) (at + 1) bytes below p.1)
+
+valid_known : (l : Limits) (old : Track) (at : ℕ) (bytes : List ℕ) (t : Track) → field at 8 bytes < l.next_track
+    → IsOld l (field at 8 bytes) old → Pass (change_tests l (Some old) at bytes)
+    → changed (Some old) (change_at at bytes) ≡ Some t → ValidIn l t
+valid_known l old at bytes t below is pass e =
+    let mark = mark_at at bytes in
+    let p = pass_parts (mark_tests (place l.base (at + 8)) (mark_want (Some old) mark) mark)
+    (marked_tests l (Some old) at bytes) pass in
+    elim (cases_Bool (mark == 0)) [
+      | inl none ↦ subst (ValidIn l) (some_is (unnumbered old) t (rw none at e)) (valid_same l
+          (field at 8 bytes) old below is)
+      | inr some ↦ elim (cases_Bool (mark == 1)) [
+        | inl one ↦ subst (ValidIn l) (some_is (whole_at at bytes) t (rw (some, one) at e))
+            (valid_whole l (field at 8 bytes) (at + 1) bytes below (rw (some, one) at p.1))
+        | inr more ↦
+            let two : mark ≡ 2 = omega (arith, p.0.0, eqb-false mark 0 some, eqb-false mark 1 more) in
+            subst (ValidIn l)
+            (some_is (tailed (gone_at at bytes) (blocks_at (fresh_at at bytes) (at + 17) bytes) old) t
+            (rw (some, more) at e))
+            (valid_tailed l (field at 8 bytes) old at bytes below (has_clips old mark two p.0.1.0) is
+            (rw (some, more) at p.1))
+      ]
+    ]
+
+-- ---- all tracks
+
+-- a track that was found
+found_old : (l : Limits) (next id : ℕ) (ts : List Track) (t : Track)
+    → AllValidTracks l.block_size l.next_block next ts → track_of id ts ≡ Some t → IsOld l id t
+found_old l next id [] t valid e = absurd (none_some e)
+  where
+    none_some : None ≡ Some t → ⊥
+    none_some q = cc
+found_old l next id (x ∷ ts) t valid e = elim (cases_Bool (id == x.id)) [
+  | inl same ↦
+      let is : x ≡ t = some_is x t (rw same at e) in
+      record {
+        next = next;
+        valid = subst (IsValidTrack l.block_size l.next_block next) is valid.0;
+        same = sym (ap (λ (k : Track). k.id) is) ∙ sym (eqb-true id x.id same);
+      }
+  | inr differ ↦ found_old l next id ts t valid.1 (rw differ at e)
+]
+
+valid_changed : (l : Limits) (old : Option Track) (at : ℕ) (bytes : List ℕ) (t : Track) → field at 8 bytes < l.next_track
+    → ((o : Track) → old ≡ Some o → IsOld l (field at 8 bytes) o) → Pass (change_tests l old at bytes)
+    → changed old (change_at at bytes) ≡ Some t → ValidIn l t
+valid_changed l None at bytes t below known pass e = valid_new l at bytes t below pass e
+valid_changed l (Some o) at bytes t below known pass e = valid_known l o at bytes t below (known o refl) pass e
+
+valid_diff : (l : Limits) (next : ℕ) (current : List Track) (from at : ℕ) (bytes : List ℕ) (t : Track)
+    → AllValidTracks l.block_size l.next_block next current → Pass (diff_tests l current from at bytes)
+    → diff_at current at bytes ≡ Some t → ValidIn l t
+valid_diff l next current from at bytes t valid pass e =
+    let id = field at 8 bytes in
+    let old = track_of id current in
+    let p = pass_parts (id_tests l from at bytes) (change_tests l old at bytes) pass in
+    valid_changed l old at bytes t (id_bounds l current from at bytes pass).2
+    (λ o is. found_old l next id current o valid is) p.1 e
+
+first_is : {A : Type 0} (x y : A) (xs ys : List A) → x ∷ xs ≡ y ∷ ys → x ≡ y
+first_is x y xs ys e = cc
+
+others_are : {A : Type 0} (x y : A) (xs ys : List A) → x ∷ xs ≡ y ∷ ys → xs ≡ ys
+others_are x y xs ys e = cc
+
+none_first : {A : Type 0} (x : A) (xs : List A) → [] ≡ x ∷ xs → ⊥
+none_first x xs e = cc
+
+valid_all : (l : Limits) (next : ℕ) (current : List Track) (count from at : ℕ) (bytes : List ℕ) (ts : List Track)
+    → AllValidTracks l.block_size l.next_block next current → Pass (all_diff_tests l current count from at bytes)
+    → map Some ts ≡ all_diff_at current count at bytes
+    → AreAbove from ts × AllValidTracks l.block_size l.next_block l.next_track ts × (length ts ≡ count)
+    × AreUnnumbered ts
+valid_all l next current zero from at bytes [] valid pass e = (tt, tt, refl, tt)
+valid_all l next current zero from at bytes (t ∷ ts) valid pass e =
+    absurd (none_first (Some t) (map Some ts) (sym e))
+valid_all l next current (suc count) from at bytes [] valid pass e =
+    absurd (none_first (diff_at current at bytes) (all_diff_at current count (at + diff_size at bytes) bytes) e)
+valid_all l next current (suc count) from at bytes (t ∷ ts) valid pass e =
+    let more = at + diff_size at bytes in
+    let p = pass_parts (diff_tests l current from at bytes)
+    (all_diff_tests l current count (field at 8 bytes + 1) more bytes) pass in
+    let told = diff_at current at bytes in
+    let others = all_diff_at current count more bytes in
+    let here : told ≡ Some t = sym (first_is (Some t) told (map Some ts) others e) in
+    let rest = valid_all l next current count (field at 8 bytes + 1) more bytes ts valid p.1
+    (others_are (Some t) told (map Some ts) others e) in
+    let id : t.id ≡ field at 8 bytes = diff_id current at bytes t here in
+    let bounds = id_bounds l current from at bytes p.0 in (
+      (omega (arith, id, bounds.1), subst (λ (n : ℕ). AreAbove (n + 1) ts) (sym id) rest.0),
+      (valid_diff l next current from at bytes t valid p.0 here, rest.1),
+      omega (arith, rest.2),
+      (diff_unnumbered current at bytes t here, rest.3),
+    )
+
+-- no id is 0
+above_none : (l : Limits) (current : List Track) (count at : ℕ) (bytes : List ℕ) (ts : List Track)
+    → Pass (all_diff_tests l current count 0 at bytes) → map Some ts ≡ all_diff_at current count at bytes
+    → AreAbove 0 ts → AreAbove 1 ts
+above_none l current count at bytes [] pass e above = tt
+above_none l current zero at bytes (t ∷ ts) pass e above = absurd (none_first (Some t) (map Some ts) (sym e))
+above_none l current (suc count) at bytes (t ∷ ts) pass e above =
+    let more = at + diff_size at bytes in
+    let p = pass_parts (diff_tests l current 0 at bytes)
+    (all_diff_tests l current count (field at 8 bytes + 1) more bytes) pass in
+    let told = diff_at current at bytes in
+    let here = first_is (Some t) told (map Some ts) (all_diff_at current count more bytes) e in
+    (omega (arith, diff_id current at bytes t (sym here), (id_bounds l current 0 at bytes p.0).0), above.1)
+
+pub delta_valid : (m : ℕ) (b : Before) (next : ℕ) (current : List Track) (bytes : List ℕ) (body : Body) → IsBytes bytes
+    → IsValidPoint m b.next_block next current → first_failed (delta_tests m b current bytes) ≡ None
+    → SaysBody current bytes body → IsValidBody m b body
+delta_valid m b next current bytes (Edit tag next_block next_track ts) fit is none says =
+    let l = limits_at m b bytes in
+    let count = track_count bytes in
+    let s = says.1 in
+    let pass : Pass (delta_edit_tests m b current bytes) =
+    rw (eq-eqb (slice_index bytes 0) 5 says.0) at (all_pass (delta_tests m b current bytes) none).1.1.1 in
+    let p = pass_parts (head_tests b bytes) (all_diff_tests l current count 0 29 bytes) pass in
+    let head = p.0 in
+    let later : b.next_block ≤ field 9 8 bytes = omega (arith, head.1.1.1.0) in
+    let old = tracks_more m b.next_block next (field 9 8 bytes) next current later (omega arith) is.valid in
+    let all = valid_all l next current count 0 29 bytes ts old p.1 s.3 in
+    record {
+      tag_number = omega (arith, s.0, field_small 1 8 bytes fit);
+      tag_given = omega (arith, s.0, head.0);
+      block_least = omega (arith, s.1, head.1.0);
+      block_most = omega (arith, s.1, head.1.1.0);
+      block_later = omega (arith, s.1, later);
+      track_least = omega (arith, s.2, head.1.1.1.1.0);
+      track_most = omega (arith, s.2, head.1.1.1.1.1.0);
+      track_later = omega (arith, s.2, head.1.1.1.1.1.1.0);
+      few = omega (arith, few_tracks b bytes head, all.2);
+      rising = above_none l current count 29 bytes ts p.1 s.3 all.0;
+      valid = subst (λ (n : ℕ). AllValidTracks m n next_track ts) (sym s.1)
+          (subst (λ (n : ℕ). AllValidTracks m (field 9 8 bytes) n ts) (sym s.2) all.1);
+      unnumbered = all.3;
+    }
+delta_valid m b next current bytes Undo fit is none says = tt
+delta_valid m b next current bytes Redo fit is none says = tt
+delta_valid m b next current bytes (Purge n) fit is none says = omega (arith, says.1, field_small 1 8 bytes fit)

@@ -1,0 +1,215 @@
+-- A disk keeps one project at most, and the same one after its journal was put into one header.
+use Rattle.std.proofs.Common.{◌≡◌, ℕ, ◌<◌, ◌^◌, ◌≤◌, List, [], ◌∷◌, ◌++◌, map, drop, take, sym, ap, subst, ◌∙◌, refl}
+use Rattle.std.proofs.Common.{arith, ⊎_elim, inr}
+use Rattle.std.proofs.lemmas.List.{take_at, drop_at}
+use Rattle.std.specs.List.{AllByRecursion}
+use Rattle.byteorder.specs.Endian.{little_bytes}
+use Rattle.disk_model.specs.Disk.{Files}
+use Rattle.sample_block.specs.Sources.{IsWhole}
+use Rattle.project_journal.specs.Header.{Form, IsForm, IsFormat, form_3}
+use Rattle.project_journal.specs.{Choice.other_file, Journal.Log, Packing.HasEither}
+use Rattle.project_journal.proofs.{Chosen.one_journal, AnyFormats.any_format, AnyFormats.any_base, AnyFormats.HasBase}
+use Rattle.record_body.specs.Saved.{Saved, Opened, opened, LeadIn, Keeps, Begins, BeginsBy, IsHeaderBase, IsPacked}
+use Rattle.record_body.specs.Saved.{point_bytes, version_of}
+use Rattle.record_body.specs.{declared.body.Body.Body, declared.body.Body.TheVariants.Edit}
+use Rattle.record_body.specs.{declared.limits.Before.Before, Places.body_at, Valid.IsValidTagged, Valid.IsValidBody}
+use Rattle.record_body.specs.{Spelling.spelling, Spelling.project_bytes}
+use Rattle.project_state.specs.{declared.track.Track.Track, Meaning.history_blocks, Numbers.AreUnnumbered}
+use Rattle.record_body.proofs.{Leading.lead_once_in, ReadBack.read_back}
+
+-- ---- points in a header
+
+-- an edit of these tracks, with this tag
+edit_of : ℕ → ℕ → List Track × ℕ → Body
+edit_of block track p = Edit p.1 block track p.0
+
+edit_valid : (m block track commit : ℕ) (p : List Track × ℕ) → 16 ≤ block → block ≤ 2 ^ 62 → 1 ≤ track → track ≤ 2 ^ 62
+    → p.1 < 2 ^ 64 → IsValidTagged m block track commit p → AreUnnumbered p.0
+    → IsValidBody m (record { at = 0; next_block = block; next_track = track; commits = commit }) (edit_of block track p)
+unfolding edit_of
+edit_valid m block track commit p bl bm tl tm small is none = record {
+  tag_number = small;
+  tag_given = is.1;
+  block_least = bl;
+  block_most = bm;
+  block_later = omega arith;
+  track_least = tl;
+  track_most = tm;
+  track_later = omega arith;
+  few = is.0.few;
+  rising = is.0.rising;
+  valid = is.0.valid;
+  unnumbered = none;
+}
+
+tracks_of : Body → List Track
+tracks_of (Edit tag block track point) = point
+tracks_of other = []
+
+tag_of : Body → ℕ
+tag_of (Edit tag block track point) = tag
+tag_of other = 0
+
+spelled_alike : (block track : ℕ) (p q : List Track × ℕ) → point_bytes p ≡ point_bytes q
+    → spelling (edit_of block track p) ≡ spelling (edit_of block track q)
+unfolding edit_of
+spelled_alike block track p q e =
+    let tag : little_bytes 8 p.1 ≡ little_bytes 8 q.1 =
+    sym (take_at (little_bytes 8 p.1) (project_bytes p.0) 8 refl) ∙ ap (take 8) e
+    ∙ take_at (little_bytes 8 q.1) (project_bytes q.0) 8 refl in
+    let tracks : project_bytes p.0 ≡ project_bytes q.0 =
+    sym (drop_at (little_bytes 8 p.1) (project_bytes p.0) 8 refl) ∙ ap (drop 8) e
+    ∙ drop_at (little_bytes 8 q.1) (project_bytes q.0) 8 refl in
+    ap (λ (t : List ℕ). 1 ∷ (t ++ (little_bytes 8 block ++ (little_bytes 8 track ++ project_bytes p.0)))) tag
+    ∙ ap (λ (t : List ℕ). 1 ∷ (little_bytes 8 q.1 ++ (little_bytes 8 block ++ (little_bytes 8 track ++ t)))) tracks
+
+module _ (m block track commit : ℕ) (least : 4 ≤ m) (most : m < 2 ^ 32) (bl : 16 ≤ block) (bm : block ≤ 2 ^ 62)
+    (tl : 1 ≤ track) (tm : track ≤ 2 ^ 62) (cm : commit ≤ 2 ^ 62) where
+  abbrev Valid : List Track × ℕ → Type 0
+  Valid p = IsValidTagged m block track commit p × AreUnnumbered p.0
+
+  one_point : (p q : List Track × ℕ) → Valid p → Valid q → point_bytes p ≡ point_bytes q → p ≡ q
+  unfolding edit_of tracks_of tag_of
+  one_point p q a b e =
+      let before : Before = record { at = 0; next_block = block; next_track = track; commits = commit } in
+      let say_p = (read_back m before (edit_of block track p) least most
+      (edit_valid m block track commit p bl bm tl tm (omega (arith, a.0.1)) a.0 a.1)).1 in
+      let say_q = (read_back m before (edit_of block track q) least most
+      (edit_valid m block track commit q bl bm tl tm (omega (arith, b.0.1)) b.0 b.1)).1 in
+      let same : edit_of block track p ≡ edit_of block track q =
+      sym say_p ∙ ap body_at (spelled_alike block track p q e) ∙ say_q in
+      λ i. (tracks_of (same i), tag_of (same i))
+
+  some_points : (x : List ℕ) (xs : List (List ℕ)) → [] ≡ x ∷ xs → ⊥
+  some_points x xs e = cc
+
+  head_of : List (List ℕ) → List ℕ
+  head_of [] = []
+  head_of (x ∷ xs) = x
+
+  tail_of : List (List ℕ) → List (List ℕ)
+  tail_of [] = []
+  tail_of (x ∷ xs) = xs
+
+  pub one_points : (ps qs : List (List Track × ℕ)) → AllByRecursion Valid ps → AllByRecursion Valid qs
+      → map point_bytes ps ≡ map point_bytes qs → ps ≡ qs
+  unfolding head_of tail_of
+  one_points [] [] a b e = refl
+  one_points [] (q ∷ qs) a b e = absurd (some_points (point_bytes q) (map point_bytes qs) e)
+  one_points (p ∷ ps) [] a b e = absurd (some_points (point_bytes p) (map point_bytes ps) (sym e))
+  one_points (p ∷ ps) (q ∷ qs) a b e =
+      ap (λ x. x ∷ ps) (one_point p q a.0 b.0 (ap head_of e))
+      ∙ ap (λ xs. q ∷ xs) (one_points ps qs a.1 b.1 (ap tail_of e))
+
+saved_same : (a b : Saved) → a.history.points ≡ b.history.points → a.history.cursor ≡ b.history.cursor
+    → a.history.depth ≡ b.history.depth → a.next_block ≡ b.next_block → a.next_track ≡ b.next_track
+    → a.commit ≡ b.commit → a ≡ b
+saved_same a b points cursor depth block track commit = λ i. record {
+  history = record { points = points i; cursor = cursor i; depth = depth i };
+  next_block = block i;
+  next_track = track i;
+  commit = commit i;
+}
+
+module _ (log : Log) (format : IsFormat log.rate log.block_size log.depth) (bounds : HasBase log.base) where
+  headed_once : (a b : Saved) → IsHeaderBase log a → IsHeaderBase log b → a ≡ b
+  headed_once a b p q =
+      let block = log.base.next_block in
+      let track = log.base.next_track in
+      let commit = log.base.commit in
+      let all_a : AllByRecursion (IsValidTagged log.block_size block track commit) a.history.points =
+      rewritten a p in
+      let all_b : AllByRecursion (IsValidTagged log.block_size block track commit) b.history.points =
+      rewritten b q in
+      saved_same a b
+      (one_points log.block_size block track commit format.block_least (omega (arith, format.block_most))
+      bounds.block_least bounds.block_most bounds.track_least bounds.track_most bounds.commit
+      a.history.points b.history.points (with_none a.history.points all_a p.unnumbered)
+      (with_none b.history.points all_b q.unnumbered) (sym p.points ∙ q.points))
+      (p.cursor ∙ sym q.cursor) (p.depth ∙ sym q.depth) (p.next_block ∙ sym q.next_block)
+      (p.next_track ∙ sym q.next_track) (p.commit ∙ sym q.commit)
+    where
+      with_none : (ps : List (List Track × ℕ)) → AllByRecursion (IsValidTagged log.block_size log.base.next_block
+          log.base.next_track log.base.commit) ps → AllByRecursion (λ (p : List Track × ℕ). AreUnnumbered p.0) ps
+          → AllByRecursion (λ (p : List Track × ℕ). IsValidTagged log.block_size log.base.next_block
+          log.base.next_track log.base.commit p × AreUnnumbered p.0) ps
+      with_none [] a b = tt
+      with_none (p ∷ ps) a b = ((a.0, b.0), with_none ps a.1 b.1)
+
+      rewritten : (k : Saved) → IsHeaderBase log k → AllByRecursion (IsValidTagged log.block_size log.base.next_block
+          log.base.next_track log.base.commit) k.history.points
+      rewritten k is =
+          subst (λ (c : ℕ). AllByRecursion (IsValidTagged log.block_size log.base.next_block log.base.next_track c)
+          k.history.points) is.commit
+          (subst (λ (t : ℕ). AllByRecursion (IsValidTagged log.block_size log.base.next_block t k.commit)
+          k.history.points) is.next_track
+          (subst (λ (b : ℕ). AllByRecursion (IsValidTagged log.block_size b k.next_track k.commit) k.history.points)
+          is.next_block is.valid))
+
+  begins_by : (points : List (List ℕ)) (a b : Saved) → BeginsBy points log a → BeginsBy points log b → a ≡ b
+  begins_by [] a b p q = p ∙ sym q
+  begins_by (x ∷ xs) a b p q = headed_once a b p q
+
+  pub begins_once : (a b : Saved) → Begins log a → Begins log b → a ≡ b
+  begins_once = begins_by log.points
+
+pub keeps_once : (files : Files) (a b : Opened) → Keeps files a → Keeps files b → a ≡ b
+keeps_once files a b one two =
+    let p = one.keeps in
+    let q = two.keeps in
+    let same = one_journal one.form two.form p.log q.log files one.known two.known one.few two.few p.there q.there in
+    let format = any_format two.form q.log files two.known q.there in
+    let begins : Begins q.log p.base = subst (λ (l : Log). Begins l p.base) same.log p.begins in
+    let base : p.base ≡ q.base =
+    begins_once q.log format (any_base two.form q.log files two.known q.there) p.base q.base begins q.begins in
+    let version = version_of two.form in
+    let led : LeadIn version q.log.block_size q.base q.log.bodies p.kept =
+    subst (λ (k : Saved). LeadIn version q.log.block_size k q.log.bodies p.kept) base
+    (subst (λ (l : Log). LeadIn version l.block_size p.base l.bodies p.kept) same.log
+    (subst (λ (f : Form). LeadIn (version_of f) p.log.block_size p.base p.log.bodies p.kept) same.form p.told)) in
+    let kept : p.kept ≡ q.kept = lead_once_in version q.log.block_size q.log.bodies q.base p.kept q.kept
+    format.block_least (omega (arith, format.block_most)) led q.told in
+    p.is ∙ ap (λ (l : Log). opened l p.kept files) same.log ∙ ap (λ (k : Saved). opened q.log k files) kept ∙ sym q.is
+
+-- at each moment of putting it into one header
+pub either_keeps : (form : Form) (log packed : Log) (base kept : Saved) (c : Files) → IsForm form → form.file ≤ 1
+    → Begins log base → LeadIn (version_of form) log.block_size base log.bodies kept → IsPacked log kept packed
+    → AllByRecursion (IsWhole c) (history_blocks kept.history) → HasEither form log packed c
+    → Keeps c (opened log kept c)
+either_keeps form log packed base kept c known few begins told is whole = ⊎_elim
+    (λ has. record {
+      form = form;
+      known = known;
+      few = few;
+      keeps = record {
+        log = log;
+        base = base;
+        kept = kept;
+        there = has;
+        begins = begins;
+        told = told;
+        whole = whole;
+        is = refl;
+      };
+    })
+    (λ has. record {
+      form = form_3 (other_file form.file);
+      known = inr (inr refl);
+      few = omega arith;
+      keeps = record {
+        log = packed;
+        base = kept;
+        kept = kept;
+        there = has;
+        begins = is.begins;
+        told = subst (λ (bs : List (List ℕ)). LeadIn 3 packed.block_size kept bs kept) (sym is.none) refl;
+        whole = whole;
+        is = λ i. record {
+          rate = sym is.rate i;
+          block_size = sym is.block_size i;
+          history = (opened log kept c).history;
+          next_track = kept.next_track;
+          commit = kept.commit;
+        };
+      };
+    })

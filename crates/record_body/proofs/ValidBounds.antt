@@ -1,0 +1,104 @@
+-- Valid blocks, clips and tracks meet their bounds.
+use Rattle.std.proofs.Common.{ℕ, ◌+◌, ◌*◌, ◌^◌, ◌≤◌, ◌<◌, Bool, true, false, List, [], ◌∷◌, length, nat_lt, arith}
+use Rattle.pcm_base.specs.declared.block.BlockRef.{BlockRef}
+use Rattle.pcm_base.specs.Blocks.{NoneEmpty, AllFull, IsHalfFull, block_lens, blocks_len}
+use Rattle.clip_track.specs.declared.clips.Clip.{Clip}
+use Rattle.clip_track.specs.Clips.{AreClips, IsLayout, AllHalfFull, clip_end, end_of}
+use Rattle.project_state.specs.{declared.track.Track.Track, Numbers.AreUnnumbered, Tracks.AreAbove}
+use Rattle.record_body.specs.Valid.{AllGiven, AllClipsGiven, AllValidTracks}
+use Rattle.record_body.specs.{declared.limits.Limits.Limits, FirstFault.least, FirstFault.least_len}
+use Rattle.record_body.proofs.{ClipsBack.AreGoodBlocks, ClipsBack.AreGoodClips, TracksBack.AreGoodTracks}
+
+-- Valid blocks, clips and tracks meet their bounds.
+least_half : (m : ℕ) (several : Bool) (n : ℕ) → m ≤ 2 * n → least_len m several ≤ n
+least_half m true n h = omega arith
+least_half m false n h = omega arith
+
+full_blocks_good : (l : Limits) (several : Bool) (before : ℕ) (bs : List BlockRef)
+    → NoneEmpty bs → before + blocks_len bs ≤ 2 ^ 32 → AllGiven l.next_block bs → AllFull l.block_size (block_lens bs)
+    → AreGoodBlocks l several before bs
+full_blocks_good l several before [] some short given full = tt
+full_blocks_good l several before (b ∷ bs) some short given full = (
+  record {
+    valid = given.0;
+    given = given.1;
+    short = omega arith;
+    some = some.0;
+    fits = full.0.1;
+    enough = least_half l.block_size several b.len full.0.0;
+  },
+  full_blocks_good l several (before + b.len) bs some.1 (omega arith) given.2 full.1,
+)
+
+blocks_good : (l : Limits) (before : ℕ) (bs : List BlockRef) → NoneEmpty bs
+    → before + blocks_len bs ≤ 2 ^ 32 → AllGiven l.next_block bs → IsHalfFull l.block_size (block_lens bs)
+    → AreGoodBlocks l (nat_lt 1 (length bs)) before bs
+blocks_good l before [] some short given full = tt
+blocks_good l before (b ∷ []) some short given full = (
+  record {
+    valid = given.0;
+    given = given.1;
+    short = omega arith;
+    some = some.0;
+    fits = full.1;
+    enough = omega arith;
+  },
+  tt,
+)
+blocks_good l before (b ∷ c ∷ bs) some short given full =
+    full_blocks_good l (nat_lt 1 (length (b ∷ c ∷ bs))) before (b ∷ c ∷ bs) some short given full
+
+full_blocks_few : (m : ℕ) (bs : List BlockRef) → 4 ≤ m → AllFull m (block_lens bs) → 2 * length bs ≤ blocks_len bs
+full_blocks_few m [] large full = omega arith
+full_blocks_few m (b ∷ bs) large full = omega (arith, full.0.0, full_blocks_few m bs large full.1)
+
+pub half_full_few : (m : ℕ) (bs : List BlockRef) → 4 ≤ m → IsHalfFull m (block_lens bs) → blocks_len bs ≤ 2 ^ 32
+    → length bs < 2 ^ 32
+half_full_few m [] large full short = omega arith
+half_full_few m (b ∷ []) large full short = omega arith
+half_full_few m (b ∷ c ∷ bs) large full short = omega (arith, short, full_blocks_few m (b ∷ c ∷ bs) large full)
+
+some_block : (bs : List BlockRef) → 0 < blocks_len bs → 1 ≤ length bs
+some_block [] some = omega arith
+some_block (b ∷ bs) some = omega arith
+
+-- each clip has a sample, and a gap before it
+clips_short : (at : ℕ) (cs : List Clip) → AreClips (at + 1) cs → at + 2 * length cs ≤ end_of at cs
+clips_short at [] apart = omega arith
+clips_short at (c ∷ cs) apart = omega (arith, apart.0, apart.1, clips_short (clip_end c) cs apart.3)
+
+layout_few : (cs : List Clip) → IsLayout cs → length cs < 2 ^ 32
+layout_few [] is = omega arith
+layout_few (c ∷ cs) is = omega (arith, is.few, clips_short (clip_end c) cs is.apart.3)
+
+clips_good : (l : Limits) (at from : ℕ) (cs : List Clip) → 4 ≤ l.block_size → AreClips from cs → end_of at cs ≤ 2 ^ 32
+    → AllHalfFull l.block_size cs → AllClipsGiven l.next_block cs → AreGoodClips l from cs
+clips_good l at from [] large apart short full given = tt
+clips_good l at from (c ∷ cs) large apart short full given =
+    let end = clips_short (clip_end c) cs apart.3 in (
+      record {
+        behind = apart.0;
+        reached = omega (arith, end, short);
+        some = some_block c.blocks apart.1;
+        few = half_full_few l.block_size c.blocks large full.0 (omega (arith, end, short));
+        blocks = blocks_good l c.start c.blocks apart.2 (omega (arith, end, short)) given.0 full.0;
+      },
+      clips_good l (clip_end c) (clip_end c + 1) cs large apart.3 short full.1 given.1,
+    )
+
+pub tracks_good : (l : Limits) (from least : ℕ) (ts : List Track) → 4 ≤ l.block_size → from ≤ least → 1 ≤ least
+    → AreAbove least ts → AllValidTracks l.block_size l.next_block l.next_track ts → AreUnnumbered ts
+    → AreGoodTracks l from ts
+tracks_good l from least [] large le some above valid none = tt
+tracks_good l from least (t ∷ ts) large le some above valid none = (
+  record {
+    some = omega (arith, above.0);
+    above = omega (arith, above.0);
+    given = valid.0.given;
+    gain = valid.0.gain;
+    number = none.0;
+    few = layout_few t.layout valid.0.layout;
+    clips = clips_good l 0 0 t.layout large valid.0.layout.apart valid.0.layout.few valid.0.half_full valid.0.blocks;
+  },
+  tracks_good l (t.id + 1) (t.id + 1) ts large (omega arith) (omega arith) above.1 valid.1 none.1,
+)

@@ -1,0 +1,20 @@
+-- One track more is counted.
+use Rattle.std.proofs.Common.{arith}
+use Rattle.record_body.specs.Changes.{diff_bytes}
+use Rattle.record_body.proofs.{Agreeing.agrees_at, Parts.parts_left}
+use Rattle.project_state.proofs.Points.{drop_some}
+use Rattle.record_body.proofs.changes_writing.all_diff_len.Goals as goal
+
+pub diff_len-len-requires : goal.diff_len-len-requires
+diff_len-len-requires c = record {
+  numbers = agrees_at c.args.current.now c.args.point.now c.loop-i.i _ c.requires.numbers c.track_at.ensures;
+}
+
+pub loop-i-preserved : goal.loop-i-preserved
+loop-i-preserved c =
+    let left = parts_left (diff_bytes c.args.current.now) c.args.point.now c.loop-i.i _
+    (drop_some c.args.point.now c.loop-i.i _ c.track_at.ensures) in
+    record {
+      same = omega (arith, left, c.diff_len-len.ensures.value, c.loop-i.invariant.same);
+      few = omega (arith, c.diff_len-len.ensures.few, c.loop-i.invariant.few);
+    }

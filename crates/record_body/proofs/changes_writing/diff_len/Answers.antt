@@ -1,0 +1,13 @@
+-- The blocks that come have 12 bytes each.
+use Rattle.std.proofs.Common.{ap, arith, length, drop}
+use Rattle.record_body.specs.Changes.{change_bytes, last_blocks}
+use Rattle.record_body.proofs.Parts.{length_blocks}
+use Rattle.record_body.proofs.changes_writing.diff_len.Goals as goal
+
+pub returns-in-Tail-clause-value : goal.returns-in-Tail-clause-value
+returns-in-Tail-clause-value c = omega (
+  arith,
+  ap (λ x. length (change_bytes x)) c.in-Tail.ensures.value,
+  length_blocks (drop c.in-Tail.kept (last_blocks c.args.track.now.layout)),
+  ap length c.fresh.ensures.value,
+)

@@ -1,0 +1,10 @@
+pub mod BounceLemmas
+pub mod AddedLemmas
+pub mod ServedLemmas
+pub mod SpentLemmas
+pub mod CutLemmas
+pub mod GoingLemmas
+pub mod BufferLemmas
+pub mod ReadingLemmas
+pub mod SeatLemmas
+pub mod AnsweringLemmas

@@ -1,0 +1,180 @@
+-- A seat at a desk as an editor, turn by turn.
+use Rattle.std.proofs.Common.{◌≡◌, inl, inr, ⊎_elim, ℕ, ◌≤◌, Bool, true, false, IsSome, Option, Some, None, List, []}
+use Rattle.std.proofs.Common.{◌∷◌, ◌++◌, Result, Ok, Err, refl, sym, ◌∙◌, ap, subst, arith, max}
+use Rattle.std.proofs.lemmas.List.{append-nil}
+use Rattle.pcm_base.specs.Run.{Heard, name_in_line}
+use Rattle.pcm_base.specs.{declared.answer.Reply.Reply, declared.answer.Reply.TheVariants.Refused}
+use Rattle.pcm_base.specs.{declared.command.Call.Call, declared.command.Call.TheVariants.Line}
+use Rattle.pcm_base.specs.{declared.command.Command.Command, declared.entry.SoundMove.SoundMove}
+use Rattle.pcm_base.specs.{declared.refusal.Refusal.Refusal, declared.said.Said.Said, Form.IsTurn, Outside.Sounds}
+use Rattle.disk_model.specs.declared.store.Store.{Ghosts}
+use Rattle.pin_turn.specs.declared.view.View.{View}
+use Rattle.editor_state.specs.Applied.{IsTold, move_of, reply_of}
+use Rattle.editor_state.specs.{Core.Core, Vaults.VaultCounted, Took.as_reply}
+use Rattle.studio_seats.specs.Deeds.{deed, number_after}
+use Rattle.studio_seats.specs.Desks.{Says, Spends, Turned, asked, spent, views}
+use Rattle.studio_seats.specs.{declared.deed.Deed.Deed, declared.held.Held.Held, Stands.origin}
+use Rattle.studio_seats.proofs.Turns.{number_on, said_number, turned_number}
+use Rattle.script_reader.specs.Place.{CountsFaults, Enters, made_commit, place_of, with_number}
+use Rattle.script_reader.specs.Answering.{Turn}
+use Rattle.edit_ports.specs.declared.vault.Vault as vault
+
+module _ {D V : Type 0} (disk : Ghosts D) (vaults : vault.Ghosts V) (start : Core D) where
+  -- the number that a turn tells
+  number_at : (v w : View (Held D V disk) Deed) (c : Call) (what : Result Reply Refusal) (sound : SoundMove) (at : ℕ)
+      (h : Turned (origin disk vaults start) (asked c what sound) at (views v w))
+      → at ≡ number_after start.commit_number ((v.seen ++ h.between) ++ deed v.number c what sound ∷ [])
+  number_at v w c what sound at h = h.number ∙ turned_number h
+
+  -- is no lower than one that was told before
+  number_up : (v w : View (Held D V disk) Deed) (c : Call) (what : Result Reply Refusal) (sound : SoundMove)
+      (at last : ℕ)
+      → Turned (origin disk vaults start) (asked c what sound) at (views v w)
+      → last ≤ number_after start.commit_number v.seen → last ≤ at
+  number_up v w c what sound at last h low =
+      let one = number_on start.commit_number v.seen h.between in
+      let two = number_on start.commit_number (v.seen ++ h.between) (deed v.number c what sound ∷ []) in
+      let is = number_at v w c what sound at h in omega (arith, low, one, two, is)
+
+  seen_more : (v w : View (Held D V disk) Deed) (c : Call) (what : Result Reply Refusal) (sound : SoundMove)
+      {A : Type 0} (said : Said A) → Says (origin disk vaults start) (asked c what sound) said (views v w)
+      → number_after start.commit_number v.seen ≤ number_after start.commit_number w.seen
+  seen_more v w c what sound {A} said h = ⊎_elim
+      (λ (x : Turned (origin disk vaults start) (asked c what sound) said.at (views v w)).
+      let one = number_on start.commit_number v.seen x.between in
+      let two = number_on start.commit_number (v.seen ++ x.between) (deed v.number c what sound ∷ []) in
+      let seen : number_after start.commit_number w.seen
+      ≡ number_after start.commit_number ((v.seen ++ x.between) ++ deed v.number c what sound ∷ []) =
+      ap (λ (z : View (Held D V disk) Deed). number_after start.commit_number z.seen) x.view in
+      omega (arith, one, two, seen))
+      (λ (x : Spends v said w).
+      let seen : number_after start.commit_number w.seen ≡ number_after start.commit_number v.seen =
+      ap (λ (z : View (Held D V disk) Deed). number_after start.commit_number z.seen) x.view in
+      omega (arith, seen))
+      h
+
+  pub stays_low : (v w : View (Held D V disk) Deed) (c : Call) (what : Result Reply Refusal) (sound : SoundMove)
+      {A : Type 0} (said : Said A) (last : ℕ) → Says (origin disk vaults start) (asked c what sound) said (views v w)
+      → last ≤ number_after start.commit_number v.seen → max last said.at ≤ number_after start.commit_number w.seen
+  stays_low v w c what sound {A} said last h low =
+      let more = seen_more v w c what sound said h in
+      let at = said_number disk vaults start v w c what sound said h in
+      omega (arith, low, more, at)
+
+  -- what a line leaves of the place, where the vault has these sounds and faults before and after it
+  module _ (v w : View (Held D V disk) Deed) (c : Command) (tells : Bool) (before after : Sounds) (old new : ℕ) where
+    abbrev sound : SoundMove
+    sound = move_of (name_in_line c) before after
+
+    -- a turn that told its number
+    enters : (what : Result Reply Refusal) (at last : ℕ) (numbers numbers' : List ℕ)
+        → Turned (origin disk vaults start) (asked (Line c) what sound) at (views v w)
+        → last ≤ number_after start.commit_number v.seen
+        → numbers' ≡ with_number (made_commit what c) numbers at
+        → (IsTold (Line c) tells → Heard (name_in_line c) sound before after)
+        → CountsFaults (name_in_line c) what old new
+        → Enters (place_of start v last numbers tells before old) c (reply_of what)
+        (place_of start w (max last at) numbers' tells after new)
+    enters what at last numbers numbers' h low listed heard counted =
+        let n = number_after start.commit_number ((v.seen ++ h.between) ++ deed v.number (Line c) what sound ∷ []) in
+        let is : at ≡ n = number_at v w (Line c) what sound at h in
+        let up = number_up v w (Line c) what sound at last h low in
+        let same : max last at ≡ at = omega (arith, up) in
+        let told : max last at ≡ n = same ∙ is in
+        let list : numbers' ≡ with_number (made_commit what c) numbers n =
+        listed ∙ ap (λ (m : ℕ). with_number (made_commit what c) numbers m) is in
+        record {
+          unspent = h.unspent;
+          between = h.between;
+          by_others = h.by_others;
+          what = what;
+          reply = refl;
+          after = λ i. place_of start (h.view i) (told i) (list i) tells after new;
+          heard = heard;
+          counted = counted;
+        }
+
+    -- none was left
+    spends : {A : Type 0} (said : Said A) (last : ℕ) (numbers : List ℕ) → Spends v said w → after ≡ before → new ≡ old
+        → place_of start w (max last said.at) numbers tells after new
+        ≡ record (place_of start v last numbers tells before old) { used_up = true }
+    spends {A} said last numbers h same quiet =
+        let none = h.at in
+        let stays : max last said.at ≡ last = omega (arith, none) in
+        λ i. place_of start (h.view i) (stays i) numbers tells (same i) (quiet i)
+
+    not_ok : {A : Type 0} (P : Type 0) (x : A) (what : Result A Refusal) → what ≡ Ok x → what ≡ Err spent → P
+    not_ok P x what a b = absurd (cc)
+
+    reason_is : {A : Type 0} (reason : Refusal) (what : Result A Refusal) → what ≡ Err reason → what ≡ Err spent
+        → reason ≡ spent
+    reason_is reason what a b = cc
+
+    -- the count of faults, by what a turn told of it
+    counts : (name : Option (List ℕ)) (r : Reply) (what : Result (Unit {0}) Refusal)
+        → (IsSome name → VaultCounted what old new)
+        → (name ≡ None → new ≡ old) → CountsFaults name (as_reply (λ _. r) what) old new
+    counts None r what named silent = silent refl
+    counts (Some name) r (Ok x) named silent = named refl
+    counts (Some name) r (Err why) named silent = named refl
+
+    told_count : (r : Reply) (said : Said (Unit {0})) (what : Result (Unit {0}) Refusal) → said.what ≡ what
+        → Turned (origin disk vaults start) (asked (Line c) (as_reply (λ _. r) said.what) sound) said.at (views v w)
+        → (w.used_up ≡ false → IsSome (name_in_line c) → VaultCounted said.what old new)
+        → (name_in_line c ≡ None → new ≡ old) → CountsFaults (name_in_line c) (as_reply (λ _. r) what) old new
+    told_count r said what is x named silent =
+        let unspent : w.used_up ≡ false = ap (λ (z : View (Held D V disk) Deed). z.used_up) x.view ∙ x.unspent in
+        subst (λ (z : Result (Unit {0}) Refusal). CountsFaults (name_in_line c) (as_reply (λ _. r) z) old new) is
+        (counts (name_in_line c) r said.what (named unspent) silent)
+
+    pub ok_turn : (r : Reply) (said : Said (Unit {0})) (last : ℕ) (numbers numbers' : List ℕ) → said.what ≡ Ok tt
+        → Says (origin disk vaults start) (asked (Line c) (as_reply (λ _. r) said.what) sound) said (views v w)
+        → last ≤ number_after start.commit_number v.seen
+        → numbers' ≡ with_number (made_commit (Ok r) c) numbers said.at
+        → (IsTold (Line c) tells → Heard (name_in_line c) sound before after)
+        → (w.used_up ≡ false → IsSome (name_in_line c) → VaultCounted said.what old new)
+        → (name_in_line c ≡ None → new ≡ old) → IsTurn c
+        → Turn (place_of start v last numbers tells before old) (Ok c) r
+        (place_of start w (max last said.at) numbers' tells after new)
+    ok_turn r said last numbers numbers' ok h low listed heard named silent turn = ⊎_elim
+        (λ (x : Turned (origin disk vaults start) (asked (Line c) (as_reply (λ _. r) said.what) sound) said.at
+        (views v w)).
+        inl (
+          turn,
+          enters (Ok r) said.at last numbers numbers' (subst
+              (λ (z : Result (Unit {0}) Refusal).
+              Turned (origin disk vaults start) (asked (Line c) (as_reply (λ _. r) z) sound) said.at (views v w))
+              ok x)
+              low listed heard (told_count r said (Ok tt) ok x named silent),
+        ))
+        (λ (x : Spends v said w). not_ok (Turn (place_of start v last numbers tells before old) (Ok c) r
+        (place_of start w (max last said.at) numbers' tells after new)) tt said.what ok x.what)
+        h
+
+    pub err_turn : (r : Reply) (reason : Refusal) (said : Said (Unit {0})) (last : ℕ) (numbers : List ℕ)
+        → said.what ≡ Err reason
+        → Says (origin disk vaults start) (asked (Line c) (as_reply (λ _. r) said.what) sound) said (views v w)
+        → last ≤ number_after start.commit_number v.seen
+        → (IsTold (Line c) tells → Heard (name_in_line c) sound before after)
+        → (w.used_up ≡ true → (after ≡ before) × (new ≡ old))
+        → (w.used_up ≡ false → IsSome (name_in_line c) → VaultCounted said.what old new)
+        → (name_in_line c ≡ None → new ≡ old) → IsTurn c
+        → Turn (place_of start v last numbers tells before old) (Ok c) (Refused reason)
+        (place_of start w (max last said.at) numbers tells after new)
+    err_turn r reason said last numbers err h low heard still named silent turn = ⊎_elim
+        (λ (x : Turned (origin disk vaults start) (asked (Line c) (as_reply (λ _. r) said.what) sound) said.at
+        (views v w)).
+        inl (
+          turn,
+          enters (Err reason) said.at last numbers numbers (subst
+              (λ (z : Result (Unit {0}) Refusal).
+              Turned (origin disk vaults start) (asked (Line c) (as_reply (λ _. r) z) sound) said.at (views v w))
+              err x)
+              low (sym (append-nil numbers)) heard (told_count r said (Err reason) err x named silent),
+        ))
+        (λ (x : Spends v said w). inr (inl (
+          ap Refused (reason_is reason said.what err x.what),
+          (let same = still (ap (λ (z : View (Held D V disk) Deed). z.used_up) x.view) in
+              spends said last numbers x same.0 same.1),
+        )))
+        h

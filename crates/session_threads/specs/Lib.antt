@@ -1,0 +1,5 @@
+-- What the contracts cite.
+pub mod Recorded
+pub mod Played
+pub mod IfGiven
+pub mod RanLines
