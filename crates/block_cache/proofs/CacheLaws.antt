@@ -1,18 +1,12 @@
 -- What stays right of a cache.
-use Rattle.std.proofs.Common.{◌≡◌, ℕ, ◌+◌, ◌*◌, ◌≤◌, refl, sym, ap, ◌∙◌, subst, List, [], ◌∷◌, Contains, ◌⊎◌, ⊎_elim}
-use Rattle.std.proofs.Common.{Bool, ℤ, length, Option}
-use Rattle.std.specs.Prelude.{IsTrue}
-use Rattle.lru.proofs.Splits.{Contains-head, Contains-nil}
-use Rattle.disk_model.specs.{Disk.Files, Disk.bytes_of, Disk.SameElsewhere, Frames.Kept, declared.store.Store.Ghosts}
-use Rattle.pcm_base.specs.declared.block.BlockRef.{BlockRef}
-use Rattle.peak_summary.specs.declared.stretch.Summary.{Summary}
-use Rattle.block_store.specs.declared.frames.Level.{Level}
-use Rattle.block_store.specs.declared.frames.Level.TheVariants.{Short, Long}
-use Rattle.block_store.specs.Reads.{HasHeader, level_place, stored_frames}
-use Rattle.sample_block.specs.Faults.{samples_in}
-use Rattle.block_cache.specs.declared.keys.PageKey.{PageKey}
-use Rattle.block_cache.specs.Pages.{IsSamplePage, IsFramePage, header_key, sample_key, frame_key, kind_of}
-use Rattle.block_cache.specs.Caches.{AllPass, Entries, IsCacheOf, IsCacheWithout, KeepsCache, SameCache, no_entries}
+use Rattle.block_cache.proofs.Common.{◌≡◌, ℕ, ◌+◌, ◌*◌, ◌≤◌, refl, sym, ap, ◌∙◌, subst, List, [], ◌∷◌, Contains, ◌⊎◌}
+use Rattle.block_cache.proofs.Common.{⊎_elim, Bool, ℤ, length, Option, IsTrue, Contains-head, Contains-nil, Files}
+use Rattle.block_cache.proofs.Common.{bytes_of, Kept, Ghosts, BlockRef, Summary, Level, Short, Long, HasHeader}
+use Rattle.block_cache.proofs.Common.{level_place, stored_frames, samples_in, PageKey, IsSamplePage, IsFramePage}
+use Rattle.block_cache.proofs.Common.{sample_key, frame_key, AllPass, Entries, IsCacheOf, IsCacheWithout, KeepsCache}
+use Rattle.block_cache.proofs.Common.{SameCache, no_entries}
+use Rattle.disk_model.specs.{Disk.SameElsewhere}
+use Rattle.block_cache.specs.Pages.{header_key, kind_of}
 use Rattle.disk_model.proofs.Frames.{tells_back}
 
 -- ---- no entries

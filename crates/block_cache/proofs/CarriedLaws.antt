@@ -1,8 +1,7 @@
 -- What stays of a cache whose entries are of blocks whose ids pass a test.
-use Rattle.std.proofs.Common.{◌≡◌, ℕ, Bool, subst}
-use Rattle.std.specs.Prelude.{IsTrue}
-use Rattle.disk_model.specs.{Disk.Files, Frames.Changed, Room.Room, declared.store.Store.Ghosts}
-use Rattle.block_cache.specs.Caches.{AllPass, Entries, IsCacheOf, IsCacheWithout}
+use Rattle.block_cache.proofs.Common.{◌≡◌, ℕ, Bool, subst, IsTrue, Files, Ghosts, AllPass, Entries, IsCacheOf}
+use Rattle.block_cache.proofs.Common.{IsCacheWithout}
+use Rattle.disk_model.specs.{Frames.Changed, Room.Room}
 use Rattle.block_cache.proofs.CacheLaws.{right_elsewhere}
 
 -- more pass

@@ -1,9 +1,6 @@
 -- The keys of the pages that a read still wants are there.
-use Rattle.std.proofs.Common.{◌≤◌, ◌<◌, ◌+◌, ◌/◌, ℕ}
-use Rattle.pcm_base.specs.declared.block.BlockRef.{BlockRef}
-use Rattle.block_store.specs.declared.frames.Level.{Level}
-use Rattle.block_cache.specs.Caches.{Entries, HasFrames, HasSamples, SameCache}
-use Rattle.block_cache.specs.{Entries.HasKey, Pages.frame_key, Pages.sample_key}
+use Rattle.block_cache.proofs.Common.{◌≤◌, ◌<◌, ◌+◌, ◌/◌, ℕ, BlockRef, Level, Entries, HasFrames, HasSamples, SameCache}
+use Rattle.block_cache.proofs.Common.{HasKey, frame_key, sample_key}
 use Rattle.block_cache.proofs.ListLaws.{keys_same}
 
 -- the key of the next page

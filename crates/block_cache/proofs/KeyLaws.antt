@@ -1,13 +1,15 @@
 -- Keys are compared by all of their fields.
-use Rattle.std.proofs.Common.{◌≡◌, Bool, true, false, refl, rules, arith, sym, List, [], ◌∷◌, Contains, length, ◌<◌}
-use Rattle.std.proofs.Common.{◌⊎◌, inl, inr, subst, ap, ◌∙◌, ◌++◌, append-nil, ⊎_elim, Option, Some, None}
-use Rattle.std.specs.Prelude.{◌≢◌, is_some, Result, Ok, Err, OnOk, OnErr}
+use Rattle.block_cache.proofs.Common.{◌≡◌, Bool, true, false, refl, arith, sym, List, [], ◌∷◌, Contains, length, ◌<◌}
+use Rattle.block_cache.proofs.Common.{◌⊎◌, inl, inr, subst, ap, ◌∙◌, ◌++◌, ⊎_elim, Option, ◌≢◌, Result, Ok, Err}
+use Rattle.block_cache.proofs.Common.{Contains-head, Contains-tail, Contains-cons, Contains-nil, HasKey, SameEntries}
+use Rattle.block_cache.proofs.Common.{PageKey}
+use Rattle.std.proofs.Common.{rules, append-nil, Some, None}
+use Rattle.std.specs.Prelude.{is_some, OnOk, OnErr}
 use Rattle.std.specs.{Map.lookup, Map.lookup_entry, Map.remove_entry, Map.keys_of, Option.option_map_or}
 use Rattle.lru.specs.LruCache.{LruCache, demoted, promoted, put_entries}
-use Rattle.lru.proofs.Splits.{Contains-head, Contains-tail, Contains-cons, Contains-middle, Contains-nil, Contains-with}
+use Rattle.lru.proofs.Splits.{Contains-middle, Contains-with}
 use Rattle.lru.proofs.CallerLemmas.{Contains-demoted, Contains-lookup, Contains-promoted, Contains-put_entries}
-use Rattle.block_cache.specs.Entries.{HasKey, SameEntries}
-use Rattle.block_cache.specs.{declared.keys.PageKey.PageKey, contracts.keys.PageKeyPartialEq.TheImpl.eq-value}
+use Rattle.block_cache.specs.{contracts.keys.PageKeyPartialEq.TheImpl.eq-value}
 
 abbrev pub same_key : PageKey → PageKey → Bool
 same_key = eq-value.it

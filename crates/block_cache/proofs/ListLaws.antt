@@ -1,11 +1,9 @@
 -- Pages as the lists of their items.
-use Rattle.std.proofs.Common.{◌≡◌, sym, ap, ◌∙◌, subst, List, [], ◌∷◌, Contains, ◌⊎◌, inl, inr, ⊎_elim, ℕ, ℤ, length}
-use Rattle.std.proofs.Common.{◌≤◌}
-use Rattle.std.specs.{Prelude.◌≢◌, Prelude.◌↔◌, Global.Vec}
-use Rattle.lru.proofs.Splits.{Contains-head, Contains-tail, Contains-cons, Contains-nil}
-use Rattle.block_cache.specs.{declared.keys.PageKey.PageKey, Entries.HasKey, Entries.SameEntries, Entries.IsWithout}
-use Rattle.block_cache.specs.{Pages.IsPage, Caches.ArePages, Caches.Entries, Caches.lists_of}
-use Rattle.peak_summary.specs.declared.stretch.Summary.{Summary}
+use Rattle.block_cache.proofs.Common.{◌≡◌, sym, ap, ◌∙◌, subst, List, [], ◌∷◌, Contains, ◌⊎◌, inl, inr, ⊎_elim, ℕ, ℤ}
+use Rattle.block_cache.proofs.Common.{length, ◌≤◌, ◌≢◌, Contains-head, Contains-tail, Contains-cons, Contains-nil}
+use Rattle.block_cache.proofs.Common.{PageKey, HasKey, SameEntries, IsPage, Entries, lists_of, Summary}
+use Rattle.std.specs.{Prelude.◌↔◌, Global.Vec}
+use Rattle.block_cache.specs.{Entries.IsWithout, Caches.ArePages}
 use Rattle.block_cache.proofs.KeyLaws.{has_key, key_has}
 
 module _ {V : Type 0} where

@@ -1,20 +1,17 @@
 -- What stands on a page, and a part of it.
-use Rattle.std.proofs.Common.{◌≡◌, ℕ, ◌+◌, ◌*◌, ◌-◌, ◌/◌, ◌%◌, ◌≤◌, ℤ, List, length, length-drop, take, drop, refl, sym}
-use Rattle.std.proofs.Common.{ap, ◌∙◌, subst, arith, min}
+use Rattle.block_cache.proofs.Common.{◌≡◌, ℕ, ◌+◌, ◌*◌, ◌-◌, ◌/◌, ◌%◌, ◌≤◌, ℤ, List, length, length-drop, take, drop}
+use Rattle.block_cache.proofs.Common.{refl, sym, ap, ◌∙◌, ◌<◌, subst, arith, min, Bool, true, false, Contains, Files}
+use Rattle.block_cache.proofs.Common.{bytes_of, BlockRef, Summary, frame_count, samples_in, Level, Short, Long}
+use Rattle.block_cache.proofs.Common.{HasHeader, frame_len, level_place, stored_frames, PageKey, IsFramePage, IsPage}
+use Rattle.block_cache.proofs.Common.{IsSamplePage, frame_key, frames_end, page_end, page_len, sample_key, Entries}
+use Rattle.block_cache.proofs.Common.{IsCacheOf}
 use Rattle.std.proofs.lemmas.List.{get_or-drop, get_or-take, length-take, same_lists}
 use Rattle.std.proofs.lemmas.List.FromFn.{get_or-map-range_with_len}
 use Rattle.std.specs.Int.{w16, cast_signed}
-use Rattle.disk_model.specs.Disk.{Files, bytes_of}
-use Rattle.pcm_base.specs.declared.block.BlockRef.{BlockRef}
-use Rattle.peak_summary.specs.{declared.stretch.Summary.Summary, Peaks.frame_count}
-use Rattle.sample_block.specs.Faults.{number_at, samples_in}
+use Rattle.sample_block.specs.Faults.{number_at}
 use Rattle.sample_block.proofs.Laws.{get_samples, length_samples}
-use Rattle.block_store.specs.declared.frames.Level.{Level}
-use Rattle.block_store.specs.declared.frames.Level.TheVariants.{Short, Long}
-use Rattle.block_store.specs.Reads.{HasHeader, frame_len, level_place, stored_frame, stored_frames}
+use Rattle.block_store.specs.Reads.{stored_frame}
 use Rattle.block_store.proofs.FrameLaws.{length_stored}
-use Rattle.block_cache.specs.declared.keys.PageKey.{PageKey}
-use Rattle.block_cache.specs.Pages.{IsFramePage, IsSamplePage, frame_key, page_end, page_len, sample_key}
 
 samples_cut : (bytes : List ℕ) (at m skip n : ℕ) → skip + n ≤ m
     → take n (drop skip (samples_in bytes at m)) ≡ samples_in bytes (at + 2 * skip) n
@@ -106,23 +103,6 @@ frames_cut bytes l len from m skip n le =
     ∙ get_or-map-range_with_len f from m (skip + k) (from + skip + k) d (omega arith) (omega arith)
     ∙ sym (get_or-map-range_with_len f (from + skip) n k (from + skip + k) d (omega arith) refl))
 
-pub page_frames : (files : Files) (l : Level) (k : PageKey) (b : BlockRef) (from n : ℕ) (fs out : List Summary)
-    → k ≡ frame_key l b (from / 256) → IsFramePage files l k fs → from % 256 + n ≤ length fs
-    → out ≡ take n (drop (from % 256) fs)
-    → out ≡ stored_frames (bytes_of (files b.id)) l b.len from n
-page_frames files l k b from n fs out key page le got =
-    let right : IsFramePage files l (frame_key l b (from / 256)) fs = subst (λ (j : PageKey). IsFramePage files l j
-    fs) key page in
-    let bytes : List ℕ = bytes_of (files b.id) in
-    got ∙ ap (λ (ys : List Summary). take n (drop (from % 256) ys)) right.frames
-    ∙ frames_cut bytes l b.len (256 * (from / 256)) (length fs) (from % 256) n le
-    ∙ ap (λ (m : ℕ). stored_frames bytes l b.len m n) (omega arith)
-
-pub frame_page_header : (files : Files) (l : Level) (k : PageKey) (b : BlockRef) (page : ℕ) (fs : List Summary)
-    → k ≡ frame_key l b page → IsFramePage files l k fs → HasHeader b.id b.len (bytes_of (files b.id))
-frame_page_header files l k b page fs key right =
-    subst (λ (j : PageKey). HasHeader j.id j.len (bytes_of (files j.id))) key right.header
-
 pub frame_page_read : (was now : Files) (l : Level) (b : BlockRef) (page start n : ℕ) (fs : List Summary) → now ≡ was
     → start ≡ 256 * page → HasHeader b.id b.len (bytes_of (was b.id))
     → level_place l b.len + 12 * (start + n) ≤ length (bytes_of (now b.id))
@@ -159,21 +139,54 @@ pub frame_page_len : (l : Level) (b : BlockRef) (page : ℕ)
 frame_page_len Short b page = refl
 frame_page_len Long b page = refl
 
--- a page of frames that is right ends within the file
-pub frame_page_whole : (files : Files) (l : Level) (k : PageKey) (b : BlockRef) (from : ℕ) (fs : List Summary)
-    → k ≡ frame_key l b (from / 256) → IsFramePage files l k fs
-    → length fs ≡ min 256 (frame_count (frame_len l) b.len - 256 * (from / 256))
-    → level_place l b.len + 12 * page_end 256 (frame_count (frame_len l) b.len) from ≤ length (bytes_of (files b.id))
-frame_page_whole files l k b from fs key page size =
-    let right : IsFramePage files l (frame_key l b (from / 256)) fs = subst (λ (j : PageKey). IsFramePage files l j
-    fs) key page in
-    omega (arith, right.whole, size)
+-- frames that a page of the cache has, and where they end in the file
+pub record AreKept (files : Files) (once : Bool) (l : Level) (b : BlockRef) (from n : ℕ) (out : List Summary)
+    : Type 0 where
+  pub frames : out ≡ stored_frames (bytes_of (files b.id)) l b.len from n
+  pub header : HasHeader b.id b.len (bytes_of (files b.id))
+  pub whole : frames_end once l b (from + n) ≤ length (bytes_of (files b.id))
 
--- and so does each part of it
-pub frame_part_whole : (files : Files) (l : Level) (k : PageKey) (b : BlockRef) (from n : ℕ) (fs : List Summary)
-    → k ≡ frame_key l b (from / 256) → IsFramePage files l k fs → from % 256 + n ≤ length fs
-    → level_place l b.len + 12 * (from + n) ≤ length (bytes_of (files b.id))
-frame_part_whole files l k b from n fs key page le =
-    let right : IsFramePage files l (frame_key l b (from / 256)) fs = subst (λ (j : PageKey). IsFramePage files l j
-    fs) key page in
-    omega (arith, right.whole, le)
+-- frames of one page end where the page does
+pub page_last : (place count from n : ℕ) → 0 < n → from % 256 + n ≤ 256
+    → place + 12 * page_end 256 count (from + n - 1) ≡ place + 12 * page_end 256 count from
+page_last place count from n some one =
+    let same : (from + n - 1) / 256 ≡ from / 256 = omega arith in
+    ap (λ (p : ℕ). place + 12 * min count (256 * (p + 1))) same
+
+-- frames end within the file if their page does
+end_within : (once : Bool) (l : Level) (b : BlockRef) (from n size whole : ℕ) → 0 < n → from % 256 + n ≤ 256
+    → size ≡ min 256 (frame_count (frame_len l) b.len - 256 * (from / 256)) → from % 256 + n ≤ size
+    → level_place l b.len + 12 * (256 * (from / 256) + size) ≤ whole → frames_end once l b (from + n) ≤ whole
+end_within true l b from n size whole some one is le end = omega (arith, end, le)
+end_within false l b from n size whole some one is le end =
+    let last = page_last (level_place l b.len) (frame_count (frame_len l) b.len) from n some one in
+    omega (arith, last, end, is)
+
+-- what the cache has of a page is right
+pub kept_frames : (files : Files) (c : Entries) (once : Bool) (l : Level) (b : BlockRef) (from n : ℕ) (k : PageKey)
+    (out : List Summary) → IsCacheOf files c → k ≡ frame_key l b (from / 256) → 0 < n → from % 256 + n ≤ 256
+    → from + n ≤ frame_count (frame_len l) b.len
+    → (fs : List Summary) × Contains c.frames (k, fs) × IsPage k (length fs) × (out ≡ take n (drop (from % 256) fs))
+    → AreKept files once l b from n out
+kept_frames files c once l b from n k out right key some one within on =
+    let fs : List Summary = on.0 in
+    let page : IsFramePage files l (frame_key l b (from / 256)) fs = subst (λ (j : PageKey). IsFramePage files l j fs)
+    key (right.frames l (k, fs) on.1 (ap (λ (j : PageKey). j.kind) key)) in
+    let size = on.2.size ∙ ap page_len key ∙ frame_page_len l b (from / 256) in
+    let le : from % 256 + n ≤ length fs = omega (arith, size, one, within) in
+    let bytes : List ℕ = bytes_of (files b.id) in record {
+      frames = on.3 ∙ ap (λ (ys : List Summary). take n (drop (from % 256) ys)) page.frames
+          ∙ frames_cut bytes l b.len (256 * (from / 256)) (length fs) (from % 256) n le
+          ∙ ap (λ (m : ℕ). stored_frames bytes l b.len m n) (omega arith);
+      header = page.header;
+      whole = end_within once l b from n (length fs) (length bytes) some one size le page.whole;
+    }
+
+-- the end of the frames so far
+pub ends_on : (was now : Files) (once : Bool) (l : Level) (b : BlockRef) (from done n m : ℕ) → now ≡ was
+    → frames_end once l b (from + done + m) ≤ length (bytes_of (now b.id)) → m ≡ n
+    → frames_end once l b (from + (done + n)) ≤ length (bytes_of (was b.id))
+ends_on was now once l b from done n m same got size =
+    let end : from + done + m ≡ from + (done + n) = omega (arith, size) in
+    subst (λ (f : Files). frames_end once l b (from + (done + n)) ≤ length (bytes_of (f b.id))) same
+    (subst (λ (e : ℕ). frames_end once l b e ≤ length (bytes_of (now b.id))) end got)

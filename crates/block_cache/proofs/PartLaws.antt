@@ -1,13 +1,9 @@
 -- Samples of a block from a number on, and those after them.
-use Rattle.std.proofs.Common.{◌≡◌, ◌≤◌, ◌<◌, ◌+◌, ◌*◌, ℕ, ℤ, List, [], ◌++◌, take, drop, length, arith, refl, sym, ap}
-use Rattle.std.proofs.Common.{◌∙◌, length-drop}
+use Rattle.block_cache.proofs.Common.{◌≡◌, ◌≤◌, ◌<◌, ◌+◌, ◌*◌, ℕ, ℤ, List, [], ◌++◌, take, drop, length, arith, refl}
+use Rattle.block_cache.proofs.Common.{sym, ap, ◌∙◌, length-drop, Files, bytes_of, samples_in, BlockRef, samples_on}
+use Rattle.block_cache.proofs.Common.{HasPart}
 use Rattle.std.proofs.lemmas.List.{append-nil, drop_all}
-use Rattle.disk_model.specs.Disk.{Files, bytes_of}
-use Rattle.sample_block.specs.Faults.{samples_in}
 use Rattle.sample_block.proofs.Laws.{samples_more}
-use Rattle.pcm_base.specs.declared.block.BlockRef.{BlockRef}
-use Rattle.block_store.proofs.PieceLaws.{samples_on}
-use Rattle.block_cache.specs.Pages.{HasPart}
 use borrow.Rule.Slice.PartMut.{put_mid}
 
 -- samples, and some after them

@@ -1,14 +1,14 @@
 -- Reads in turn, by what each leaves of a reader.
-use Rattle.std.proofs.Common.{◌≡◌, ◌∙◌, ◌≤◌, ℕ, ℤ, List, [], ◌∷◌, Contains, Option, Result, Ok, Err, refl, ap, subst}
+use Rattle.block_cache.proofs.Common.{◌≡◌, ◌∙◌, ◌≤◌, ℕ, ℤ, List, [], ◌∷◌, Contains, Option, refl, ap, subst, IsTrue}
+use Rattle.block_cache.proofs.Common.{Contains-head, Files, bytes_of, Kept, Ghosts, tells_on, kept_none, kept_turn}
+use Rattle.block_cache.proofs.Common.{BlockRef, size_of, KeepsCache}
+use Rattle.std.proofs.Common.{Result, Ok, Err}
 use Rattle.std.proofs.lemmas.Result.{IfErr-weaker}
-use Rattle.std.specs.Prelude.{IsTrue, IfErr}
-use Rattle.lru.proofs.Splits.{Contains-head}
-use Rattle.disk_model.specs.{Disk.Files, Disk.bytes_of, declared.store.Store.Ghosts}
-use Rattle.disk_model.proofs.Frames.{tells_on, Fewer, kept_none, kept_turn}
-use Rattle.pcm_base.specs.declared.block.BlockRef.{BlockRef}
+use Rattle.std.specs.Prelude.{IfErr}
+use Rattle.disk_model.proofs.Frames.{Fewer}
 use Rattle.block_store.specs.{declared.fault.BlockFault.BlockFault, Reads.Counted, Reads.IsFaultIn, Reads.IsReadFault}
 use Rattle.block_store.proofs.FaultLaws.{fault_on}
-use Rattle.sample_block.specs.{Blocks.blocks, Spelling.size_of}
+use Rattle.sample_block.specs.{Blocks.blocks}
 use Rattle.block_cache.specs.{declared.reader.BlockReader.BlockReader, Readers.Reads}
 use Rattle.block_cache.proofs.CacheLaws.{keeps_more, keeps_same, keeps_then, same_none}
 
@@ -20,6 +20,21 @@ fault_in files b end r le is =
     (λ e found. (b, Contains-head b [], fault_on b.id b.len end (size_of b.len) (bytes_of (files b.id)) e le found)) is
 
 module _ {D : Type 0} {disk : Ghosts D} where
+  -- a read of one block through the cache
+  pub read_through : {T : Type 0} (b : BlockRef) (end : ℕ) (old new : BlockReader D disk) (r : Result T BlockFault)
+      → end ≤ size_of b.len → Kept disk old.store new.store
+      → Counted r (disk.read_fault_count old.store) (disk.read_fault_count new.store)
+      → KeepsCache (disk.tells old.store) (disk.reads old.store) (b ∷ []) old.cache new.cache
+      → (IsTrue (disk.tells old.store)
+      → IfErr r (λ e. IsReadFault b.id b.len end (bytes_of (disk.reads old.store b.id)) e))
+      → Reads (b ∷ []) old new r
+  read_through b end old new r le kept faults cache damaged = record {
+    kept = kept;
+    faults = faults;
+    cache = cache;
+    damaged = λ told. fault_in (disk.reads old.store) b end r le (damaged told);
+  }
+
   -- no read at all
   pub reads_none : {T : Type 0} {bs : List BlockRef} {a : BlockReader D disk} (x : T) → Fewer disk a.store
       → Reads bs a a (Ok x)

@@ -12,7 +12,6 @@
 mod cache;
 mod drops;
 mod frames;
-mod frames_once;
 mod headers;
 mod keys;
 mod pages;
@@ -22,8 +21,7 @@ mod samples_once;
 
 pub use cache::Cache;
 pub use drops::remove_block_cached;
-pub use frames::read_frames_cached;
-pub use frames_once::read_frames_once;
+pub use frames::{read_frames_cached, read_frames_once};
 pub use keys::{PageKey, PageKind};
 pub use reader::BlockReader;
 pub use samples::read_samples_cached;

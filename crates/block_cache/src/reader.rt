@@ -5,8 +5,7 @@ ghost use Rattle.block_cache.specs.Rights.{right_prop};
 
 use super::cache::Cache;
 use super::drops::remove_block_cached;
-use super::frames::read_frames_cached;
-use super::frames_once::read_frames_once;
+use super::frames::{read_frames_cached, read_frames_once};
 use super::samples::read_samples_cached;
 use super::samples_once::read_samples_once;
 use block_store::{BlockFault, Level, sync_block};
@@ -54,6 +53,7 @@ impl<S: Store> BlockReader<S> {
     /// that the cache has is not read again, and each that is read is kept where there is memory. The answer is that
     /// of uncached reads of all pages concerned: a file that ends before the end of the last one is refused. Of no
     /// samples nothing is read. After an error `out` may have been written in part.
+    #[tactic(auto, using(crate::proofs::CacheLaws::cached_on))]
     pub fn samples(&mut self, block: BlockRef, from: u32, out: &mut [i16]) -> Result<(), BlockFault>
         requires block { IsBlock block.id block.len }
         requires within { from + length out.old ≤ block.len }
@@ -88,6 +88,7 @@ impl<S: Store> BlockReader<S> {
     /// Reads them for a reader that asks for no others of their pages next. They are copied from the pages that the
     /// cache has. From the first page on that it does not have, they are read alone, and no page is kept. So a file that
     /// ends after them is no fault here.
+    #[tactic(auto, using(crate::proofs::CacheLaws::cached_on))]
     pub fn samples_once(
         &mut self,
         block: BlockRef,
@@ -124,6 +125,7 @@ impl<S: Store> BlockReader<S> {
 
     /// Reads frames of a level of a block as `read_frames` does, by whole pages of 256 frames, the last of fewer, and
     /// keeps them, as `samples` does. After an error `out` may have been written in part.
+    #[tactic(auto, using(crate::proofs::CacheLaws::cached_on))]
     pub fn frames(
         &mut self,
         block: BlockRef,
@@ -164,6 +166,7 @@ impl<S: Store> BlockReader<S> {
 
     /// Reads them for a reader that asks for no others of their pages next, as `samples_once` does with samples. After
     /// an error `out` may have been written in part.
+    #[tactic(auto, using(crate::proofs::CacheLaws::cached_on))]
     pub fn frames_once(
         &mut self,
         block: BlockRef,

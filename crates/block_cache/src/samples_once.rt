@@ -122,6 +122,7 @@ fn read_parts<S: Store>(
 /// are copied from the pages that the cache has. From the first page on that it does not have, they are read alone, and
 /// no page is kept. So a file that ends after them is no fault here. Of no samples nothing is read. After an error `out`
 /// may have been written in part.
+#[tactic(auto, using(block_store::proofs::FaultLaws::read_result))]
 pub fn read_samples_once<S: Store>(
     store: &mut S,
     cache: &mut Cache,

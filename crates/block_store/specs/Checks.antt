@@ -5,7 +5,7 @@ use Rattle.sample_block.specs.{Blocks.blocks, declared.damage.Damaged.Damaged}
 use Rattle.block_store.specs.declared.fault.BlockFault.{BlockFault}
 use Rattle.block_store.specs.declared.fault.BlockFault.TheVariants as fault
 
--- Ok comes where nothing differs in the file of this number, and else what differs is told. The disk may fail.
+-- Ok comes where nothing differs in the file of this number, and else the answer is what differs. The disk may fail.
 abbrev pub Checks : {T : Type 0} → ℕ → Option Damaged → Result T BlockFault → Type 0
 Checks id found (Ok x) = found ≡ None
 Checks id found (Err fault.DiskFault) = Unit {0}

@@ -19,7 +19,7 @@ CountedBy (fault.Damaged file found) old new = new ≡ old
 abbrev pub Counted : {T : Type 0} → Result T BlockFault → ℕ → ℕ → Type 0
 Counted result old new = MatchResult result (λ _. new ≡ old) (λ why. CountedBy why old new)
 
--- The file of a block of this many samples ends before this place: its size is told, at 0.
+-- The file of a block of this many samples ends before this place: the fault has its size, at 0.
 abbrev pub EndsBefore : (len end : ℕ) → List ℕ → Damaged → Type 0
 EndsBefore len end bytes found =
     (found ≡ record { at = 0; want = size_of len; have = length bytes }) × (length bytes < end)
@@ -38,7 +38,7 @@ abbrev pub IsCompared : Files → Option BlockRef → Type 0
 IsCompared files None = Unit {0}
 IsCompared files (Some b) = HasHeader b.id b.len (bytes_of (files b.id))
 
--- the header is there and another block's: its first field that differs is told
+-- the header is there and another block's: the fault has its first field that differs
 abbrev pub HasOtherHeader : (id len : ℕ) → List ℕ → Damaged → Type 0
 HasOtherHeader id len bytes found = (16 ≤ length bytes) × (difference bytes 0 (header_fields id len) ≡ Some found)
 

@@ -22,7 +22,7 @@ const BUFFER_LEN: usize = 4096;
 /// How many samples are few.
 const FEW: usize = 256;
 
-/// How many samples are many: so many are read at a time where at least as many are asked.
+/// How many samples are many: reads of at least this many samples take this many at a time.
 const MANY: usize = 16_384;
 
 /// Reads samples whose bytes fit the buffer.
@@ -111,7 +111,7 @@ fn read_some<S: Store>(
     read_buffers(store, block, from, &mut buf, out)
 }
 
-/// Reads so many samples that a large buffer is worth its making: the store is called less often.
+/// Reads many samples by a large buffer: the store is called less often.
 fn read_many<S: Store>(
     store: &mut S,
     block: BlockRef,
@@ -134,7 +134,7 @@ fn read_many<S: Store>(
     read_buffers(store, block, from, &mut buf, out)
 }
 
-/// Reads so few samples that a small buffer has room for them: it is made sooner than one of a page.
+/// Reads few samples by a small buffer, which is made sooner than one of a page.
 fn read_few<S: Store>(
     store: &mut S,
     block: BlockRef,

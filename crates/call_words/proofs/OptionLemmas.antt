@@ -3,9 +3,8 @@ use Rattle.std.proofs.Common.{◌≡◌, ◌∙◌, Bool, cond, true, false, ref
 use Rattle.std.proofs.Common.{None, codes, true≢false, inl, inr, is_some, fold, ◌||◌}
 use Rattle.std.specs.{Option.option_map, Prelude.option_and_then, Prelude.slice_get, Prelude.drop, List.list_any}
 use Rattle.clap.specs.Walk.{Held, Row, Rule, Walk, idle, has_row, walked, settled, finished, first_of, nothing_held}
-use Rattle.clap.specs.Walk.{with_default}
 use Rattle.clap.specs.Faults.{settle_fault, walk_fault, fault_of, defaults_fault, entered_fault, check_fault}
-use Rattle.clap.specs.{Kinds.HasKind, Kinds.IsAmong, Kinds.Kinds, Kinds.or_else, Values.kind_of}
+use Rattle.clap.specs.{Walk.with_default, Kinds.HasKind, Kinds.IsAmong, Kinds.Kinds, Kinds.or_else, Values.kind_of}
 use Rattle.clap.specs.{declared.error.Error.Error, Simple.App, Simple.built, Simple.entered, Simple.matches_of}
 use Rattle.call_words.specs.Options.{Key, Rate, Block, Depth, Given, none_given, options_of, options_read}
 use Rattle.call_words.specs.{Command.new_command, Texts.Text, Texts.is_odd}

@@ -1,6 +1,6 @@
 -- A value of an option becomes a row, where none was given before.
-use Rattle.std.proofs.Common.{◌≡◌, ◌∙◌, Bool, cond, true, false, refl, sym, ap, List, [], ◌∷◌, ◌++◌, Option, Some, None}
-use Rattle.std.proofs.Common.{codes, true≢false, ◌||◌}
+use Rattle.std.proofs.Common.{◌≡◌, ◌∙◌, Bool, cond, true, false, refl, sym, ap, subst, List, [], ◌∷◌, ◌++◌, Option}
+use Rattle.std.proofs.Common.{Some, None, codes, true≢false, ◌||◌}
 use Rattle.std.specs.{Option.option_map, List.find, List.list_any, Str.bytes_eq}
 use Rattle.clap.specs.Walk.{Row, at_row, has_row, more_values, used}
 use Rattle.clap.specs.{Faults.use_fault, declared.parser.matches.ValueSource.TheVariants.CommandLine}
@@ -70,14 +70,12 @@ used_new Depth v rows none = rw (at_row_none (codes "depth") (λ _. []) [] rows 
 use_new : (key : Key) (v : Text) (rows : List Row) → has_row (name_of key) rows ≡ false
     → use_fault false (rule_of key) (v ∷ []) rows ≡ []
 use_new Rate v rows none = rw none refl
-use_new Block v rows none = rw none refl
-use_new Depth v rows none = rw none refl
+use_new _ v rows none = rw none refl
 
 pub use_again : (key : Key) (v : Text) (rows : List Row) → has_row (name_of key) rows ≡ true
     → Faulty (use_fault false (rule_of key) (v ∷ []) rows)
 use_again Rate v rows there = (kind.ArgumentConflict, [], rw there refl)
-use_again Block v rows there = (kind.ArgumentConflict, [], rw there refl)
-use_again Depth v rows there = (kind.ArgumentConflict, [], rw there refl)
+use_again _ v rows there = (kind.ArgumentConflict, [], rw there refl)
 
 pub data Puts (rows : List Row) (key : Key) (v : Text) : Option Given → Type 0 where
   Fresh : (g : Given) → use_fault false (rule_of key) (v ∷ []) rows ≡ [] → Tells (used (rule_of key) (v ∷ []) rows) g
@@ -94,43 +92,38 @@ row_there : (rows : List Row) (key : Key) (g : Given) (v : Text) → Tells rows 
 row_there rows key g v tells e =
     some_any (λ r. bytes_eq r.id (name_of key)) rows (row_of key v) (tells key ∙ ap (option_map (row_of key)) e)
 
-tells_rate : (rows : List Row) (v : Text) (g : Given) → Tells rows g → has_row (codes "rate") rows ≡ false
-    → Tells (rows ++ row_of Rate v ∷ []) (record g { rate = Some v })
-tells_rate rows v g tells none Rate = find_end _ rows (row_of Rate v) none refl
-tells_rate rows v g tells none Block = find_past _ rows (row_of Rate v) refl ∙ tells Block
-tells_rate rows v g tells none Depth = find_past _ rows (row_of Rate v) refl ∙ tells Depth
+-- what is given, and a value of one more option
+abbrev given_with : Key → Text → Given → Given
+given_with Rate v g = record g { rate = Some v }
+given_with Block v g = record g { block = Some v }
+given_with Depth v g = record g { depth = Some v }
 
-tells_block : (rows : List Row) (v : Text) (g : Given) → Tells rows g → has_row (codes "block") rows ≡ false
-    → Tells (rows ++ row_of Block v ∷ []) (record g { block = Some v })
-tells_block rows v g tells none Rate = find_past _ rows (row_of Block v) refl ∙ tells Rate
-tells_block rows v g tells none Block = find_end _ rows (row_of Block v) none refl
-tells_block rows v g tells none Depth = find_past _ rows (row_of Block v) refl ∙ tells Depth
+tells_more : (rows : List Row) (key : Key) (v : Text) (g : Given) → Tells rows g → has_row (name_of key) rows ≡ false
+    → Tells (rows ++ row_of key v ∷ []) (given_with key v g)
+tells_more rows Rate v g tells none Rate = find_end _ rows (row_of Rate v) none refl
+tells_more rows Block v g tells none Block = find_end _ rows (row_of Block v) none refl
+tells_more rows Depth v g tells none Depth = find_end _ rows (row_of Depth v) none refl
+tells_more rows Rate v g tells none Block = find_past _ rows (row_of Rate v) refl ∙ tells Block
+tells_more rows Rate v g tells none Depth = find_past _ rows (row_of Rate v) refl ∙ tells Depth
+tells_more rows Block v g tells none Rate = find_past _ rows (row_of Block v) refl ∙ tells Rate
+tells_more rows Block v g tells none Depth = find_past _ rows (row_of Block v) refl ∙ tells Depth
+tells_more rows Depth v g tells none Rate = find_past _ rows (row_of Depth v) refl ∙ tells Rate
+tells_more rows Depth v g tells none Block = find_past _ rows (row_of Depth v) refl ∙ tells Block
 
-tells_depth : (rows : List Row) (v : Text) (g : Given) → Tells rows g → has_row (codes "depth") rows ≡ false
-    → Tells (rows ++ row_of Depth v ∷ []) (record g { depth = Some v })
-tells_depth rows v g tells none Rate = find_past _ rows (row_of Depth v) refl ∙ tells Rate
-tells_depth rows v g tells none Block = find_past _ rows (row_of Depth v) refl ∙ tells Block
-tells_depth rows v g tells none Depth = find_end _ rows (row_of Depth v) none refl
+put_new : (key : Key) (v : Text) (g : Given) → given_at key g ≡ None → put key v g ≡ Some (given_with key v g)
+put_new Rate v g e = rw e refl
+put_new _ v g e = rw e refl
+
+put_again : (key : Key) (v old : Text) (g : Given) → given_at key g ≡ Some old → put key v g ≡ None
+put_again Rate v old g e = rw e refl
+put_again _ v old g e = rw e refl
 
 pub putting : (rows : List Row) (key : Key) (v : Text) (g : Given) → Tells rows g → Puts rows key v (put key v g)
-putting rows Rate v g tells = go g.rate refl
+putting rows key v g tells = go (given_at key g) refl
   where
-    go : (o : Option Text) → g.rate ≡ o → Puts rows Rate v (put Rate v g)
-    go None e = let none = row_absent rows Rate g tells e in
-        rw e (Fresh (record g { rate = Some v }) (use_new Rate v rows none)
-        (rw (used_new Rate v rows none) (tells_rate rows v g tells none)))
-    go (Some old) e = rw e (Again (use_again Rate v rows (row_there rows Rate g old tells e)))
-putting rows Block v g tells = go g.block refl
-  where
-    go : (o : Option Text) → g.block ≡ o → Puts rows Block v (put Block v g)
-    go None e = let none = row_absent rows Block g tells e in
-        rw e (Fresh (record g { block = Some v }) (use_new Block v rows none)
-        (rw (used_new Block v rows none) (tells_block rows v g tells none)))
-    go (Some old) e = rw e (Again (use_again Block v rows (row_there rows Block g old tells e)))
-putting rows Depth v g tells = go g.depth refl
-  where
-    go : (o : Option Text) → g.depth ≡ o → Puts rows Depth v (put Depth v g)
-    go None e = let none = row_absent rows Depth g tells e in
-        rw e (Fresh (record g { depth = Some v }) (use_new Depth v rows none)
-        (rw (used_new Depth v rows none) (tells_depth rows v g tells none)))
-    go (Some old) e = rw e (Again (use_again Depth v rows (row_there rows Depth g old tells e)))
+    go : (o : Option Text) → given_at key g ≡ o → Puts rows key v (put key v g)
+    go None e = let none = row_absent rows key g tells e in
+        subst (Puts rows key v) (sym (put_new key v g e)) (Fresh (given_with key v g) (use_new key v rows none)
+        (rw (used_new key v rows none) (tells_more rows key v g tells none)))
+    go (Some old) e = subst (Puts rows key v) (sym (put_again key v old g e))
+        (Again (use_again key v rows (row_there rows key g old tells e)))

@@ -36,8 +36,7 @@ pub attached_turn : (h : Held) (key : Key) (w n v : Text) → bytes_eq w (45 ∷
     → arg_by_long rules n ≡ Some (rule_of key)
     → turn_fault shape [] (at h idle) w ≡ react_fault rules false (rule_of key) (v ∷ []) h
 attached_turn h Rate w n v apart is_long is_arg = rw apart (rw is_long (rw is_arg (or_else_none _)))
-attached_turn h Block w n v apart is_long is_arg = rw apart (rw is_long (rw is_arg (or_else_none _)))
-attached_turn h Depth w n v apart is_long is_arg = rw apart (rw is_long (rw is_arg (or_else_none _)))
+attached_turn h _ w n v apart is_long is_arg = rw apart (rw is_long (rw is_arg (or_else_none _)))
 
 pub attached_walked : (h : Held) (key : Key) (w n v : Text) → bytes_eq w (45 ∷ 45 ∷ []) ≡ false
     → long_of w ≡ Some (n, Some v)
@@ -45,14 +44,12 @@ pub attached_walked : (h : Held) (key : Key) (w n v : Text) → bytes_eq w (45 �
     → walked rules [] (at h idle) w ≡ at (reacted rules (rule_of key) (v ∷ []) h) idle
 unfolding walked
 attached_walked h Rate w n v apart is_long is_arg = rw apart (rw is_long (rw is_arg refl))
-attached_walked h Block w n v apart is_long is_arg = rw apart (rw is_long (rw is_arg refl))
-attached_walked h Depth w n v apart is_long is_arg = rw apart (rw is_long (rw is_arg refl))
+attached_walked h _ w n v apart is_long is_arg = rw apart (rw is_long (rw is_arg refl))
 
 pub alone_turn : (h : Held) (key : Key) (w n : Text) → bytes_eq w (45 ∷ 45 ∷ []) ≡ false → long_of w ≡ Some (n, None)
     → arg_by_long rules n ≡ Some (rule_of key) → turn_fault shape [] (at h idle) w ≡ settle_fault rules false h
 alone_turn h Rate w n apart is_long is_arg = rw apart (rw is_long (rw is_arg (or_else_none _)))
-alone_turn h Block w n apart is_long is_arg = rw apart (rw is_long (rw is_arg (or_else_none _)))
-alone_turn h Depth w n apart is_long is_arg = rw apart (rw is_long (rw is_arg (or_else_none _)))
+alone_turn h _ w n apart is_long is_arg = rw apart (rw is_long (rw is_arg (or_else_none _)))
 
 abbrev pub held_for : Held → Key → Held
 held_for h key = record (settled rules h) { pending = Some (name_of key, []) }
@@ -62,8 +59,7 @@ pub alone_walked : (h : Held) (key : Key) (w n : Text) → bytes_eq w (45 ∷ 45
     → walked rules [] (at h idle) w ≡ at (held_for h key) (option (name_of key))
 unfolding walked
 alone_walked h Rate w n apart is_long is_arg = rw apart (rw is_long (rw is_arg refl))
-alone_walked h Block w n apart is_long is_arg = rw apart (rw is_long (rw is_arg refl))
-alone_walked h Depth w n apart is_long is_arg = rw apart (rw is_long (rw is_arg refl))
+alone_walked h _ w n apart is_long is_arg = rw apart (rw is_long (rw is_arg refl))
 
 -- a word that is no option, where none waits
 pub stray_turn : (h : Held) (w : Text) → bytes_eq w (45 ∷ 45 ∷ []) ≡ false → long_of w ≡ None → short_of w ≡ None
@@ -75,11 +71,9 @@ eager_long : (h : Held) (n : Text) (v : Option Text) (k : Option Key) → Faulty
     → Faulty (long_fault rules false (arg_by_long rules n) v h)
 eager_long h n v _ f (Unknown e) = (kind.UnknownArgument, [], rw e refl)
 eager_long h n None _ f (Known Rate e) = rw e f
-eager_long h n None _ f (Known Block e) = rw e f
-eager_long h n None _ f (Known Depth e) = rw e f
+eager_long h n None _ f (Known _ e) = rw e f
 eager_long h n (Some v) _ f (Known Rate e) = rw e (faulty_first _ _ f)
-eager_long h n (Some v) _ f (Known Block e) = rw e (faulty_first _ _ f)
-eager_long h n (Some v) _ f (Known Depth e) = rw e (faulty_first _ _ f)
+eager_long h n (Some v) _ f (Known _ e) = rw e (faulty_first _ _ f)
 
 pub doomed_turn : (h : Held) (w : Text) (p : Text × Option Text) → Faulty (settle_fault rules false h)
     → bytes_eq w (45 ∷ 45 ∷ []) ≡ false
@@ -89,8 +83,7 @@ doomed_turn h w p f apart is_long =
 
 pub waits_settle : (h : Held) (key : Key) → h.pending ≡ Some (name_of key, []) → Faulty (settle_fault rules false h)
 waits_settle h Rate e = (kind.InvalidValue, [], rw e refl)
-waits_settle h Block e = (kind.InvalidValue, [], rw e refl)
-waits_settle h Depth e = (kind.InvalidValue, [], rw e refl)
+waits_settle h _ e = (kind.InvalidValue, [], rw e refl)
 
 -- an option, where a value is waited for
 pub eager_turn : (h : Held) (key : Key) (w : Text) (p : Text × Option Text) → h.pending ≡ Some (name_of key, [])
@@ -104,16 +97,14 @@ pub value_turn : (h : Held) (key : Key) (w : Text) → bytes_eq w (45 ∷ 45 ∷
     → short_of w ≡ None
     → turn_fault shape [] (at h (option (name_of key))) w ≡ []
 value_turn h Rate w apart no_long no_short = rw apart (rw no_long (rw no_short refl))
-value_turn h Block w apart no_long no_short = rw apart (rw no_long (rw no_short refl))
-value_turn h Depth w apart no_long no_short = rw apart (rw no_long (rw no_short refl))
+value_turn h _ w apart no_long no_short = rw apart (rw no_long (rw no_short refl))
 
 pub value_walked : (h : Held) (key : Key) (w : Text) → h.pending ≡ Some (name_of key, [])
     → bytes_eq w (45 ∷ 45 ∷ []) ≡ false → long_of w ≡ None → short_of w ≡ None
     → walked rules [] (at h (option (name_of key))) w ≡ at (record h { pending = Some (name_of key, w ∷ []) }) idle
 unfolding walked
 value_walked h Rate w pending apart no_long no_short = rw apart (rw no_long (rw no_short (rw pending refl)))
-value_walked h Block w pending apart no_long no_short = rw apart (rw no_long (rw no_short (rw pending refl)))
-value_walked h Depth w pending apart no_long no_short = rw apart (rw no_long (rw no_short (rw pending refl)))
+value_walked h _ w pending apart no_long no_short = rw apart (rw no_long (rw no_short (rw pending refl)))
 
 and_false : (b : Bool) → (b && false) ≡ false
 and_false true = refl

@@ -6,7 +6,7 @@ use Rattle.clap.specs.Walk.{Held, Waiting, Walk, idle, option, arg_by_long, used
 use Rattle.clap.specs.Faults.{settle_fault, turn_fault, use_fault, walk_fault}
 use Rattle.clap.specs.{Lexer.long_of, Kinds.or_else}
 use Rattle.call_words.specs.Texts.{Text, begins_with_hyphen, is_odd, option_in}
-use Rattle.call_words.specs.Options.{Key, Rate, Block, Depth, Given, key_of, put, put_then, key_met, option_met}
+use Rattle.call_words.specs.Options.{Key, Rate, Given, key_of, put, put_then, key_met, option_met}
 use Rattle.call_words.specs.Options.{value_met, word_met, options_of}
 use Rattle.call_words.proofs.NewOptions.{shape, rules, at, Faulty, faulty_first, faulty_next, name_of, rule_of, Tells}
 use Rattle.call_words.proofs.RowLemmas.{Puts, putting, Fresh, Again}
@@ -80,14 +80,12 @@ doomed (w ∷ ws) h odd f = go (long_of w) refl (is_odd w) refl
 settle_pushed : (h : Held) (key : Key) (w : Text) → settle_fault rules false
     (record h { pending = Some (name_of key, w ∷ []) }) ≡ use_fault false (rule_of key) (w ∷ []) h.rows
 settle_pushed h Rate w = refl
-settle_pushed h Block w = refl
-settle_pushed h Depth w = refl
+settle_pushed h _ w = refl
 
 rows_pushed : (h : Held) (key : Key) (w : Text)
     → (settled rules (record h { pending = Some (name_of key, w ∷ []) })).rows ≡ used (rule_of key) (w ∷ []) h.rows
 rows_pushed h Rate w = refl
-rows_pushed h Block w = refl
-rows_pushed h Depth w = refl
+rows_pushed h _ w = refl
 
 attached_step : (w : Text) (ws : List Text) (next : Option Key → Given → Option Given) → Rest ws next
     → (h : Held) (g : Given) → State None h g

@@ -1,30 +1,9 @@
 // Numbers among the words: decimal digits alone.
 ghost use Rattle.std.specs.Prelude.{◌≡◌, ◌≤◌, ◌^◌, ◌%◌, IfSome, option_map, option_and_then, List, ℕ};
 ghost use Rattle.std.specs.Borrow.{Bor};
-ghost use Rattle.script_text.specs.Words.{number_up_to};
 ghost use Rattle.call_words.specs.Words.{even, number_or, within};
 
-/// The number that a word writes, where it is `most` at most.
-pub fn number_up_to(digits: &[u8], most: u64) -> Option<u64>
-    ensures value { result ≡ number_up_to most digits.now }
-    ensures bound { IfSome result (λ n. n ≤ most) }
-{
-    if digits.is_empty() {
-        return None;
-    }
-    let mut value: u64 = 0;
-    for d in digits {
-        if *d < b'0' || *d > b'9' {
-            return None;
-        }
-        let next = u128::from(value) * 10 + u128::from(*d - b'0');
-        if next > u128::from(most) {
-            return None;
-        }
-        value = next as u64;
-    }
-    Some(value)
-}
+use script_text::number_up_to;
 
 /// The number that a word writes, where it lies within bounds.
 pub fn number_within(word: &[u8], least: u32, most: u32) -> Option<u32>

@@ -5,9 +5,10 @@ ghost use Rattle.call_words.specs.Options.{given_in};
 ghost use Rattle.call_words.specs.Words.{alone, gen_words, is_new, new_of, new_words, other_words, run_words, words_of};
 
 use super::asked::{NewProject, Words, WordsFault};
-use super::number::{even, number_or, number_up_to, number_within};
+use super::number::{even, number_or, number_within};
 use super::options::{Given, read_options};
 use pcm_base::{MAX_BLOCK_SAMPLES, MAX_DEPTH};
+use script_text::number_up_to;
 use std::alloc::Global;
 
 fn new_project(given: &Given<'_>) -> Option<Words>

@@ -1,10 +1,10 @@
 -- Pages that are there: of the same entries, of fewer cells, and of what comes after.
-use Rattle.std.proofs.Common.{◌≡◌, ◌∙◌, ℕ, ◌+◌, ◌≤◌, true, List, [], ◌∷◌, ◌++◌, refl, arith}
-use Rattle.pcm_base.specs.declared.block.BlockRef.{BlockRef}
-use Rattle.clip_track.specs.declared.clips.Clip.{Clip}
-use Rattle.block_cache.specs.Caches.{Entries, HasSamples, SameCache}
-use Rattle.block_cache.proofs.{CacheLaws.same_none, CacheLaws.same_turn, HitLaws.samples_next}
-use Rattle.cell_reader.specs.{declared.places.View.View, Kept.HasBlock, Kept.HasBlocks, Kept.HasClips, Kept.HasSeen}
+use Rattle.cell_reader.proofs.Common.{◌≡◌, ◌∙◌, ℕ, ◌+◌, ◌≤◌, List, [], ◌∷◌, ◌++◌, refl, arith, BlockRef, Clip, Entries}
+use Rattle.cell_reader.proofs.Common.{HasSamples, same_none, View, HasBlocks, HasClips}
+use Rattle.std.proofs.Common.{true}
+use Rattle.block_cache.specs.Caches.{SameCache}
+use Rattle.block_cache.proofs.{CacheLaws.same_turn, HitLaws.samples_next}
+use Rattle.cell_reader.specs.{Kept.HasBlock, Kept.HasSeen}
 
 -- samples of a part
 pub samples_part : (a b : Entries) (block : BlockRef) (from n at m : ℕ) → SameCache a b → from ≤ at

@@ -1,3 +1,4 @@
+mod Common
 pub mod KeptLaws
 pub mod NearLaws
 pub mod PartLists

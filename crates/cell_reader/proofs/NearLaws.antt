@@ -1,23 +1,17 @@
 -- A layout from one of its clips on.
-use Rattle.std.specs.{Prelude.Contains, Prelude.replicate, List.Sorted.IsNonDecreasingBy}
-use Rattle.std.proofs.Common.{◌≡◌, ℕ, zero, suc, ◌+◌, ◌-◌, ◌≤◌, ◌<◌, ◌^◌, List, [], ◌∷◌, ◌++◌, length, take, drop, map}
-use Rattle.std.proofs.Common.{min, get_or, refl, sym, ap, subst, ⊎_elim, ◌∙◌, arith, length-append, length-drop}
-use Rattle.std.proofs.Common.{append_assoc}
-use Rattle.std.proofs.lemmas.List.{get_or-append_right, length-replicate, length-take, replicate-append-replicate}
-use Rattle.std.proofs.lemmas.List.{take-append-drop, take_all}
-use Rattle.std.proofs.{lemmas.List.Elements.Contains-append_right, lemmas.Bool.cases_lt}
-use Rattle.pcm_base.specs.Blocks.{blocks_len, block_samples}
-use Rattle.pcm_base.specs.{declared.block.BlockRef.BlockRef, declared.sound.Cell.Cell, Pieces.Sources}
-use Rattle.clip_track.specs.declared.clips.Clip.{Clip}
-use Rattle.clip_track.specs.Clips.{AreClips, IsLayout, end_of, clip_end, cells_from, layout_blocks, layout_cells}
-use Rattle.clip_track.proofs.{Layouts.AreClips-next, RestItems.first_of}
-use Rattle.sample_block.specs.Sources.{AllNamed}
-use Rattle.cell_reader.specs.declared.rest.TrackRest.{TrackRest}
-use Rattle.block_cache.specs.Caches.{Entries}
-use Rattle.cell_reader.specs.Kept.{HasBlocks, HasClips, HasRest}
-use Rattle.cell_reader.specs.declared.places.View.{View}
+use Rattle.cell_reader.proofs.Common.{Contains, replicate, ◌≡◌, ℕ, zero, suc, ◌+◌, ◌-◌, ◌≤◌, ◌<◌, List, [], ◌∷◌, ◌++◌}
+use Rattle.cell_reader.proofs.Common.{length, take, drop, map, min, get_or, refl, sym, ap, subst, ⊎_elim, ◌∙◌, arith}
+use Rattle.cell_reader.proofs.Common.{length-append, length-drop, append_assoc, get_or-append_right, length-replicate}
+use Rattle.cell_reader.proofs.Common.{length-take, Contains-append_right, cases_lt, blocks_len, block_samples, BlockRef}
+use Rattle.cell_reader.proofs.Common.{Cell, Sources, Clip, AreClips, IsLayout, end_of, clip_end, cells_from}
+use Rattle.cell_reader.proofs.Common.{layout_blocks, layout_cells, AreClips-next, first_of, AllNamed, TrackRest}
+use Rattle.cell_reader.proofs.Common.{Entries, HasBlocks, HasClips, HasRest, View, rest_cells, rest_blocks, IsRest}
+use Rattle.cell_reader.proofs.Common.{IsRestOf}
+use Rattle.std.specs.{List.Sorted.IsNonDecreasingBy}
+use Rattle.std.proofs.Common.{◌^◌}
+use Rattle.std.proofs.lemmas.List.{replicate-append-replicate, take-append-drop, take_all}
 use Rattle.cell_reader.proofs.KeptLaws.{kept_back}
-use Rattle.cell_reader.specs.Rests.{rest_cells, rest_cell, rest_blocks, IsRest, IsRestOf}
+use Rattle.cell_reader.specs.Rests.{rest_cell}
 use Rattle.cell_reader.proofs.{RestLaws.cells_at, RestLaws.length_from, SeenLaws.named_front, SeenLaws.named_back}
 use Rattle.pcm_base.specs.declared.sound.Cell.TheVariants as cell
 

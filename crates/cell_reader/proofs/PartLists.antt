@@ -1,13 +1,10 @@
 -- Parts of lists, from one place to another.
-use Rattle.std.proofs.Common.{◌≡◌, ℕ, zero, suc, ◌-◌, ◌≤◌, ◌<◌, ⊎_elim, List, [], ◌∷◌, ◌++◌, length, take, drop, map}
-use Rattle.std.proofs.Common.{min, sym, ap, ◌∙◌, arith, length-drop}
-use Rattle.std.proofs.lemmas.List.{drop-append-le, take-map, drop-map, take-replicate, drop-replicate, length-replicate}
-use Rattle.std.proofs.lemmas.List.{take_min, nil_from_length}
-use Rattle.std.proofs.{lemmas.Bool.cases_lt, Math.Seq.drop-append_seam, Math.Seq.take-append_seam}
-use Rattle.std.specs.Prelude.{replicate}
-use Rattle.pcm_base.specs.Edits.{part}
+use Rattle.cell_reader.proofs.Common.{◌≡◌, ℕ, zero, suc, ◌-◌, ◌≤◌, ◌<◌, ⊎_elim, List, [], ◌∷◌, ◌++◌, length, take, drop}
+use Rattle.cell_reader.proofs.Common.{map, min, sym, ap, ◌∙◌, arith, length-drop, length-replicate, take_min}
+use Rattle.cell_reader.proofs.Common.{nil_from_length, cases_lt, replicate, part, length-part}
+use Rattle.std.proofs.lemmas.List.{drop-append-le, take-map, drop-map, take-replicate, drop-replicate}
+use Rattle.std.proofs.{Math.Seq.drop-append_seam, Math.Seq.take-append_seam}
 use Rattle.pcm_base.proofs.Pieces.{drop-past}
-use Rattle.block_store.proofs.StretchLaws.{length-part}
 
 -- a front that may reach past the first of two lists
 pub take-past : {A : Type 0} (n : ℕ) (xs ys : List A) → take n (xs ++ ys) ≡ take n xs ++ take (n - length xs) ys

@@ -1,24 +1,16 @@
 -- Clips and blocks that are passed.
-use Rattle.std.specs.Prelude.{Contains, replicate}
-use Rattle.std.proofs.Common.{◌≡◌, ℕ, ◌+◌, ◌-◌, ◌≤◌, ◌<◌, ⊎_elim, List, [], ◌∷◌, ◌++◌, length, take, drop, map, min}
-use Rattle.std.proofs.Common.{get_or, refl, sym, ap, ap₂, subst, ◌∙◌, arith, length-append, length-drop, append_assoc}
-use Rattle.std.proofs.Common.{append-nil}
-use Rattle.std.proofs.lemmas.List.{drop_all, length-take, get_or-take, get_or-drop, get_or_past, get_or-replicate}
-use Rattle.std.proofs.lemmas.List.{length-map, length-replicate, map-append, get_or_append_left, get_or-append_right}
-use Rattle.std.proofs.lemmas.List.{ext_get_or, take_min}
-use Rattle.std.proofs.{lemmas.List.Elements.Contains-append_right, lemmas.Bool.cases_lt}
-use Rattle.pcm_base.specs.{declared.block.BlockRef.BlockRef, declared.sound.Cell.Cell, Pieces.Sources, Pieces.stretch}
-use Rattle.pcm_base.specs.{Blocks.blocks_len, Blocks.block_samples, Edits.part}
-use Rattle.pcm_base.proofs.Pieces.{length-stretch}
-use Rattle.block_sequence.proofs.Whole.{length-blocks}
-use Rattle.clip_track.specs.declared.clips.Clip.{Clip}
-use Rattle.clip_track.specs.Clips.{AreClips, end_of, clip_end, cells_from, layout_cells, layout_blocks}
-use Rattle.clip_track.proofs.Layouts.{AreClips-next}
-use Rattle.sample_block.specs.Sources.{AllNamed}
-use Rattle.block_cache.specs.Caches.{Entries}
-use Rattle.cell_reader.specs.Kept.{HasBlocks, HasClips, HasRest}
-use Rattle.cell_reader.specs.Rests.{rest_cells, rest_blocks, IsRest, IsRestOf, AreSeen}
-use Rattle.cell_reader.specs.{Seen.place_in, Seen.Puts, declared.places.View.View, declared.rest.TrackRest.TrackRest}
+use Rattle.cell_reader.proofs.Common.{Contains, replicate, ◌≡◌, ℕ, ◌+◌, ◌-◌, ◌≤◌, ◌<◌, ⊎_elim, List, [], ◌∷◌, ◌++◌}
+use Rattle.cell_reader.proofs.Common.{length, take, drop, map, min, get_or, refl, sym, ap, ap₂, subst, ◌∙◌, arith}
+use Rattle.cell_reader.proofs.Common.{length-append, length-drop, append_assoc, append-nil, drop_all, length-take}
+use Rattle.cell_reader.proofs.Common.{length-map, length-replicate, map-append, take_min, get_or-append_right}
+use Rattle.cell_reader.proofs.Common.{Contains-append_right, cases_lt, BlockRef, Cell, Sources, stretch, blocks_len}
+use Rattle.cell_reader.proofs.Common.{block_samples, part, length-stretch, length-blocks, Clip, AreClips, end_of}
+use Rattle.cell_reader.proofs.Common.{clip_end, cells_from, layout_cells, layout_blocks, AreClips-next, AllNamed}
+use Rattle.cell_reader.proofs.Common.{Entries, HasBlocks, HasClips, HasRest, rest_cells, rest_blocks, IsRest, IsRestOf}
+use Rattle.cell_reader.proofs.Common.{place_in, Puts, View, TrackRest}
+use Rattle.std.proofs.lemmas.List.{get_or-take, get_or-drop, get_or_past, get_or-replicate, get_or-map}
+use Rattle.std.proofs.lemmas.List.{get_or_append_left, ext_get_or}
+use Rattle.cell_reader.specs.Rests.{AreSeen}
 use Rattle.cell_reader.proofs.{PartLists.take_front, SeenLaws.named_front, SeenLaws.named_back}
 use borrow.Rule.Slice.PartMut.{put_mid}
 use Rattle.pcm_base.specs.declared.sound.Cell.TheVariants as cell
@@ -215,46 +207,51 @@ length_rest src r is =
       is.whole,
     )
 
--- cells that are put, and gaps after them, are those that are seen
-pub seen : (src : Sources) (view : View) (cs : List Clip) (r : TrackRest) (count m : ℕ) (old mid new : List Cell)
-    → IsRestOf view.from cs r → view.from + length mid ≡ view.to → count ≡ place_in view (end_of 0 cs)
-    → Puts view r.at (rest_cells src r) old mid → m ≡ length mid - count
-    → new ≡ take count mid ++ replicate m cell.Gap → AreSeen src view.from cs new
-seen src view cs r count m old mid new is size place puts many whole k lt =
+-- what is put, and gaps after it, is what is made of the cells that are seen
+pub seen : {A : Type 0} (made : Cell → A) (src : Sources) (view : View) (cs : List Clip) (r : TrackRest) (count m : ℕ)
+    (old mid new : List A) → IsRestOf view.from cs r → view.from + length mid ≡ view.to
+    → count ≡ place_in view (end_of 0 cs) → Puts made view r.at (rest_cells src r) old mid → m ≡ length mid - count
+    → new ≡ take count mid ++ replicate m (made cell.Gap) → AreSeen made src view.from cs new
+seen {A = A} made src view cs r count m old mid new is size place puts many whole k lt =
     let cells : List Cell = rest_cells src r in
+    let low : ℕ = view.from - r.at in
+    let gap : A = made cell.Gap in
     let long = length_rest src r is.rest in
     let front : place_in view r.at ≡ 0 = omega (arith, is.passed) in
     let end : place_in view (r.at + length cells) ≡ count = omega (arith, long, is.same_end, place) in
-    let there : take count mid ≡ part (view.from - r.at) (view.to - r.at) cells =
+    let there : take count mid ≡ map made (part low (view.to - r.at) cells) =
     ap (λ (n : ℕ). take n mid) (sym end) ∙ puts
-    ∙ ap (λ (n : ℕ). take n old ++ part (view.from - r.at) (view.to - r.at) cells) front in
-    let offset : view.from - r.at + k ≡ view.from + k - r.at = omega (arith, is.passed) in
+    ∙ ap (λ (n : ℕ). take n old ++ map made (part low (view.to - r.at) cells)) front in
+    let offset : low + k ≡ view.from + k - r.at = omega (arith, is.passed) in
     let total : length new ≡ count + m =
     omega (
       arith,
       ap length whole,
-      length-append (take count mid) (replicate m cell.Gap),
-      length-replicate m cell.Gap,
+      length-append (take count mid) (replicate m gap),
+      length-replicate m gap,
       length-take count mid,
       place,
       size,
     ) in
     let fits : length (take count mid) ≡ count = omega (arith, length-take count mid, place, size) in
-    ap (λ (ys : List Cell). get_or ys k cell.Gap) whole
+    let some : length (map made (part low (view.to - r.at) cells)) ≡ count = ap length (sym there) ∙ fits in
+    ap (λ (ys : List A). get_or ys k gap) whole
     ∙ ⊎_elim
     (λ (below : k < count).
-    get_or_append_left (take count mid) (replicate m cell.Gap) cell.Gap k (omega (arith, fits, below))
-    ∙ ap (λ (ys : List Cell). get_or ys k cell.Gap) there
-    ∙ get_or-take (view.to - r.at - (view.from - r.at)) (drop (view.from - r.at) cells) k cell.Gap
-    (omega (arith, place, below, is.passed)) ∙ get_or-drop (view.from - r.at) cells k cell.Gap
-    ∙ ap (λ (n : ℕ). get_or cells n cell.Gap) offset)
+    get_or_append_left (take count mid) (replicate m gap) gap k (omega (arith, fits, below))
+    ∙ ap (λ (ys : List A). get_or ys k gap) there
+    ∙ get_or-map made (part low (view.to - r.at) cells) k cell.Gap gap
+    (omega (arith, length-map (part low (view.to - r.at) cells) made, some, below))
+    ∙ ap made (get_or-take (view.to - r.at - low) (drop low cells) k cell.Gap
+    (omega (arith, place, below, is.passed)) ∙ get_or-drop low cells k cell.Gap
+    ∙ ap (λ (n : ℕ). get_or cells n cell.Gap) offset))
     (λ (above : count ≤ k).
-    get_or-append_right (take count mid) (replicate m cell.Gap) count k cell.Gap fits above
-    ∙ get_or-replicate m (k - count) cell.Gap cell.Gap (omega (arith, total, lt, above))
-    ∙ sym (get_or_past cells (view.from + k - r.at) cell.Gap
-    (omega (arith, long, is.same_end, place, size, above, lt, total, many))))
+    get_or-append_right (take count mid) (replicate m gap) count k gap fits above
+    ∙ get_or-replicate m (k - count) gap gap (omega (arith, total, lt, above))
+    ∙ ap made (sym (get_or_past cells (view.from + k - r.at) cell.Gap
+    (omega (arith, long, is.same_end, place, size, above, lt, total, many)))))
     (cases_lt k count)
-    ∙ is.cells src (view.from + k) (omega arith)
+    ∙ ap made (is.cells src (view.from + k) (omega arith))
 
 -- the end of a list is written anew
 pub put_tail : {A : Type 0} (a k : ℕ) (xs ys : List A) → length xs ≤ a + k → put_mid a k xs ys ≡ take a xs ++ ys
@@ -263,7 +260,7 @@ put_tail a k xs ys all = ap (λ zs. take a xs ++ (ys ++ zs))
 
 -- cells that are seen from a place on are those of the layout, as many as there are
 pub seen_cells : (src : Sources) (from n : ℕ) (cs : List Clip) (count : ℕ) (xs others : List Cell) → length xs ≡ count
-    → count ≡ min n (length (layout_cells src cs) - from) → AreSeen src from cs xs
+    → count ≡ min n (length (layout_cells src cs) - from) → AreSeen (λ c. c) src from cs xs
     → take count (xs ++ others) ≡ take n (drop from (layout_cells src cs))
 seen_cells src from n cs count xs others size few are =
     let left : List Cell = drop from (layout_cells src cs) in

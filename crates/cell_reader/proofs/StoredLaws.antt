@@ -1,16 +1,12 @@
 -- What stands in the files of blocks that are whole are their samples.
-use Rattle.std.proofs.Common.{◌≡◌, ℕ, zero, suc, ◌+◌, ◌-◌, ◌*◌, ℤ, ◌≤◌, List, [], ◌∷◌, ◌++◌, length, take, drop, map}
-use Rattle.std.proofs.Common.{min, refl, sym, ap, ap₂, ◌∙◌, arith, length-drop}
-use Rattle.std.proofs.lemmas.List.{take_min}
-use Rattle.std.specs.Prelude.{replicate}
-use Rattle.disk_model.specs.Disk.{Files, bytes_of}
-use Rattle.pcm_base.specs.{declared.block.BlockRef.BlockRef, declared.sound.Cell.Cell, Pieces.stretch}
-use Rattle.pcm_base.specs.{Blocks.block_samples, Edits.part}
-use Rattle.clip_track.specs.{declared.clips.Clip.Clip, Clips.clip_end, Clips.cells_from, Clips.layout_blocks}
-use Rattle.sample_block.specs.Faults.{samples_in}
-use Rattle.sample_block.specs.Sources.{samples_on, sources_of, IsWhole, AllWhole}
-use Rattle.sample_block.proofs.Laws.{length_samples, samples_stretch}
-use Rattle.cell_reader.specs.{declared.places.View.View, Seen.place_in, Stored.stored_on, Stored.stored_of}
+use Rattle.cell_reader.proofs.Common.{◌≡◌, ℕ, zero, suc, ◌+◌, ◌-◌, ◌*◌, ℤ, ◌≤◌, List, [], ◌∷◌, ◌++◌, length, take, drop}
+use Rattle.cell_reader.proofs.Common.{map, min, refl, sym, ap, ap₂, ◌∙◌, arith, length-drop, take_min, replicate, Files}
+use Rattle.cell_reader.proofs.Common.{bytes_of, BlockRef, Cell, stretch, block_samples, part, Clip, clip_end}
+use Rattle.cell_reader.proofs.Common.{cells_from, layout_blocks, samples_in, samples_on, IsWhole, AllWhole}
+use Rattle.cell_reader.proofs.Common.{length_samples, View, place_in, stored_on, stored_of}
+use Rattle.std.proofs.lemmas.{Simd.map-map}
+use Rattle.sample_block.specs.Sources.{sources_of}
+use Rattle.sample_block.proofs.Laws.{samples_stretch}
 use Rattle.cell_reader.proofs.{PartLists.part-map, SeenLaws.block_whole, SeenLaws.whole_back, SeenLaws.whole_front}
 use Rattle.pcm_base.specs.declared.sound.Cell.TheVariants as cell
 use Rattle.block_store.proofs.FaultLaws as store_laws
@@ -45,21 +41,24 @@ stored_cells files at (c ∷ cs) whole =
     (stored_blocks files c.blocks (whole_front files c.blocks (layout_blocks cs) whole))
     (stored_cells files (clip_end c) cs (whole_back files c.blocks (layout_blocks cs) whole))
 
--- those of a block that are seen
-pub stored_part : (files : Files) (b : BlockRef) (view : View) (at k skip : ℕ) (out : List Cell) → view.from ≤ view.to
-    → k ≡ place_in view (at + b.len) - place_in view at → skip ≡ view.from - at → skip + k ≤ b.len
-    → out ≡ map cell.Sample (samples_in (bytes_of (files b.id)) (16 + 2 * skip) k)
-    → out ≡ part (view.from - at) (view.to - at) (map cell.Sample (stretch (stored_on files b.id) 0 b.len))
-stored_part files b view at k skip out order size place fits is =
+-- what is made of those of a block that are seen
+pub stored_part : {A : Type 0} (made : Cell → A) (files : Files) (b : BlockRef) (view : View) (at k skip : ℕ)
+    (out : List A) → view.from ≤ view.to → k ≡ place_in view (at + b.len) - place_in view at → skip ≡ view.from - at
+    → skip + k ≤ b.len → out ≡ map (λ s. made (cell.Sample s)) (samples_in (bytes_of (files b.id)) (16 + 2 * skip) k)
+    → out ≡ map made (part (view.from - at) (view.to - at) (map cell.Sample (stretch (stored_on files b.id) 0 b.len)))
+stored_part made files b view at k skip out order size place fits is =
     let bytes : List ℕ = bytes_of (files b.id) in
     let xs : List ℤ = samples_in bytes 16 b.len in
+    let low : ℕ = view.from - at in
+    let high : ℕ = view.to - at in
     let long : length (drop skip xs) ≡ b.len - skip =
     omega (arith, length-drop skip xs, length_samples bytes 16 b.len) in
-    let e : k ≡ min (view.to - at - (view.from - at)) (length (drop skip xs)) = omega (arith, long, size, place) in
+    let e : k ≡ min (high - low) (length (drop skip xs)) = omega (arith, long, size, place) in
     is
-    ∙ ap (map cell.Sample)
+    ∙ ap (map (λ s. made (cell.Sample s)))
     (samples_stretch bytes b.len skip k fits
-    ∙ ap (λ n. take n (drop skip xs)) e ∙ take_min (view.to - at - (view.from - at)) (drop skip xs)
-    ∙ ap (λ n. take (view.to - at - (view.from - at)) (drop n xs)) place)
-    ∙ sym (part-map cell.Sample (view.from - at) (view.to - at) xs)
-    ∙ ap (λ zs. part (view.from - at) (view.to - at) (map cell.Sample zs)) (sym (stored_stretch files b.id 0 b.len))
+    ∙ ap (λ n. take n (drop skip xs)) e ∙ take_min (high - low) (drop skip xs)
+    ∙ ap (λ n. take (high - low) (drop n xs)) place)
+    ∙ sym (map-map made cell.Sample (part low high xs))
+    ∙ ap (map made) (sym (part-map cell.Sample low high xs)
+    ∙ ap (λ zs. part low high (map cell.Sample zs)) (sym (stored_stretch files b.id 0 b.len)))

@@ -50,7 +50,7 @@ pub record IsRestOf (from : ℕ) (cs : List Clip) (r : TrackRest) : Type 0 where
   pub blocks : (b : BlockRef) → Contains (rest_blocks r) b → Contains (layout_blocks cs) b
   pub kept : (c : Entries) (at to : ℕ) → HasSeen c at to cs → HasRest c (record { from = at; to = to }) r
 
--- cells that stand at places of a track from one on, gaps past its end
-abbrev pub AreSeen : Sources → ℕ → List Clip → List Cell → Type 0
-AreSeen src from cs cells = (k : ℕ) → k < length cells
-    → slice_index_or cells k cell.Gap ≡ slice_index_or (layout_cells src cs) (from + k) cell.Gap
+-- what is made of the cells at places of a track from one on, gaps past its end
+abbrev pub AreSeen : {A : Type 0} → (Cell → A) → Sources → ℕ → List Clip → List A → Type 0
+AreSeen made src from cs xs = (k : ℕ) → k < length xs
+    → slice_index_or xs k (made cell.Gap) ≡ made (slice_index_or (layout_cells src cs) (from + k) cell.Gap)

@@ -11,42 +11,42 @@ ghost use Rattle.cell_reader.specs.Stored.{stored_of};
 
 use super::blocks::put_blocks;
 use super::clips::put_clips;
+use super::forms::FromCell;
 use super::places::{View, fill_gaps, place_in, put_gap};
 use super::rest::TrackRest;
 use block_cache::BlockReader;
 use block_store::BlockFault;
 use clip_track::Layout;
 use disk_model::Store;
-use pcm_base::Cell;
 
 /// Puts a rest where the view has it.
-fn put_rest<S: Store>(
+fn put_rest<S: Store, T: FromCell>(
     reader: &mut BlockReader<S>,
     rest: &TrackRest,
     view: View,
-    out: &mut [Cell],
+    out: &mut [T],
 ) -> Result<(), BlockFault>
     requires rest { IsRest rest.now }
     requires size { view.from + length out.old ≡ view.to }
     ensures reads { Reads (rest_blocks rest.now) reader.old reader.new result }
     ensures hit { Hits (HasRest reader.old.cache view rest.now) reader.old reader.new result }
     ensures stored { IsTrue (S.tells reader.old.store) → OnOk result
-        (Puts view rest.now.at (rest_cells (stored_of (S.reads reader.old.store)) rest.now) out.old out.new) }
+        (Puts T.made view rest.now.at (rest_cells (stored_of (S.reads reader.old.store)) rest.now) out.old out.new) }
 {
     put_gap(view, rest.at, rest.start - rest.at, out);
     put_blocks(reader, rest.blocks, view, rest.start, out)?;
     put_clips(reader, rest.clips, view, rest.end, out)
 }
 
-/// Reads the cells of a track from a place on, and gaps past its end, until `out` is full. What is left of the track is
+/// Reads the cells of a track from a place on, and gaps past its end, or what is heard of them, until `out` is full. What is left of the track is
 /// handed in, so that what was passed is not looked at again. It looks at no block after those that are seen. After an
 /// error `out` may have been written in part.
-pub fn read_ahead<S: Store>(
+pub fn read_ahead<S: Store, T: FromCell>(
     reader: &mut BlockReader<S>,
     layout: &Layout,
     rest: &TrackRest,
     from: u64,
-    out: &mut [Cell],
+    out: &mut [T],
 ) -> Result<(), BlockFault>
     requires rest { IsRestOf from layout.now rest.now }
     requires few { from + length out.old < 2 ^ 64 }
@@ -55,9 +55,9 @@ pub fn read_ahead<S: Store>(
     ensures hit { Hits (HasSeen reader.old.cache from (from + length out.old) layout.now) reader.old reader.new result }
     // They are what stands in the files of the blocks, and where the disk has all blocks their samples.
     ensures stored { IsTrue (S.tells reader.old.store)
-        → OnOk result (AreSeen (stored_of (S.reads reader.old.store)) from layout.now out.new) }
+        → OnOk result (AreSeen T.made (stored_of (S.reads reader.old.store)) from layout.now out.new) }
     ensures read { IsTrue (S.tells reader.old.store) → AllWhole (S.reads reader.old.store) (layout_blocks layout.now)
-        → OnOk result (AreSeen (sources_of (S.reads reader.old.store)) from layout.now out.new) }
+        → OnOk result (AreSeen T.made (sources_of (S.reads reader.old.store)) from layout.now out.new) }
     // Where the disk has all blocks nothing but the disk refuses.
     ensures valid { IsTrue (S.tells reader.old.store) → AllWhole (S.reads reader.old.store) (layout_blocks layout.now)
         → IsOkUnless result fault.DiskFault }

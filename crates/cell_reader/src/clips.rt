@@ -11,20 +11,20 @@ ghost use Rattle.cell_reader.specs.Seen.{Puts};
 ghost use Rattle.cell_reader.specs.Stored.{stored_of};
 
 use super::blocks::put_blocks;
+use super::forms::FromCell;
 use super::places::{View, put_gap};
 use block_cache::BlockReader;
 use block_store::BlockFault;
 use clip_track::Clip;
 use disk_model::Store;
-use pcm_base::Cell;
 
 /// Puts a clip, and the gap before it, where the view has them.
-fn put_clip<S: Store>(
+fn put_clip<S: Store, T: FromCell>(
     reader: &mut BlockReader<S>,
     clip: &Clip,
     view: View,
     at: u64,
-    out: &mut [Cell],
+    out: &mut [T],
 ) -> Result<(), BlockFault>
     requires named { AllNamed clip.now.blocks }
     requires size { view.from + length out.old ≡ view.to }
@@ -33,7 +33,7 @@ fn put_clip<S: Store>(
     ensures reads { Reads clip.now.blocks reader.old reader.new result }
     ensures hit { Hits (HasBlocks reader.old.cache view clip.now.start clip.now.blocks) reader.old reader.new result }
     ensures stored { IsTrue (S.tells reader.old.store)
-        → OnOk result (Puts view at (replicate (clip.now.start - at) cell.Gap
+        → OnOk result (Puts T.made view at (replicate (clip.now.start - at) cell.Gap
         ++ map cell.Sample (block_samples (stored_of (S.reads reader.old.store)) clip.now.blocks)) out.old out.new) }
 {
     put_gap(view, at, clip.start - at, out);
@@ -41,12 +41,12 @@ fn put_clip<S: Store>(
 }
 
 /// Puts clips, and the gaps before them from a place on, where the view has them. None after the view is looked at.
-pub(crate) fn put_clips<S: Store>(
+pub(crate) fn put_clips<S: Store, T: FromCell>(
     reader: &mut BlockReader<S>,
     clips: &[Clip],
     view: View,
     start: u64,
-    out: &mut [Cell],
+    out: &mut [T],
 ) -> Result<(), BlockFault>
     requires apart { AreClips start clips.now }
     requires few { end_of start clips.now ≤ MAX_CELLS }
@@ -55,7 +55,7 @@ pub(crate) fn put_clips<S: Store>(
     ensures reads { Reads (layout_blocks clips.now) reader.old reader.new result }
     ensures hit { Hits (HasClips reader.old.cache view clips.now) reader.old reader.new result }
     ensures stored { IsTrue (S.tells reader.old.store) → OnOk result
-        (Puts view start (cells_from (stored_of (S.reads reader.old.store)) start clips.now) out.old out.new) }
+        (Puts T.made view start (cells_from (stored_of (S.reads reader.old.store)) start clips.now) out.old out.new) }
 {
     let mut at = start;
     'rows: for clip in clips {

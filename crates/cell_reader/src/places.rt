@@ -3,7 +3,7 @@ ghost use Rattle.std.specs.Prelude.{◌≡◌, ◌≤◌, ◌<◌, ◌+◌, ◌^
 ghost use Rattle.pcm_base.specs.declared.sound.Cell.TheVariants.{Gap};
 ghost use Rattle.cell_reader.specs.Seen.{place_in as place, Puts};
 
-use pcm_base::Cell;
+use super::forms::FromCell;
 
 /// The cells of a track from one place up to another.
 #[derive(Clone, Copy)]
@@ -19,18 +19,20 @@ pub(crate) fn place_in(view: View, at: u64) -> usize
     at.min(view.to).saturating_sub(view.from) as usize
 }
 
-/// Makes gaps of all cells.
-pub fn fill_gaps(out: &mut [Cell])
-    ensures { out.new ≡ replicate (length out.old) Gap }
+/// Makes gaps of all.
+pub(crate) fn fill_gaps<T: FromCell>(out: &mut [T])
+    ensures { out.new ≡ replicate (length out.old) (T.made Gap) }
 {
-    out.fill(Cell::Gap);
+    for i in 0..out.len() {
+        out[i] = T::gap();
+    }
 }
 
 /// Puts the gaps from one place to another where the view has them.
-pub(crate) fn put_gap(view: View, at: u64, len: u64, out: &mut [Cell])
+pub(crate) fn put_gap<T: FromCell>(view: View, at: u64, len: u64, out: &mut [T])
     requires size { view.from + length out.old ≡ view.to }
     requires few { at + len < 2 ^ 64 }
-    ensures { Puts view at (replicate len Gap) out.old out.new }
+    ensures { Puts T.made view at (replicate len Gap) out.old out.new }
 {
     let start = place_in(view, at);
     let end = place_in(view, at + len);

@@ -1,15 +1,11 @@
 -- The samples and clips of a strip's cells, counted item by item.
-use Rattle.std.proofs.Common.{◌≡◌, ℕ, zero, suc, ◌+◌, ◌-◌, ◌<◌, ℤ, Bool, true, false, List, [], ◌∷◌, ◌++◌, length, map}
-use Rattle.std.proofs.Common.{replicate, refl, sym, ap, ap₂, ◌∙◌, append_assoc, arith, if◌then◌else◌}
-use Rattle.std.proofs.Math.Nat.{sub-zero}
-use Rattle.pcm_base.specs.Pieces.{Sources, piece_len, samples_of}
+use Rattle.clip_track.proofs.Common.{◌≡◌, ℕ, zero, suc, ◌+◌, ◌-◌, ◌<◌, ℤ, Bool, true, false, List, [], ◌∷◌, ◌++◌}
+use Rattle.clip_track.proofs.Common.{length, map, replicate, refl, sym, ap, ap₂, ◌∙◌, append_assoc, arith}
+use Rattle.clip_track.proofs.Common.{if◌then◌else◌, sub-zero, Sources, piece_len, samples_of, Cell, BlockRef}
+use Rattle.clip_track.proofs.Common.{blocks_len, length-samples, Gap, Sound, strip_cells, gap_items, AreItems, clip_end}
+use Rattle.clip_track.proofs.Common.{items_from, layout_cells, sound_items, AreClips, Item, Clip}
 use Rattle.pcm_base.specs.Sizes.{sample_count, clip_starts, clip_count}
-use Rattle.pcm_base.specs.{declared.sound.Cell.Cell, declared.block.BlockRef.BlockRef, Blocks.blocks_len}
-use Rattle.pcm_base.proofs.Pieces.{length-samples}
-use Rattle.clip_track.specs.declared.items.Item.TheVariants.{Gap, Sound}
-use Rattle.clip_track.specs.Items.{strip_cells, gap_items, AreItems}
-use Rattle.clip_track.specs.Clips.{clip_end, items_from, layout_cells, sound_items, AreClips}
-use Rattle.clip_track.specs.{declared.items.Item.Item, declared.clips.Clip.Clip, Counts.clips_len}
+use Rattle.clip_track.specs.{Counts.clips_len}
 use Rattle.clip_track.proofs.Layouts.{strip_cells-items, AreItems-items}
 use Rattle.pcm_base.specs.declared.sound.Cell.TheVariants as cell
 

@@ -1,12 +1,12 @@
 -- Lemmas on clips.
-use Rattle.std.proofs.Common.{◌≡◌, ℕ, zero, suc, ◌+◌, ◌-◌, ◌<◌, ◌≤◌, List, [], ◌∷◌, ◌++◌, length, get_or, map}
-use Rattle.std.proofs.Common.{replicate, refl, sym, ap, ap₂, ◌∙◌, arith}
-use Rattle.std.proofs.{lemmas.List.map-append, lemmas.List.append-nil, Math.Nat.sub-zero}
-use Rattle.pcm_base.specs.Blocks.{AllFull, IsHalfFull, NoneEmpty, block_lens, block_samples, blocks_len}
-use Rattle.pcm_base.specs.{declared.block.BlockRef.BlockRef, Pieces.Sources, Pieces.stretch}
-use Rattle.clip_track.specs.{declared.clips.Clip.Clip, Items.strip_len, Items.strip_cells, Items.AreItems}
-use Rattle.clip_track.specs.{Items.gap_items, Items.ItemsFit, Clips.clip_end, Clips.end_of, Clips.cells_from}
-use Rattle.clip_track.specs.{Clips.layout_cells, Clips.AreClips, Clips.sound_items, Clips.items_from, Clips.AllHalfFull}
+use Rattle.clip_track.proofs.Common.{◌≡◌, ℕ, zero, suc, ◌+◌, ◌-◌, ◌<◌, ◌≤◌, List, [], ◌∷◌, ◌++◌, length, get_or, map}
+use Rattle.clip_track.proofs.Common.{replicate, refl, sym, ap, ap₂, ◌∙◌, arith, map-append, append-nil, sub-zero}
+use Rattle.clip_track.proofs.Common.{AllFull, IsHalfFull, NoneEmpty, block_lens, blocks_len, BlockRef, Sources, Clip}
+use Rattle.clip_track.proofs.Common.{strip_len, strip_cells, AreItems, gap_items, ItemsFit, clip_end, end_of}
+use Rattle.clip_track.proofs.Common.{layout_cells, AreClips, sound_items, items_from, AllHalfFull}
+use Rattle.pcm_base.specs.Blocks.{block_samples}
+use Rattle.pcm_base.specs.{Pieces.stretch}
+use Rattle.clip_track.specs.{Clips.cells_from}
 use Rattle.clip_track.proofs.Strips.{strip_len-append, strip_cells-append, AreItems-append, ItemsFit-append}
 use Rattle.clip_track.proofs.Strips.{length-strip_cells}
 use Rattle.pcm_base.specs.declared.sound.Cell.TheVariants as cell

@@ -1,3 +1,4 @@
+mod Common
 pub mod CellCounts
 pub mod Layouts
 pub mod RestItems

@@ -1,17 +1,15 @@
 -- Lemmas on what is left of a layout from a place on.
-use Rattle.std.proofs.Common.{◌≡◌, ℕ, zero, suc, ◌+◌, ◌-◌, ◌<◌, ◌≤◌, inl, inr, min, List, [], ◌∷◌, ◌++◌, length, get_or}
-use Rattle.std.proofs.Common.{take, drop, refl, sym, ap, ap₂, ◌∙◌, append_assoc, arith, subst, length-drop}
-use Rattle.std.proofs.lemmas.Bool.{cases_lt, le-leb, lt-leb}
-use Rattle.std.proofs.{lemmas.List.take_all, lemmas.List.Elements.Contains-append_right, Math.Nat.sub-zero}
-use Rattle.std.specs.Prelude.{Contains}
-use Rattle.pcm_base.specs.declared.piece.Piece.TheVariants.{Old, Scaled, Zero, Given}
-use Rattle.pcm_base.specs.{declared.block.BlockRef.BlockRef, Pieces.Sources, Blocks.NoneEmpty}
-use Rattle.clip_track.specs.declared.items.Item.TheVariants.{Gap, Sound}
-use Rattle.clip_track.specs.Items.{item_len, item_blocks, part_of_item, part_items, items_after, strip_len, strip_cells}
-use Rattle.clip_track.specs.Items.{strip_blocks, gap_items, AreItems, ItemsFit}
-use Rattle.clip_track.specs.Clips.{clip_end, items_from, layout_blocks, sound_items, AreClips}
-use Rattle.clip_track.specs.Rests.{sound_from, IsWithin, left_items, IsLeft}
-use Rattle.clip_track.specs.{declared.items.Item.Item, declared.rest.Left.Left, declared.clips.Clip.Clip}
+use Rattle.clip_track.proofs.Common.{◌≡◌, ℕ, zero, suc, ◌+◌, ◌-◌, ◌<◌, ◌≤◌, inl, inr, min, List, [], ◌∷◌, ◌++◌, length}
+use Rattle.clip_track.proofs.Common.{get_or, take, drop, refl, sym, ap, ap₂, ◌∙◌, append_assoc, arith, subst}
+use Rattle.clip_track.proofs.Common.{length-drop, cases_lt, le-leb, lt-leb, take_all, sub-zero, Contains, Old, Scaled}
+use Rattle.clip_track.proofs.Common.{Zero, Given, BlockRef, Sources, NoneEmpty, Gap, Sound, item_len, part_of_item}
+use Rattle.clip_track.proofs.Common.{part_items, items_after, strip_len, strip_cells, strip_blocks, gap_items, AreItems}
+use Rattle.clip_track.proofs.Common.{ItemsFit, clip_end, items_from, sound_items, AreClips, left_items, Item, Clip}
+use Rattle.std.proofs.{lemmas.List.Elements.Contains-append_right}
+use Rattle.clip_track.specs.Items.{item_blocks}
+use Rattle.clip_track.specs.Clips.{layout_blocks}
+use Rattle.clip_track.specs.Rests.{sound_from, IsWithin, IsLeft}
+use Rattle.clip_track.specs.{declared.rest.Left.Left}
 use Rattle.clip_track.proofs.Strips.{item_some, part_none, part_past, part_within, AreItems-append, strip_cells-part}
 use Rattle.clip_track.proofs.Strips.{length-strip_cells, strip_len-append, item_part_ok, ItemFits-part, item_part_len}
 use Rattle.clip_track.proofs.RoughStrips.{part_whole, part_all}

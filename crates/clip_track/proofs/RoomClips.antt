@@ -1,14 +1,11 @@
 -- The room of a strip, clip by clip, is at most that of its items.
-use Rattle.std.proofs.Common.{◌≡◌, ℕ, zero, suc, ◌+◌, ◌<◌, ◌≤◌, inl, inr, true, false, List, [], ◌∷◌, ◌++◌, length}
-use Rattle.std.proofs.Common.{refl, ap, arith, if◌then◌else◌}
-use Rattle.std.proofs.lemmas.Bool.{cases_Bool}
-use Rattle.pcm_base.specs.declared.piece.Piece.{Piece}
-use Rattle.block_sequence.specs.Fuse.{is_whole, is_full}
-use Rattle.block_sequence.specs.Room.{Stand, First, Behind, Within, room, clip_room}
-use Rattle.block_sequence.proofs.{HalfFull.is_full-true, Room.clip_room_le}
-use Rattle.clip_track.specs.declared.items.Item.TheVariants.{Gap, Sound}
-use Rattle.clip_track.specs.Room.{is_first, strip_room, room_from}
-use Rattle.clip_track.specs.{declared.items.Item.Item, Rough.gap_next}
+use Rattle.clip_track.proofs.Common.{◌≡◌, ℕ, zero, suc, ◌+◌, ◌<◌, ◌≤◌, inl, inr, true, false, List, [], ◌∷◌, ◌++◌}
+use Rattle.clip_track.proofs.Common.{length, refl, ap, arith, if◌then◌else◌, cases_Bool, Piece, is_whole, Stand, First}
+use Rattle.clip_track.proofs.Common.{Behind, Within, is_full-true, Gap, Sound, is_first, strip_room, Item, gap_next}
+use Rattle.block_sequence.specs.Fuse.{is_full}
+use Rattle.block_sequence.specs.Room.{room, clip_room}
+use Rattle.block_sequence.proofs.{Room.clip_room_le}
+use Rattle.clip_track.specs.Room.{room_from}
 
 -- how a piece stands after some others
 abbrev stand_after : ℕ → Stand → List Piece → Stand

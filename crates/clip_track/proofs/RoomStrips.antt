@@ -1,15 +1,11 @@
 -- The room of parts of a strip, and of strips one after another.
-use Rattle.std.proofs.Common.{◌≡◌, ℕ, zero, suc, ◌+◌, ◌-◌, ◌*◌, ◌≤◌, inl, inr, min, Bool, true, false, ◌&&◌, ◌||◌, List}
-use Rattle.std.proofs.Common.{[], ◌∷◌, ◌++◌, refl, ap, ◌∙◌, arith}
-use Rattle.std.proofs.lemmas.Bool.{cases_Bool, cases_lt}
-use Rattle.pcm_base.specs.{declared.piece.Piece.Piece, Pieces.piece_len, Pieces.part_of}
-use Rattle.pcm_base.proofs.Pieces.{piece_len-part}
-use Rattle.block_sequence.specs.Fuse.{is_whole, is_full}
-use Rattle.block_sequence.specs.Room.{Stand, First, Behind, Within, spare, taken}
-use Rattle.clip_track.specs.Items.{item_len, strip_len, part_of_item, part_items, gap_items, AreItems}
-use Rattle.clip_track.specs.Rough.{gap_next, rough_items, ItemShort, ItemsShort}
-use Rattle.clip_track.specs.{declared.items.Item.Item, declared.items.Item.TheVariants.Gap}
-use Rattle.clip_track.specs.{declared.items.Item.TheVariants.Sound, Room.is_first, Room.strip_room}
+use Rattle.clip_track.proofs.Common.{◌≡◌, ℕ, zero, suc, ◌+◌, ◌-◌, ◌*◌, ◌≤◌, inl, inr, min, Bool, true, false, ◌&&◌}
+use Rattle.clip_track.proofs.Common.{◌||◌, List, [], ◌∷◌, ◌++◌, refl, ap, ◌∙◌, arith, cases_Bool, cases_lt, Piece}
+use Rattle.clip_track.proofs.Common.{piece_len, part_of, piece_len-part, is_whole, Stand, First, Behind, Within}
+use Rattle.clip_track.proofs.Common.{item_len, strip_len, part_of_item, part_items, gap_items, AreItems, gap_next}
+use Rattle.clip_track.proofs.Common.{rough_items, ItemShort, ItemsShort, Item, Gap, Sound, is_first, strip_room}
+use Rattle.block_sequence.specs.Fuse.{is_full}
+use Rattle.block_sequence.specs.Room.{spare, taken}
 use Rattle.clip_track.proofs.Strips.{part_none, part_past, part_within, item_some}
 use Rattle.clip_track.proofs.RoughStrips.{part_whole, part_all, same_next}
 use Rattle.clip_track.proofs.ShortStrips.{short_part}

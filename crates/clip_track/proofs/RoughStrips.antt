@@ -1,18 +1,15 @@
 -- How rough a part of a layout's strip is.
-use Rattle.std.proofs.Common.{◌≡◌, ℕ, zero, suc, ◌+◌, ◌-◌, ◌*◌, ◌<◌, ◌≤◌, inl, inr, min, Bool, true, false, ◌&&◌, ◌||◌}
-use Rattle.std.proofs.Common.{List, [], ◌∷◌, ◌++◌, length, refl, ap, ap₂, ◌∙◌, arith, append_assoc, if◌then◌else◌}
-use Rattle.std.proofs.lemmas.Bool.{cases_Bool, cases_lt, eq-eqb, le-leb, and_from}
-use Rattle.std.proofs.{Math.Nat.sub-zero, lemmas.List.append-nil}
-use Rattle.pcm_base.specs.declared.piece.Piece.TheVariants.{Old, Scaled, Zero, Given}
-use Rattle.pcm_base.specs.Blocks.{AllFull, IsHalfFull, block_lens}
-use Rattle.pcm_base.specs.{declared.piece.Piece.Piece, declared.block.BlockRef.BlockRef, Pieces.part_of, Pieces.whole}
-use Rattle.block_sequence.specs.Fuse.{is_whole, is_full, rough, unfull}
-use Rattle.block_sequence.proofs.HalfFull.{is_full-true}
-use Rattle.clip_track.specs.declared.items.Item.TheVariants.{Gap, Sound}
-use Rattle.clip_track.specs.Items.{item_len, strip_len, part_of_item, part_items, IsItem, AreItems, gap_items}
-use Rattle.clip_track.specs.Clips.{clip_end, AreClips, AllHalfFull, sound_items, items_from}
-use Rattle.clip_track.specs.Rough.{gap_next, rough_piece, rough_items, rough_from}
-use Rattle.clip_track.specs.{declared.items.Item.Item, declared.clips.Clip.Clip}
+use Rattle.clip_track.proofs.Common.{◌≡◌, ℕ, zero, suc, ◌+◌, ◌-◌, ◌*◌, ◌<◌, ◌≤◌, inl, inr, min, Bool, true, false, ◌&&◌}
+use Rattle.clip_track.proofs.Common.{◌||◌, List, [], ◌∷◌, ◌++◌, length, refl, ap, ap₂, ◌∙◌, arith, append_assoc}
+use Rattle.clip_track.proofs.Common.{if◌then◌else◌, cases_Bool, cases_lt, le-leb, sub-zero, append-nil, Old, Scaled}
+use Rattle.clip_track.proofs.Common.{Zero, Given, AllFull, IsHalfFull, block_lens, Piece, BlockRef, part_of, is_whole}
+use Rattle.clip_track.proofs.Common.{is_full-true, Gap, Sound, item_len, strip_len, part_of_item, part_items, IsItem}
+use Rattle.clip_track.proofs.Common.{AreItems, gap_items, clip_end, AreClips, AllHalfFull, sound_items, items_from}
+use Rattle.clip_track.proofs.Common.{gap_next, rough_items, Item, Clip}
+use Rattle.std.proofs.lemmas.Bool.{eq-eqb, and_from}
+use Rattle.pcm_base.specs.{Pieces.whole}
+use Rattle.block_sequence.specs.Fuse.{is_full, rough, unfull}
+use Rattle.clip_track.specs.Rough.{rough_piece, rough_from}
 use Rattle.clip_track.proofs.Strips.{part_none, part_past, part_within, item_some}
 
 rough_piece_le : (m : ℕ) (p : Piece) (b : Bool) → rough_piece m p b ≤ 1

@@ -1,12 +1,8 @@
 -- No piece of a part is longer than a block.
-use Rattle.std.proofs.Common.{ℕ, zero, suc, ◌+◌, ◌-◌, ◌≤◌, inl, inr, min, List, [], ◌∷◌, ◌++◌, arith}
-use Rattle.std.proofs.{lemmas.Bool.cases_lt, Math.Nat.sub-zero}
-use Rattle.pcm_base.specs.{declared.block.BlockRef.BlockRef, Blocks.AllFull, Blocks.IsHalfFull, Blocks.block_lens}
-use Rattle.pcm_base.proofs.Pieces.{piece_len-part}
-use Rattle.clip_track.specs.{declared.items.Item.Item, declared.items.Item.TheVariants.Gap}
-use Rattle.clip_track.specs.{declared.items.Item.TheVariants.Sound, declared.clips.Clip.Clip, Items.item_len}
-use Rattle.clip_track.specs.{Items.part_of_item, Items.part_items, Items.gap_items, Clips.clip_end, Clips.AllHalfFull}
-use Rattle.clip_track.specs.{Clips.sound_items, Clips.items_from, Rough.ItemShort, Rough.ItemsShort}
+use Rattle.clip_track.proofs.Common.{ℕ, zero, suc, ◌+◌, ◌-◌, ◌≤◌, inl, inr, min, List, [], ◌∷◌, ◌++◌, arith, cases_lt}
+use Rattle.clip_track.proofs.Common.{sub-zero, BlockRef, AllFull, IsHalfFull, block_lens, piece_len-part, Item, Gap}
+use Rattle.clip_track.proofs.Common.{Sound, Clip, item_len, part_of_item, part_items, gap_items, clip_end, AllHalfFull}
+use Rattle.clip_track.proofs.Common.{sound_items, items_from, ItemShort, ItemsShort}
 use Rattle.clip_track.proofs.Strips.{part_none, part_past, part_within}
 
 -- no piece is longer than a block

@@ -1,12 +1,10 @@
 -- Lemmas on the clips of a strip.
-use Rattle.std.proofs.Common.{◌≡◌, ℕ, ◌+◌, ◌-◌, ◌<◌, ◌≤◌, ℤ, List, [], ◌∷◌, ◌++◌, map, replicate, refl, sym, ap, ◌∙◌}
-use Rattle.std.proofs.Common.{append_assoc, arith}
-use Rattle.std.proofs.lemmas.List.{append-nil, replicate-append-replicate, map-append}
-use Rattle.pcm_base.specs.Pieces.{Sources, total, all_samples, samples_of, AllValid}
-use Rattle.pcm_base.specs.{declared.sound.Cell.Cell, declared.piece.Piece.Piece}
+use Rattle.clip_track.proofs.Common.{◌≡◌, ℕ, ◌+◌, ◌-◌, ◌<◌, ◌≤◌, ℤ, List, [], ◌∷◌, ◌++◌, map, replicate, refl, sym, ap}
+use Rattle.clip_track.proofs.Common.{◌∙◌, append_assoc, arith, append-nil, map-append, Sources, total, all_samples}
+use Rattle.clip_track.proofs.Common.{samples_of, AllValid, Cell, Piece, StripClip, clips_end, clips_cells}
+use Rattle.std.proofs.lemmas.List.{replicate-append-replicate}
 use Rattle.pcm_base.proofs.Pieces.{all_samples-append}
-use Rattle.clip_track.specs.declared.strip_clips.StripClip.{StripClip}
-use Rattle.clip_track.specs.StripClips.{strip_clip_end, clips_end, next_start, clips_cells, AreStripClips}
+use Rattle.clip_track.specs.StripClips.{strip_clip_end, next_start, AreStripClips}
 use Rattle.pcm_base.specs.declared.sound.Cell.TheVariants as cell
 
 pub clips_end-push : (at : ℕ) (cs : List StripClip) (c : StripClip) → clips_end at (cs ++ c ∷ []) ≡ strip_clip_end c

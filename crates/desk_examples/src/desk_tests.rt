@@ -1,7 +1,7 @@
 // Threads at one desk, whose turns go on and end.
 use super::disks::{commits_in, fresh, has_named_files, seated};
 use pcm_base::Frame;
-use seat_examples::{End, Job, by_four, by_two};
+use seat_examples::{End, Job, Pair, Setting, by_four, by_two};
 use std::test::*;
 
 /// The mix that is pinned.
@@ -36,7 +36,14 @@ fn two_threads_at_one_desk(rt: HostRuntime) -> Result<(), Fail> {
         track: session.track,
         tag: session.tag,
     };
-    let (mut seat, ends) = by_two(&rt, alloc, &desk, seat, Job::Edit { track: 1 }, record, 12);
+    let (mut seat, ends) = by_two(
+        &rt,
+        alloc,
+        &desk,
+        seat,
+        Pair(Job::Edit { track: 1 }, record),
+        12,
+    );
     assert!(rt; matches!(ends, [End::Done, End::Done]));
     // Behind the three commits of the beginning come twelve of each thread.
     assert!(rt; matches!(desk.undo(&rt, &mut seat).what, Ok(28)));
@@ -52,7 +59,7 @@ fn two_threads_at_one_desk(rt: HostRuntime) -> Result<(), Fail> {
 fn four_threads_at_one_desk(rt: HostRuntime) -> Result<(), Fail> {
     let alloc = rt.alloc();
     let (desk, seat, session) = seated(&rt, alloc, fresh(alloc)?)?;
-    let (mut seat, ends) = by_four(&rt, alloc, &desk, seat, session, MIX, 12);
+    let (mut seat, ends) = by_four(&rt, alloc, &desk, seat, Setting { session, mix: MIX }, 12);
     let unpinned = desk.unpin(&rt, &mut seat, session.pin).what;
     let mut studio = desk.close(seat);
     assert!(rt; matches!(ends, [End::Done, End::Done, End::Done, End::Done]));

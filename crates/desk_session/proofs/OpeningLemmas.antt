@@ -10,10 +10,9 @@ use Rattle.pcm_base.specs.{declared.said.Said.Said, Arithmetic.counted_from, Cou
 use Rattle.disk_model.specs.declared.store.Store.{Ghosts}
 use Rattle.pin_turn.specs.declared.view.View.{View}
 use Rattle.editor_state.specs.{Core.Core, Took.silent, Took.as_reply}
-use Rattle.studio_seats.specs.Deeds.{commits, deed, number_after}
 use Rattle.studio_seats.specs.Desks.{Says, Spends, Turned, asked, spent, views}
-use Rattle.studio_seats.specs.Merge.{by_seat, deeds_of, numbers_of}
-use Rattle.studio_seats.specs.{declared.deed.Deed.Deed, declared.held.Held.Held, Onward.Onward, Stands.origin}
+use Rattle.studio_seats.specs.{declared.deed.Deed.Deed, declared.held.Held.Held, Deeds.number_after, Merge.numbers_of}
+use Rattle.studio_seats.specs.{Deeds.commits, Deeds.deed, Merge.by_seat, Merge.deeds_of, Onward.Onward, Stands.origin}
 use Rattle.studio_seats.proofs.MergeLemmas.{deeds_append, deeds_others, numbers_append, numbers_others}
 use Rattle.studio_seats.proofs.OnwardLemmas.{onward_on, onward_self, onward_turn}
 use Rattle.studio_seats.proofs.{Grown.number_append, Turns.number_on, Turns.turned_number}

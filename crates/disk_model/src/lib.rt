@@ -3,7 +3,7 @@
 //!
 //! Every promise about crashes stands on the clauses of `Store`: the layers above are generic over it and use what it
 //! reads, its images, and that a call answers `Failed` only where its count of faults rose. What a real disk does is
-//! not proved here; `docs/DISK.md` says what is asked of it.
+//! not proved here; `docs/DISK.md` says what it must do.
 #![tactic(auto)]
 
 mod store;

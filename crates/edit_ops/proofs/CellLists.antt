@@ -1,8 +1,8 @@
 -- Lemmas on cells.
-use Rattle.std.proofs.Common.{◌≡◌, ℕ, ◌-◌, ◌≤◌, List, [], ◌∷◌, ◌++◌, length, map, take, replicate, refl, ap, arith}
-use Rattle.std.proofs.lemmas.List.{take-append-le, take_all, length-replicate, length-append}
-use Rattle.pcm_base.specs.{declared.sound.Cell.Cell, declared.sound.Cell.TheVariants.Gap, Cells.continued}
-use Rattle.pcm_base.specs.{Edits.emptied}
+use Rattle.edit_ops.proofs.Common.{◌≡◌, ℕ, ◌-◌, ◌≤◌, List, [], ◌∷◌, ◌++◌, length, map, take, replicate, refl, ap, arith}
+use Rattle.edit_ops.proofs.Common.{take-append-le, take_all, length-replicate, Cell, continued, emptied}
+use Rattle.std.proofs.lemmas.List.{length-append}
+use Rattle.pcm_base.specs.{declared.sound.Cell.TheVariants.Gap}
 
 pub map_gaps : (xs : List Cell) → map emptied xs ≡ replicate (length xs) Gap
 map_gaps [] = refl

@@ -1,21 +1,17 @@
 -- Items with each sample changed.
-use Rattle.std.proofs.Common.{◌≡◌, ℕ, zero, suc, ◌+◌, ◌-◌, ◌<◌, ℤ, pos, List, [], ◌∷◌, ◌++◌, length, get_or, map}
-use Rattle.std.proofs.Common.{replicate, refl, sym, ap, ap₂, ◌∙◌, arith, inl, inr, min}
-use Rattle.std.proofs.{lemmas.List.map-append, lemmas.Bool.cases_lt}
-use Rattle.pcm_base.specs.declared.piece.Piece.TheVariants.{Old, Scaled, Zero, Given}
-use Rattle.pcm_base.specs.Pieces.{Sources, stretch, piece_len, samples_of, IsValid, Fits}
-use Rattle.pcm_base.specs.{declared.sound.Cell.Cell, declared.piece.Piece.Piece, Arithmetic.scaled, Arithmetic.clamped}
-use Rattle.pcm_base.specs.{Edits.quieted, Edits.gained, declared.block.BlockRef.BlockRef}
+use Rattle.edit_ops.proofs.Common.{◌≡◌, ℕ, zero, suc, ◌+◌, ◌-◌, ◌<◌, ℤ, pos, List, [], ◌∷◌, ◌++◌, length, get_or, map}
+use Rattle.edit_ops.proofs.Common.{replicate, refl, sym, ap, ap₂, ◌∙◌, arith, inl, inr, min, cases_lt, Old, Scaled}
+use Rattle.edit_ops.proofs.Common.{Zero, Given, Sources, stretch, piece_len, Cell, Piece, BlockRef, Gap, Sound}
+use Rattle.edit_ops.proofs.Common.{item_len, strip_len, strip_cells, IsItem, AreItems, ItemsFit, part_items}
+use Rattle.edit_ops.proofs.Common.{part_of_item, gap_items, clip_end, sound_items, items_from, Item, Clip, part_none}
+use Rattle.edit_ops.proofs.Common.{part_past, part_within, cell_change, piece_change, item_change, Change, Silence}
+use Rattle.edit_ops.proofs.Common.{Gain, IsOld, AllOld}
+use Rattle.std.proofs.{lemmas.List.map-append}
+use Rattle.pcm_base.specs.Pieces.{samples_of, IsValid, Fits}
+use Rattle.pcm_base.specs.{Arithmetic.scaled, Arithmetic.clamped, Edits.quieted, Edits.gained}
 use Rattle.pcm_base.proofs.Pieces.{length-samples}
-use Rattle.clip_track.specs.declared.items.Item.TheVariants.{Gap, Sound}
-use Rattle.clip_track.specs.Items.{item_len, item_cells, strip_len, strip_cells, IsItem, AreItems, ItemFits, ItemsFit}
-use Rattle.clip_track.specs.Items.{part_items, part_of_item, gap_items}
-use Rattle.clip_track.specs.Clips.{clip_end, sound_items, items_from}
-use Rattle.clip_track.specs.{declared.items.Item.Item, declared.clips.Clip.Clip}
-use Rattle.clip_track.proofs.Strips.{item_at, part_none, part_past, part_within}
-use Rattle.edit_ops.specs.Changes.{cell_change, piece_change, item_change}
-use Rattle.edit_ops.specs.{declared.changing.Change.Change, declared.changing.Change.TheVariants.Silence}
-use Rattle.edit_ops.specs.{declared.changing.Change.TheVariants.Gain, Strips.IsOld, Strips.AllOld}
+use Rattle.clip_track.specs.Items.{item_cells, ItemFits}
+use Rattle.clip_track.proofs.Strips.{item_at}
 use Rattle.pcm_base.specs.declared.sound.Cell.TheVariants as cell
 
 silent_samples : (xs : List ℤ) → map cell.Sample (replicate (length xs) (pos 0)) ≡ map quieted (map cell.Sample xs)

@@ -1,19 +1,15 @@
 -- What a copied range means, and that it may be pasted.
-use Rattle.std.proofs.Common.{◌≡◌, ℕ, ◌+◌, ◌-◌, ◌≤◌, ◌<◌, inl, inr, true, false, List, [], ◌++◌, length, take, drop}
-use Rattle.std.proofs.Common.{replicate, sym, ap, ap₂, ◌∙◌, arith, length-drop, length-append}
-use Rattle.std.proofs.lemmas.Bool.{cases_lt}
-use Rattle.std.proofs.lemmas.List.{take_all, drop_all, append-nil, take-append-le, drop-append-le, drop-replicate}
-use Rattle.std.proofs.lemmas.List.{take-replicate, length-replicate}
-use Rattle.pcm_base.specs.{declared.block.BlockRef.BlockRef, declared.sound.Cell.Cell, Edits.range_of, Pieces.Sources}
+use Rattle.edit_ops.proofs.Common.{◌≡◌, ℕ, ◌+◌, ◌-◌, ◌≤◌, ◌<◌, inl, inr, true, false, List, [], ◌++◌, length, take}
+use Rattle.edit_ops.proofs.Common.{drop, replicate, sym, ap, ap₂, ◌∙◌, arith, length-drop, length-append, cases_lt}
+use Rattle.edit_ops.proofs.Common.{take_all, drop_all, append-nil, take-append-le, length-replicate, BlockRef, Cell}
+use Rattle.edit_ops.proofs.Common.{range_of, Sources, strip_len, strip_cells, part_items, gap_items, AreItems, ItemsFit}
+use Rattle.edit_ops.proofs.Common.{Item, rough_items, ItemsShort, length-strip_cells, strip_cells-append}
+use Rattle.edit_ops.proofs.Common.{strip_cells-part, ItemsFit-append, ItemsFit-part, strip_cells-gap, ItemsFit-gap}
+use Rattle.edit_ops.proofs.Common.{rough-append, rough_middle, rough_only_gap, ItemsShort-append, ItemsShort-part}
+use Rattle.edit_ops.proofs.Common.{short_gap, AllOld, IsClip, ItemsFrom}
+use Rattle.std.proofs.lemmas.List.{drop-append-le, drop-replicate, take-replicate}
 use Rattle.pcm_base.proofs.Pieces.{drop-past}
-use Rattle.clip_track.specs.Items.{strip_len, strip_cells, part_items, gap_items, AreItems, ItemsFit}
-use Rattle.clip_track.specs.{declared.items.Item.Item, Rough.rough_items, Rough.ItemsShort}
-use Rattle.clip_track.proofs.Strips.{length-strip_cells, strip_cells-append, strip_cells-part, ItemsFit-append}
-use Rattle.clip_track.proofs.Strips.{ItemsFit-part}
-use Rattle.clip_track.proofs.Layouts.{strip_cells-gap, ItemsFit-gap}
-use Rattle.clip_track.proofs.RoughStrips.{rough-append, rough_middle, rough_only_gap}
-use Rattle.clip_track.proofs.ShortStrips.{ItemsShort-append, ItemsShort-part, short_gap}
-use Rattle.edit_ops.specs.Strips.{range_items, AllOld, IsClip, ItemsFrom}
+use Rattle.edit_ops.specs.Strips.{range_items}
 use Rattle.edit_ops.proofs.ChangedItems.{AllOld-append, AllOld-part, old_gap}
 use Rattle.edit_ops.proofs.Tame.{ItemsFrom-append, ItemsFrom-part, ItemsFrom-gap}
 use Rattle.pcm_base.specs.declared.sound.Cell.TheVariants as cell

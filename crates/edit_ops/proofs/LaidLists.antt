@@ -1,18 +1,14 @@
 -- Lemmas on clips that are laid out.
-use Rattle.std.proofs.Common.{◌≡◌, ℕ, zero, suc, ◌+◌, ◌-◌, ◌<◌, ◌≤◌, ℤ, pos, List, [], ◌∷◌, ◌++◌, length, map}
-use Rattle.std.proofs.Common.{replicate, refl, sym, ap, ap₂, ◌∙◌, append_assoc, arith, length-append}
-use Rattle.std.proofs.lemmas.List.{append-nil}
-use Rattle.pcm_base.specs.Pieces.{Sources, stretch, all_samples}
-use Rattle.pcm_base.specs.{declared.sound.Cell.Cell, Cells.trimmed, Cells.joined, declared.piece.Piece.Piece}
-use Rattle.pcm_base.specs.{declared.block.BlockRef.BlockRef, Blocks.IsHalfFull}
-use Rattle.pcm_base.proofs.Pieces.{length-stretch, length-all_samples}
+use Rattle.edit_ops.proofs.Common.{◌≡◌, ℕ, zero, suc, ◌+◌, ◌-◌, ◌<◌, ◌≤◌, ℤ, pos, List, [], ◌∷◌, ◌++◌, length, map}
+use Rattle.edit_ops.proofs.Common.{replicate, refl, sym, ap, ap₂, ◌∙◌, append_assoc, arith, length-append, append-nil}
+use Rattle.edit_ops.proofs.Common.{Sources, stretch, all_samples, Cell, trimmed, Piece, BlockRef, IsHalfFull}
+use Rattle.edit_ops.proofs.Common.{length-all_samples, added, made_count, AllShort, Keep, Make, parts, sizes}
+use Rattle.edit_ops.proofs.Common.{all_laid_samples, AllMade, AllLaidFrom, Laid, LaidClip, ClipsFrom, laid_len}
+use Rattle.edit_ops.proofs.Common.{laid_end, laid_cells, AreLaidClips, made_clips}
+use Rattle.pcm_base.specs.{Cells.joined}
+use Rattle.pcm_base.proofs.Pieces.{length-stretch}
 use Rattle.model_laws.proofs.Trimming.{trimmed-gaps, trimmed-samples}
-use Rattle.block_sequence.specs.Fuse.{added, made_count, AllShort}
-use Rattle.block_sequence.specs.declared.types.Laid.TheVariants.{Keep, Make}
-use Rattle.block_sequence.specs.Laid.{parts, sizes, all_laid_samples, AllMade}
-use Rattle.block_sequence.specs.{Origins.AllLaidFrom, declared.types.Laid.Laid}
-use Rattle.edit_ops.specs.declared.types.LaidClip.{LaidClip}
-use Rattle.edit_ops.specs.LaidClips.{ClipsFrom, laid_len, laid_end, laid_next, laid_cells, AreLaidClips, made_clips}
+use Rattle.edit_ops.specs.LaidClips.{laid_next}
 use Rattle.pcm_base.specs.declared.sound.Cell.TheVariants as cell
 
 pub length-all_laid : (m : ℕ) (src : Sources) (ls : List Laid) → AllMade m ls

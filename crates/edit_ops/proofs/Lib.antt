@@ -1,3 +1,4 @@
+mod Common
 pub mod CellLists
 pub mod ChangedItems
 pub mod Copies

@@ -1,17 +1,14 @@
 -- Blocks by their ids.
-use Rattle.std.proofs.Common.{◌≡◌, ℕ, suc, inl, inr, ◌+◌, ◌-◌, ◌<◌, ◌≤◌, List, [], ◌∷◌, ◌++◌, length, map, replicate}
-use Rattle.std.proofs.Common.{refl, sym, ap, ap₂, subst, ◌∙◌, arith, length-append}
-use Rattle.pcm_base.specs.Blocks.{AllFull, IsHalfFull, block_lens, blocks_len, block_samples, NoneEmpty}
-use Rattle.pcm_base.specs.{declared.block.BlockRef.BlockRef, Pieces.Sources, Pieces.stretch}
-use Rattle.block_sequence.specs.Laid.{parts, sizes, all_laid_samples, AllMade}
-use Rattle.block_sequence.specs.{Fuse.added, Fuse.made_count, Origins.AllLaidFrom, declared.types.Laid.Laid}
-use Rattle.block_sequence.specs.{declared.types.Laid.TheVariants.Keep, declared.types.Laid.TheVariants.Make}
-use Rattle.std.specs.Prelude.{Contains}
-use Rattle.clip_track.specs.Clips.{end_of, cells_from, AreClips, IsLayout, AllHalfFull, layout_blocks}
-use Rattle.edit_ops.specs.Plans.{AreWritten, AreNew, AllNewFrom, AreOldOrNew}
-use Rattle.edit_ops.specs.LaidClips.{named, new_blocks, next_after, ClipsFrom, laid_len, laid_end, laid_cells}
-use Rattle.edit_ops.specs.LaidClips.{AreLaidClips, named_clips, clips_new_blocks, clips_next, count_laid, made_clips}
-use Rattle.edit_ops.specs.{declared.types.LaidClip.LaidClip, declared.types.NewBlock.NewBlock}
+use Rattle.edit_ops.proofs.Common.{◌≡◌, ℕ, suc, inl, inr, ◌+◌, ◌-◌, ◌<◌, ◌≤◌, List, [], ◌∷◌, ◌++◌, length, map}
+use Rattle.edit_ops.proofs.Common.{replicate, refl, sym, ap, ap₂, subst, ◌∙◌, arith, length-append, IsHalfFull}
+use Rattle.edit_ops.proofs.Common.{BlockRef, Sources, stretch, parts, sizes, all_laid_samples, AllMade, added}
+use Rattle.edit_ops.proofs.Common.{made_count, AllLaidFrom, Laid, Keep, Make, Contains, end_of, AllHalfFull}
+use Rattle.edit_ops.proofs.Common.{layout_blocks, AreWritten, named, new_blocks, next_after, ClipsFrom, laid_len}
+use Rattle.edit_ops.proofs.Common.{laid_end, laid_cells, AreLaidClips, clips_new_blocks, made_clips, LaidClip, NewBlock}
+use Rattle.pcm_base.specs.Blocks.{AllFull, block_lens, blocks_len, block_samples, NoneEmpty}
+use Rattle.clip_track.specs.Clips.{cells_from, AreClips, IsLayout}
+use Rattle.edit_ops.specs.Plans.{AreNew, AllNewFrom, AreOldOrNew}
+use Rattle.edit_ops.specs.LaidClips.{named_clips, clips_next, count_laid}
 use Rattle.pcm_base.specs.declared.sound.Cell.TheVariants as cell
 
 -- each clip by itself

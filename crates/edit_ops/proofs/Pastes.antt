@@ -1,23 +1,15 @@
 -- What the strips of pastes are, and what they mean.
-use Rattle.std.proofs.Common.{◌≡◌, ℕ, ◌+◌, ◌-◌, true, false, List, [], ◌∷◌, ◌++◌, take, drop, refl, sym, ap, ap₂, ◌∙◌}
-use Rattle.std.proofs.Common.{arith}
-use Rattle.std.proofs.lemmas.List.Elements.{Contains-append_left, Contains-append_right}
-use Rattle.std.specs.Prelude.{Contains}
-use Rattle.pcm_base.specs.declared.piece.Piece.TheVariants.{Old, Scaled, Zero, Given}
-use Rattle.pcm_base.specs.Cells.{trimmed, continued}
+use Rattle.edit_ops.proofs.Common.{◌≡◌, ℕ, ◌+◌, ◌-◌, true, false, List, [], ◌∷◌, ◌++◌, take, drop, refl, sym, ap, ap₂}
+use Rattle.edit_ops.proofs.Common.{◌∙◌, arith, Contains-append_left, Contains-append_right, Contains, Old, Scaled, Zero}
+use Rattle.edit_ops.proofs.Common.{Given, trimmed, continued, BlockRef, Piece, Cell, Sources, Placing, placed, IsFrom}
+use Rattle.edit_ops.proofs.Common.{Item, Gap, Sound, strip_len, strip_cells, part_items, gap_items, AreItems}
+use Rattle.edit_ops.proofs.Common.{strip_blocks, length-strip_cells, strip_cells-append, ItemsFit-append, ItemsFit-part}
+use Rattle.edit_ops.proofs.Common.{ItemsFit-gap, rough-append, rough_front, rough_back, rough_only_gap, rough_three}
+use Rattle.edit_ops.proofs.Common.{ItemsShort-append, ItemsShort-part, short_gap, rest_items, front_items, IsOld}
+use Rattle.edit_ops.proofs.Common.{AllOld, IsClip, IsItemFrom, ItemsFrom}
 use Rattle.pcm_base.specs.declared.edits.Placing.TheVariants.{Insert, Cover}
-use Rattle.pcm_base.specs.{declared.block.BlockRef.BlockRef, declared.piece.Piece.Piece, declared.sound.Cell.Cell}
-use Rattle.pcm_base.specs.{Pieces.Sources, declared.edits.Placing.Placing, Edits.placed}
-use Rattle.block_sequence.specs.Origins.{IsFrom}
-use Rattle.clip_track.specs.declared.items.Item.{Item}
-use Rattle.clip_track.specs.declared.items.Item.TheVariants.{Gap, Sound}
-use Rattle.clip_track.specs.Items.{strip_len, strip_cells, part_items, gap_items, AreItems, strip_blocks, item_blocks}
-use Rattle.clip_track.proofs.Strips.{length-strip_cells, strip_cells-append, ItemsFit-append, ItemsFit-part}
-use Rattle.clip_track.proofs.Layouts.{ItemsFit-gap}
-use Rattle.clip_track.proofs.RoughStrips.{rough-append, rough_front, rough_back, rough_only_gap, rough_three}
-use Rattle.clip_track.proofs.ShortStrips.{ItemsShort-append, ItemsShort-part, short_gap}
+use Rattle.clip_track.specs.Items.{item_blocks}
 use Rattle.edit_ops.specs.Placing.{placed_items}
-use Rattle.edit_ops.specs.Strips.{rest_items, front_items, IsOld, AllOld, IsClip, IsItemFrom, ItemsFrom}
 use Rattle.edit_ops.proofs.StripCells.{cells_front, rest_cells}
 use Rattle.edit_ops.proofs.Tame.{Tame, ItemsFrom-append, ItemsFrom-part, ItemsFrom-gap}
 

@@ -1,23 +1,19 @@
 -- The room that the strips of an insertion and of a change give their new blocks.
-use Rattle.std.proofs.Common.{◌≡◌, ℕ, zero, suc, ◌+◌, ◌-◌, ◌*◌, ◌/◌, ◌<◌, ◌≤◌, inl, inr, Bool, true, false, List, []}
-use Rattle.std.proofs.Common.{◌∷◌, ◌++◌, map, refl, sym, ap, ◌∙◌, arith, append_assoc, if◌then◌else◌}
-use Rattle.std.proofs.lemmas.Bool.{cases_lt, cases_Bool}
+use Rattle.edit_ops.proofs.Common.{◌≡◌, ℕ, zero, suc, ◌+◌, ◌-◌, ◌*◌, ◌/◌, ◌<◌, ◌≤◌, inl, inr, true, false, List, []}
+use Rattle.edit_ops.proofs.Common.{◌∷◌, ◌++◌, map, refl, sym, ap, ◌∙◌, arith, append_assoc, cases_lt, Old, Scaled, Zero}
+use Rattle.edit_ops.proofs.Common.{Given, Piece, Sources, piece_len, part, sample_count, clip_count, First, Gap, Sound}
+use Rattle.edit_ops.proofs.Common.{strip_len, strip_cells, part_items, gap_items, AreItems, rough_items, ItemsShort}
+use Rattle.edit_ops.proofs.Common.{Item, strip_room, strip_cells-part, rest_items, front_items, with_inserted}
+use Rattle.edit_ops.proofs.Common.{given_items, with_change, Change, Silence, Gain, piece_change, item_change}
+use Rattle.std.proofs.Common.{Bool, if◌then◌else◌}
+use Rattle.std.proofs.lemmas.Bool.{cases_Bool}
 use Rattle.std.proofs.Math.Nat.{mul-le-mul_left, div-add-mod, mod-lt}
-use Rattle.pcm_base.specs.declared.piece.Piece.TheVariants.{Old, Scaled, Zero, Given}
-use Rattle.pcm_base.specs.{declared.piece.Piece.Piece, Pieces.Sources, Pieces.piece_len, Edits.part, Sizes.sample_count}
-use Rattle.pcm_base.specs.{Sizes.clip_count}
-use Rattle.block_sequence.specs.{Fuse.is_whole, Room.Stand, Room.First, Room.Behind, Room.Within, Room.spare}
+use Rattle.block_sequence.specs.{Fuse.is_whole, Room.Stand, Room.Behind, Room.Within, Room.spare}
 use Rattle.block_sequence.proofs.HalfFull.{not_full}
-use Rattle.clip_track.specs.declared.items.Item.TheVariants.{Gap, Sound}
-use Rattle.clip_track.specs.Items.{strip_len, strip_cells, part_items, gap_items, AreItems}
-use Rattle.clip_track.specs.Rough.{gap_next, rough_items, ItemsShort}
-use Rattle.clip_track.specs.{declared.items.Item.Item, Room.strip_room}
-use Rattle.clip_track.proofs.Strips.{AreItems-part, strip_cells-part}
+use Rattle.clip_track.specs.Rough.{gap_next}
+use Rattle.clip_track.proofs.Strips.{AreItems-part}
 use Rattle.clip_track.proofs.RoomStrips.{spare_most, room-append, room_only_gap, room_front, room_back, no_room}
 use Rattle.clip_track.proofs.CellCounts.{item_samples, item_starts, sample_count-strip, clip_starts-strip}
-use Rattle.edit_ops.specs.Strips.{rest_items, front_items, with_inserted, given_items, with_change}
-use Rattle.edit_ops.specs.{declared.changing.Change.Change, declared.changing.Change.TheVariants.Silence}
-use Rattle.edit_ops.specs.{declared.changing.Change.TheVariants.Gain, Changes.piece_change, Changes.item_change}
 use Rattle.edit_ops.proofs.ChangedItems.{piece_len_change}
 
 -- the items of a layout's strip: only where they are cut is anything laid out anew

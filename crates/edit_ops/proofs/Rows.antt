@@ -1,7 +1,6 @@
 -- Worked examples of the counts, computed.
-use Rattle.std.proofs.Common.{◌≡◌, refl, List, [], ◌∷◌, pos}
-use Rattle.pcm_base.specs.{declared.sound.Cell.Cell, declared.sound.Cell.TheVariants.Gap}
-use Rattle.pcm_base.specs.{declared.sound.Cell.TheVariants.Sample, Edits.part, Sizes.sample_count, Sizes.clip_count}
+use Rattle.edit_ops.proofs.Common.{◌≡◌, refl, List, [], ◌∷◌, pos, Cell, part, sample_count, clip_count}
+use Rattle.pcm_base.specs.{declared.sound.Cell.TheVariants.Gap, declared.sound.Cell.TheVariants.Sample}
 
 abbrev two_clips : List Cell
 two_clips = Gap ∷ Sample (pos 1) ∷ Sample (pos 2) ∷ Sample (pos 0) ∷ Gap ∷ Gap ∷ Sample (pos 3) ∷ []

@@ -1,15 +1,15 @@
 -- Lemmas on edits of several tracks.
-use Rattle.std.proofs.Common.{◌≡◌, ℕ, zero, suc, ◌+◌, ◌<◌, ◌^◌, List, [], ◌∷◌, ◌++◌, length, get_or, take, drop, refl}
-use Rattle.std.proofs.Common.{sym, ap, ◌∙◌, arith, inl, inr, ◌≤◌, Option, None, Some, nat_lt}
-use Rattle.std.proofs.{lemmas.Bool.cases_lt, lemmas.Bool.lt-ltb, lemmas.List.take_more, lemmas.List.drop_more}
-use Rattle.pcm_base.specs.Refusals.{◌otherwise◌, refused_if, too_narrow, length_limit, placed_length}
+use Rattle.edit_ops.proofs.Common.{◌≡◌, ℕ, zero, suc, ◌+◌, ◌<◌, ◌^◌, List, [], ◌∷◌, ◌++◌, length, get_or, take, drop}
+use Rattle.edit_ops.proofs.Common.{refl, sym, ap, ◌∙◌, arith, inl, inr, ◌≤◌, None, cases_lt, take_more, drop_more}
+use Rattle.edit_ops.proofs.Common.{too_narrow, length_limit, placed_length, Cell, Placing, end_of, AllHalfFull, Item}
+use Rattle.edit_ops.proofs.Common.{Clip, strip_len, AllTracksHalfFull, AreCopies, IsCut, AreCuts, IsPaste, layouts}
+use Rattle.edit_ops.proofs.Common.{lengths_of, Plan, IsClip}
+use Rattle.std.proofs.Common.{Option, Some, nat_lt}
+use Rattle.std.proofs.{lemmas.Bool.lt-ltb}
+use Rattle.pcm_base.specs.Refusals.{◌otherwise◌, refused_if}
 use Rattle.pcm_base.specs.{declared.refusal.Refusal.Refusal, declared.refusal.Refusal.TheVariants.LengthLimit}
-use Rattle.pcm_base.specs.{declared.sound.Cell.Cell, declared.edits.Placing.Placing}
-use Rattle.clip_track.specs.Clips.{end_of, AllHalfFull}
-use Rattle.clip_track.specs.{declared.items.Item.Item, declared.clips.Clip.Clip, Items.strip_len}
-use Rattle.edit_ops.specs.Runs.{AllTracksHalfFull, AreClips, IsCopy, AreCopies, IsCut, AreCuts, IsPaste, ArePastes}
-use Rattle.edit_ops.specs.Runs.{start_behind, layouts, next_of, lengths_of}
-use Rattle.edit_ops.specs.{declared.types.Plan.Plan, Strips.IsClip, Placing.SumsFit, Placing.LengthsFit, Plans.Start}
+use Rattle.edit_ops.specs.Runs.{AreClips, IsCopy, ArePastes, start_behind, next_of}
+use Rattle.edit_ops.specs.{Placing.SumsFit, Placing.LengthsFit, Plans.Start}
 use denote.Ref.{Bor}
 
 -- the layouts after references

@@ -1,17 +1,14 @@
 -- What the strips of edits mean as cells.
-use Rattle.std.proofs.Common.{◌≡◌, ℕ, zero, suc, ◌-◌, inl, inr, min, List, ◌++◌, length, map, take, drop, replicate}
-use Rattle.std.proofs.Common.{refl, sym, ap, ap₂, ◌∙◌, arith, length-drop}
-use Rattle.std.proofs.lemmas.List.{take_all, append-nil, length-take}
-use Rattle.std.proofs.{lemmas.Bool.cases_lt, Math.Nat.sub-zero}
-use Rattle.pcm_base.specs.Edits.{part, emptied, as_cells}
-use Rattle.pcm_base.specs.{declared.sound.Cell.Cell, Cells.continued, Pieces.Sources, Pieces.stretch}
-use Rattle.clip_track.specs.declared.items.Item.{Item}
-use Rattle.clip_track.specs.Items.{strip_len, strip_cells, part_items, gap_items}
-use Rattle.clip_track.proofs.Strips.{length-strip_cells, strip_cells-append, strip_cells-part}
-use Rattle.clip_track.proofs.Layouts.{strip_cells-gap}
-use Rattle.edit_ops.specs.Strips.{rest_items, front_items, without, with_gaps, only_part, with_inserted, given_items}
-use Rattle.edit_ops.specs.Strips.{with_change, AllOld}
-use Rattle.edit_ops.specs.{declared.changing.Change.Change, Changes.cell_change, Changes.item_change}
+use Rattle.edit_ops.proofs.Common.{◌≡◌, ℕ, zero, suc, ◌-◌, inl, inr, min, List, ◌++◌, length, map, take, drop}
+use Rattle.edit_ops.proofs.Common.{replicate, refl, sym, ap, ap₂, ◌∙◌, arith, length-drop, take_all, append-nil}
+use Rattle.edit_ops.proofs.Common.{cases_lt, part, emptied, continued, trimmed, Cell, Sources, stretch, Item, strip_len}
+use Rattle.edit_ops.proofs.Common.{strip_cells, part_items, gap_items, length-strip_cells, strip_cells-append}
+use Rattle.edit_ops.proofs.Common.{strip_cells-part, strip_cells-gap, rest_items, front_items, without, with_gaps}
+use Rattle.edit_ops.proofs.Common.{only_part, with_inserted, given_items, with_change, cut_items, cut_cells, AllOld}
+use Rattle.edit_ops.proofs.Common.{Cutting, Delete, SplitDelete, Trim, Change, cell_change, item_change}
+use Rattle.std.proofs.lemmas.List.{length-take}
+use Rattle.std.proofs.{Math.Nat.sub-zero}
+use Rattle.pcm_base.specs.Edits.{as_cells}
 use Rattle.edit_ops.proofs.ChangedItems.{strip_cells_change, AllOld-part}
 use Rattle.edit_ops.proofs.CellLists.{map_gaps, front_within, front_past}
 use Rattle.pcm_base.specs.declared.sound.Cell.TheVariants as cell
@@ -27,7 +24,7 @@ pub front_cells : (src : Sources) (at : ℕ) (xs : List Item)
     → strip_cells src (part_items 0 at xs) ≡ take at (strip_cells src xs)
 front_cells src at xs = strip_cells-part src 0 at xs
 
-pub cells_without : (src : Sources) (from to : ℕ) (xs : List Item)
+cells_without : (src : Sources) (from to : ℕ) (xs : List Item)
     → strip_cells src (without from to xs) ≡ take from (strip_cells src xs) ++ drop to (strip_cells src xs)
 cells_without src from to xs = strip_cells-append src (part_items 0 from xs) (rest_items to xs)
     ∙ ap₂ ◌++◌ (front_cells src from xs) (rest_cells src to xs)
@@ -37,7 +34,7 @@ three_cells : (src : Sources) (xs ys zs : List Item)
 three_cells src xs ys zs =
     strip_cells-append src (xs ++ ys) zs ∙ ap (λ cs. cs ++ strip_cells src zs) (strip_cells-append src xs ys)
 
-pub cells_with_gaps : (src : Sources) (from to : ℕ) (xs : List Item)
+cells_with_gaps : (src : Sources) (from to : ℕ) (xs : List Item)
     → strip_cells src (with_gaps from to xs) ≡ take from (strip_cells src xs)
     ++ map emptied (part from to (strip_cells src xs)) ++ drop to (strip_cells src xs)
 cells_with_gaps src from to xs =
@@ -51,11 +48,17 @@ cells_with_gaps src from to xs =
     (strip_cells-gap src n ∙ ap (λ k. replicate k cell.Gap) len ∙ sym (map_gaps (part from to cells))))
     (rest_cells src to xs)
 
-pub cells_only_part : (src : Sources) (from to : ℕ) (xs : List Item)
+cells_only_part : (src : Sources) (from to : ℕ) (xs : List Item)
     → strip_cells src (only_part from to xs) ≡ replicate from cell.Gap ++ part from to (strip_cells src xs)
 cells_only_part src from to xs =
     strip_cells-append src (gap_items from) (part_items from (to - from) xs)
     ∙ ap₂ ◌++◌ (strip_cells-gap src from) (strip_cells-part src from (to - from) xs)
+
+pub cells_cut : (src : Sources) (cut : Cutting) (from to : ℕ) (xs : List Item)
+    → trimmed (strip_cells src (cut_items cut from to xs)) ≡ cut_cells cut from to (strip_cells src xs)
+cells_cut src Delete from to xs = ap trimmed (cells_without src from to xs)
+cells_cut src SplitDelete from to xs = ap trimmed (cells_with_gaps src from to xs)
+cells_cut src Trim from to xs = ap trimmed (cells_only_part src from to xs)
 
 pub cells_with_change : (src : Sources) (change : Change) (from to : ℕ) (xs : List Item) → AllOld xs
     → strip_cells src (with_change change from to xs) ≡ take from (strip_cells src xs)

@@ -1,28 +1,17 @@
 -- What the strips of edits are: parts of old blocks, few of which have to be laid out anew.
-use Rattle.std.proofs.Common.{◌≡◌, ℕ, zero, suc, ◌+◌, ◌-◌, ◌≤◌, inl, inr, min, true, false, List, [], ◌∷◌, ◌++◌, map}
-use Rattle.std.proofs.Common.{refl, sym, subst, arith}
-use Rattle.std.proofs.lemmas.Bool.{cases_lt}
-use Rattle.std.proofs.lemmas.List.Elements.{Contains-append_left, Contains-append_right}
-use Rattle.std.specs.Prelude.{Contains}
-use Rattle.pcm_base.specs.{declared.block.BlockRef.BlockRef, declared.piece.Piece.Piece}
-use Rattle.pcm_base.specs.declared.piece.Piece.TheVariants.{Old, Scaled, Zero, Given}
-use Rattle.block_sequence.specs.Origins.{IsFrom}
+use Rattle.edit_ops.proofs.Common.{◌≡◌, ℕ, zero, suc, ◌+◌, ◌-◌, ◌≤◌, inl, inr, min, true, false, List, [], ◌∷◌, ◌++◌}
+use Rattle.edit_ops.proofs.Common.{map, refl, sym, subst, arith, cases_lt, Contains-append_left, Contains-append_right}
+use Rattle.edit_ops.proofs.Common.{Contains, BlockRef, Piece, Old, Scaled, Zero, Given, IsFrom, Gap, Sound, clip_end}
+use Rattle.edit_ops.proofs.Common.{sound_items, items_from, layout_blocks, item_len, strip_len, part_of_item}
+use Rattle.edit_ops.proofs.Common.{part_items, gap_items, IsItem, AreItems, ItemsFit, rough_items, ItemsShort, Item}
+use Rattle.edit_ops.proofs.Common.{Clip, part_none, part_past, part_within, ItemsFit-append, ItemsFit-part}
+use Rattle.edit_ops.proofs.Common.{ItemsFit-gap, rough-append, rough_front, rough_back, rough_middle, rough_only_gap}
+use Rattle.edit_ops.proofs.Common.{rough_three, ItemsShort-append, ItemsShort-part, short_gap, piece_change}
+use Rattle.edit_ops.proofs.Common.{item_change, rest_items, front_items, without, with_gaps, only_part, with_inserted}
+use Rattle.edit_ops.proofs.Common.{given_items, with_change, cut_items, IsItemFrom, ItemsFrom, Cutting, Delete}
+use Rattle.edit_ops.proofs.Common.{SplitDelete, Trim, Change, Silence, Gain}
 use Rattle.block_sequence.proofs.Origins.{IsFrom-part}
-use Rattle.clip_track.specs.declared.items.Item.TheVariants.{Gap, Sound}
-use Rattle.clip_track.specs.Clips.{clip_end, sound_items, items_from, layout_blocks}
-use Rattle.clip_track.specs.Items.{item_len, strip_len, part_of_item, part_items, gap_items, IsItem, AreItems, ItemsFit}
-use Rattle.clip_track.specs.Rough.{rough_items, ItemsShort}
-use Rattle.clip_track.specs.{declared.items.Item.Item, declared.clips.Clip.Clip}
-use Rattle.clip_track.proofs.Strips.{part_none, part_past, part_within, ItemsFit-append, ItemsFit-part}
-use Rattle.clip_track.proofs.Layouts.{ItemsFit-gap}
-use Rattle.clip_track.proofs.RoughStrips.{rough-append, rough_front, rough_back, rough_middle, rough_only_gap}
-use Rattle.clip_track.proofs.RoughStrips.{rough_three, rough_end}
-use Rattle.clip_track.proofs.ShortStrips.{ItemsShort-append, ItemsShort-part, short_gap}
-use Rattle.edit_ops.specs.Changes.{piece_change, item_change}
-use Rattle.edit_ops.specs.Strips.{rest_items, front_items, without, with_gaps, only_part, with_inserted, given_items}
-use Rattle.edit_ops.specs.Strips.{with_change, IsItemFrom, ItemsFrom}
-use Rattle.edit_ops.specs.{declared.changing.Change.Change, declared.changing.Change.TheVariants.Silence}
-use Rattle.edit_ops.specs.declared.changing.Change.TheVariants.{Gain}
+use Rattle.clip_track.proofs.RoughStrips.{rough_end}
 use Rattle.edit_ops.proofs.ChangedItems.{ItemsFit_change}
 
 -- at block size m the items are parts of these blocks, of at most m samples, and at most n are to be laid out anew
@@ -83,7 +72,7 @@ pub ItemsFrom-layout : (count : ℕ) (cs : List Clip) → ItemsFrom (layout_bloc
 ItemsFrom-layout count cs = clips_from (layout_blocks cs) count 0 cs (λ b h. h)
 
 -- a delete
-pub tame_without : (m : ℕ) (old : List BlockRef) (from to : ℕ) (xs : List Item) → AreItems xs → Tame m old 0 xs
+tame_without : (m : ℕ) (old : List BlockRef) (from to : ℕ) (xs : List Item) → AreItems xs → Tame m old 0 xs
     → Tame m old 2 (without from to xs)
 tame_without m old from to xs v t = record {
   fit = ItemsFit-append m (part_items 0 from xs) (rest_items to xs) (ItemsFit-part m 0 from xs t.fit)
@@ -102,7 +91,7 @@ tame_without m old from to xs v t = record {
 }
 
 -- a range made gaps
-pub tame_with_gaps : (m : ℕ) (old : List BlockRef) (from to : ℕ) (xs : List Item) → AreItems xs → Tame m old 0 xs
+tame_with_gaps : (m : ℕ) (old : List BlockRef) (from to : ℕ) (xs : List Item) → AreItems xs → Tame m old 0 xs
     → Tame m old 2 (with_gaps from to xs)
 tame_with_gaps m old from to xs v t =
     let a = part_items 0 from xs in
@@ -128,7 +117,7 @@ tame_with_gaps m old from to xs v t =
     }
 
 -- a trim
-pub tame_only_part : (m : ℕ) (old : List BlockRef) (from to : ℕ) (xs : List Item) → AreItems xs → Tame m old 0 xs
+tame_only_part : (m : ℕ) (old : List BlockRef) (from to : ℕ) (xs : List Item) → AreItems xs → Tame m old 0 xs
     → Tame m old 2 (only_part from to xs)
 tame_only_part m old from to xs v t =
     let a = gap_items from in
@@ -148,12 +137,26 @@ tame_only_part m old from to xs v t =
       );
     }
 
+tame_cut_items : (m : ℕ) (old : List BlockRef) (cut : Cutting) (from to : ℕ) (xs : List Item) → AreItems xs
+    → Tame m old 0 xs → Tame m old 2 (cut_items cut from to xs)
+tame_cut_items m old Delete = tame_without m old
+tame_cut_items m old SplitDelete = tame_with_gaps m old
+tame_cut_items m old Trim = tame_only_part m old
+
 -- the strip of a layout, as its contract says it
 pub tame_layout : (m : ℕ) (cs : List Clip) (xs : List Item) → xs ≡ items_from 0 cs → ItemsFit m xs → ItemsShort m xs
     → rough_items m true true xs ≡ 0 → Tame m (layout_blocks cs) 0 xs
 tame_layout m cs xs e fit short smooth =
     let P : List Item → Type 0 = ItemsFrom (layout_blocks cs) 0 in
     record { fit = fit; short = short; origin = subst P (sym e) (ItemsFrom-layout 0 cs); few_rough = omega arith }
+
+-- that strip, cut
+pub tame_cut : (m : ℕ) (cut : Cutting) (from to : ℕ) (cs : List Clip) (xs ys : List Item) → xs ≡ items_from 0 cs
+    → AreItems xs → ItemsFit m xs → ItemsShort m xs → rough_items m true true xs ≡ 0 → ys ≡ cut_items cut from to xs
+    → Tame m (layout_blocks cs) 2 ys
+tame_cut m cut from to cs xs ys e v fit short smooth is =
+    let P : List Item → Type 0 = Tame m (layout_blocks cs) 2 in
+    subst P (sym is) (tame_cut_items m _ cut from to xs v (tame_layout m cs xs e fit short smooth))
 
 -- an insertion
 pub fit_inserted : (m at : ℕ) (ys xs : List Item) → ItemsFit m xs → ItemsFit m ys → ItemsFit m (with_inserted at ys xs)

@@ -2,11 +2,13 @@
 use Rattle.std.specs.Prelude.{ℕ, zero, suc, ◌+◌, ◌-◌, ◌≤◌, min, false, List, [], ◌∷◌, ◌++◌, map}
 use Rattle.pcm_base.specs.declared.block.BlockRef.{BlockRef}
 use Rattle.pcm_base.specs.declared.piece.Piece.TheVariants.{Old, Scaled, Zero, Given}
+use Rattle.pcm_base.specs.{declared.sound.Cell.Cell, Edits.deleted, Edits.split_deleted, Edits.kept_only}
 use Rattle.block_sequence.specs.Origins.{IsFrom}
 use Rattle.clip_track.specs.Items.{strip_len, part_items, gap_items, ItemsFit}
 use Rattle.clip_track.specs.{declared.items.Item.Item, declared.items.Item.TheVariants.Gap}
 use Rattle.clip_track.specs.{declared.items.Item.TheVariants.Sound, Rough.rough_items, Rough.ItemsShort}
-use Rattle.edit_ops.specs.{declared.changing.Change.Change, Changes.item_change}
+use Rattle.edit_ops.specs.{declared.changing.Change.Change, Changes.item_change, declared.strips.Cutting.Cutting}
+use Rattle.edit_ops.specs.declared.strips.Cutting.TheVariants.{Delete, SplitDelete, Trim}
 
 -- all from a place on
 abbrev pub rest_items : ℕ → List Item → List Item
@@ -23,6 +25,23 @@ with_gaps from to xs = part_items 0 from xs ++ gap_items (min (to - from) (strip
 -- with gaps in the place of all but a range
 abbrev pub only_part : ℕ → ℕ → List Item → List Item
 only_part from to xs = gap_items from ++ part_items from (to - from) xs
+
+-- what each way of cutting makes of a strip, and of its cells
+abbrev pub cut_items : Cutting → ℕ → ℕ → List Item → List Item
+cut_items Delete = without
+cut_items SplitDelete = with_gaps
+cut_items Trim = only_part
+
+abbrev pub cut_cells : Cutting → ℕ → ℕ → List Cell → List Cell
+cut_cells Delete = deleted
+cut_cells SplitDelete = split_deleted
+cut_cells Trim = kept_only
+
+-- a trim's range is within the track
+abbrev pub CutsWithin : Cutting → ℕ → ℕ → Type 0
+CutsWithin Delete to len = Unit {0}
+CutsWithin SplitDelete to len = Unit {0}
+CutsWithin Trim to len = to ≤ len
 
 -- with each sample of a range changed
 abbrev pub with_change : Change → ℕ → ℕ → List Item → List Item

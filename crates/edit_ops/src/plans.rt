@@ -9,52 +9,34 @@ ghost use Rattle.clip_track.specs.Clips.{end_of, layout_cells, AllHalfFull, layo
 ghost use Rattle.edit_ops.specs.Changes.{cell_change};
 ghost use Rattle.pcm_base.specs.Sizes.{sample_count, clip_count};
 ghost use Rattle.edit_ops.specs.Plans.{IsPlan, Means, start_of};
+ghost use Rattle.edit_ops.specs.Strips.{CutsWithin, cut_cells};
 
 use super::changing::Change;
 use super::planner::Planner;
 use super::planning::plan_strip;
 use super::strips;
+use super::strips::Cutting;
 use super::types::Plan;
 use clip_track::Layout;
 use pcm_base::{NoMemory, RangeEdit};
 
-/// Without a range, which may end, or begin, beyond the track.
-pub fn plan_without(planner: Planner, t: &Layout, from: u64, to: u64) -> Result<Plan, NoMemory>
+/// With a range cut, which may end, or begin, beyond the track; a trim's range is within it.
+pub fn plan_cut(
+    planner: Planner,
+    t: &Layout,
+    cut: Cutting,
+    from: u64,
+    to: u64,
+) -> Result<Plan, NoMemory>
     requires half_full { AllHalfFull planner.block_size t.now }
     requires rising { from ≤ to }
+    requires within { CutsWithin cut to (end_of 0 t.now) }
     ensures plan { IfOk result (λ p. IsPlan (start_of planner) (layout_blocks t.now) 0 p) }
-    ensures cells { IfOk result (λ p. Means (λ src. edits.deleted from to) t.now p) }
+    ensures cells { IfOk result (λ p. Means (λ src. cut_cells cut from to) t.now p) }
     ensures few_made { IfOk result (λ p. length p.makes ≤ 8) }
 {
     let whole = t.to_strip()?;
-    let strip = strips::without(planner.alloc, &whole, from, to)?;
-    Ok(plan_strip(planner, &strip)?)
-}
-
-/// With gaps in the place of a range, which may end, or begin, beyond the track.
-pub fn plan_with_gaps(planner: Planner, t: &Layout, from: u64, to: u64) -> Result<Plan, NoMemory>
-    requires half_full { AllHalfFull planner.block_size t.now }
-    requires rising { from ≤ to }
-    ensures plan { IfOk result (λ p. IsPlan (start_of planner) (layout_blocks t.now) 0 p) }
-    ensures cells { IfOk result (λ p. Means (λ src. edits.split_deleted from to) t.now p) }
-    ensures few_made { IfOk result (λ p. length p.makes ≤ 8) }
-{
-    let whole = t.to_strip()?;
-    let strip = strips::with_gaps(planner.alloc, &whole, from, to)?;
-    Ok(plan_strip(planner, &strip)?)
-}
-
-/// With gaps in the place of all but a range of the track.
-fn plan_only_part(planner: Planner, t: &Layout, from: u64, to: u64) -> Result<Plan, NoMemory>
-    requires half_full { AllHalfFull planner.block_size t.now }
-    requires rising { from ≤ to }
-    requires within { to ≤ end_of 0 t.now }
-    ensures plan { IfOk result (λ p. IsPlan (start_of planner) (layout_blocks t.now) 0 p) }
-    ensures cells { IfOk result (λ p. Means (λ src. edits.kept_only from to) t.now p) }
-    ensures few_made { IfOk result (λ p. length p.makes ≤ 8) }
-{
-    let whole = t.to_strip()?;
-    let strip = strips::only_part(planner.alloc, &whole, from, to)?;
+    let strip = strips::cut(planner.alloc, &whole, cut, from, to)?;
     Ok(plan_strip(planner, &strip)?)
 }
 
@@ -96,10 +78,10 @@ pub fn plan_edited(
         length p.makes ≤ blocks_of_edit edit planner.block_size (edits.part from to (layout_cells src t.now))) }
 {
     match edit {
-        RangeEdit::Delete => plan_without(planner, t, from, to),
-        RangeEdit::SplitDelete => plan_with_gaps(planner, t, from, to),
+        RangeEdit::Delete => plan_cut(planner, t, Cutting::Delete, from, to),
+        RangeEdit::SplitDelete => plan_cut(planner, t, Cutting::SplitDelete, from, to),
         RangeEdit::Silence => plan_with_change(planner, t, from, to, Change::Silence),
-        RangeEdit::Trim => plan_only_part(planner, t, from, to),
+        RangeEdit::Trim => plan_cut(planner, t, Cutting::Trim, from, to),
         RangeEdit::Gain { gain } => plan_with_change(planner, t, from, to, Change::Gain { gain }),
     }
 }

@@ -6,7 +6,8 @@ ghost use Rattle.edit_ops.specs.Plans.{start_of};
 ghost use Rattle.edit_ops.specs.Runs.{IsCut};
 
 use super::planner::Planner;
-use super::plans::{plan_with_gaps, plan_without};
+use super::plans::plan_cut;
+use super::strips::Cutting;
 use super::types::Plan;
 use clip_track::Layout;
 use pcm_base::{NoMemory, Removing};
@@ -24,7 +25,7 @@ pub fn plan_removal(
     ensures { IfOk result (λ p. IsCut (removed removing from to) (start_of planner) t.now p) }
 {
     match removing {
-        Removing::Close => Ok(plan_without(planner, t, from, to)?),
-        Removing::Leave => Ok(plan_with_gaps(planner, t, from, to)?),
+        Removing::Close => Ok(plan_cut(planner, t, Cutting::Delete, from, to)?),
+        Removing::Leave => Ok(plan_cut(planner, t, Cutting::SplitDelete, from, to)?),
     }
 }

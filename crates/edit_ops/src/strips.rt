@@ -10,8 +10,19 @@ use clip_track::{Item, Strip, append_gap, append_part, append_piece};
 use pcm_base::{NoMemory, Piece};
 use std::alloc::{AllocError, Global};
 
+/// How a range of a track is cut.
+#[derive(Clone, Copy, Debug)]
+pub enum Cutting {
+    /// It is deleted.
+    Delete,
+    /// It becomes gaps.
+    SplitDelete,
+    /// All but the range becomes gaps, as far as the range goes.
+    Trim,
+}
+
 /// Without the cells of a range, as much of it as is there.
-pub fn without(alloc: Global, whole: &Strip, from: u64, to: u64) -> Result<Strip, NoMemory>
+fn without(alloc: Global, whole: &Strip, from: u64, to: u64) -> Result<Strip, NoMemory>
     requires { from ≤ to }
     ensures items { IfOk result (λ s. s ≡ strips.without from to whole.now) }
     ensures len { IfOk result (λ s. strip_len s ≤ strip_len whole.now) }
@@ -23,7 +34,7 @@ pub fn without(alloc: Global, whole: &Strip, from: u64, to: u64) -> Result<Strip
 }
 
 /// With gaps in the place of a range, as much of it as is there.
-pub fn with_gaps(alloc: Global, whole: &Strip, from: u64, to: u64) -> Result<Strip, NoMemory>
+fn with_gaps(alloc: Global, whole: &Strip, from: u64, to: u64) -> Result<Strip, NoMemory>
     requires { from ≤ to }
     ensures items { IfOk result (λ s. s ≡ strips.with_gaps from to whole.now) }
     ensures len { IfOk result (λ s. strip_len s ≤ strip_len whole.now) }
@@ -37,7 +48,7 @@ pub fn with_gaps(alloc: Global, whole: &Strip, from: u64, to: u64) -> Result<Str
 }
 
 /// With gaps in the place of all but a range.
-pub fn only_part(alloc: Global, whole: &Strip, from: u64, to: u64) -> Result<Strip, NoMemory>
+fn only_part(alloc: Global, whole: &Strip, from: u64, to: u64) -> Result<Strip, NoMemory>
     requires rising { from ≤ to }
     requires within { to ≤ strip_len whole.now }
     ensures items { IfOk result (λ s. s ≡ strips.only_part from to whole.now) }
@@ -47,6 +58,26 @@ pub fn only_part(alloc: Global, whole: &Strip, from: u64, to: u64) -> Result<Str
     append_gap(&mut out, from)?;
     append_part(&mut out, whole.as_slice(), from, to - from)?;
     Ok(Strip::from_items(out))
+}
+
+/// With a range cut.
+pub fn cut(
+    alloc: Global,
+    whole: &Strip,
+    cut: Cutting,
+    from: u64,
+    to: u64,
+) -> Result<Strip, NoMemory>
+    requires rising { from ≤ to }
+    requires within { strips.CutsWithin cut to (strip_len whole.now) }
+    ensures items { IfOk result (λ s. s ≡ strips.cut_items cut from to whole.now) }
+    ensures len { IfOk result (λ s. strip_len s ≤ strip_len whole.now) }
+{
+    match cut {
+        Cutting::Delete => without(alloc, whole, from, to),
+        Cutting::SplitDelete => with_gaps(alloc, whole, from, to),
+        Cutting::Trim => only_part(alloc, whole, from, to),
+    }
 }
 
 /// The part from one place to another.

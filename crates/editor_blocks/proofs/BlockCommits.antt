@@ -1,27 +1,23 @@
 -- A commit after blocks that were made for it.
-use Rattle.std.proofs.Common.{ℤ, ◌≡◌, inl, inr, ⊎_elim, ap, ◌∙◌, subst, ℕ, ◌+◌, ◌^◌, ◌≤◌, None, List, [], length}
-use Rattle.std.proofs.Common.{Result, Ok, Err, IfErr, OnErr, arith}
+use Rattle.editor_blocks.proofs.Common.{ℤ, ◌≡◌, inl, inr, ⊎_elim, ap, ◌∙◌, subst, ℕ, ◌+◌, ◌^◌, ◌≤◌, None, List, []}
+use Rattle.editor_blocks.proofs.Common.{length, Result, Ok, Err, arith, AllByRecursion, Answers, outside, Reply}
+use Rattle.editor_blocks.proofs.Common.{BlockRef, Call, SoundMove, Refusal, Needs, Files, Ghosts, IsWhole, EachSince}
+use Rattle.editor_blocks.proofs.Common.{Keeps, NewBlock, AreNew, ref_of, CountsIds, Left, IsGiven, IsHeld, IsStudio}
+use Rattle.editor_blocks.proofs.Common.{shown, studio_of, Took, with_sound, Core, PiecesThere, batch_of, ids_from}
+use Rattle.editor_blocks.proofs.Common.{AreSynced, Making, Needed, RemovesNone, stopped_not, all_so}
+use Rattle.std.proofs.Common.{IfErr, OnErr}
 use Rattle.std.proofs.lemmas.List.{take_all}
-use Rattle.std.specs.{List.AllByRecursion, Prelude.IfOk}
-use Rattle.pcm_base.specs.Run.{Answers, CarriesOut, followed, outside}
-use Rattle.pcm_base.specs.{declared.answer.Reply.Reply, declared.answer.Reply.TheVariants.Done}
-use Rattle.pcm_base.specs.{declared.block.BlockRef.BlockRef, declared.command.Call.Call}
-use Rattle.pcm_base.specs.{declared.entry.SoundMove.SoundMove, declared.refusal.Refusal.Refusal, Counters.Needs}
-use Rattle.disk_model.specs.{Disk.Files, declared.store.Store.Ghosts}
+use Rattle.std.specs.{Prelude.IfOk}
+use Rattle.pcm_base.specs.Run.{CarriesOut, followed}
+use Rattle.pcm_base.specs.{declared.answer.Reply.TheVariants.Done}
 use Rattle.disk_model.proofs.Moments.{each_on}
-use Rattle.sample_block.specs.Sources.{IsWhole}
-use Rattle.project_journal.specs.Gate.{EachSince}
-use Rattle.record_body.specs.Saved.{Keeps}
-use Rattle.edit_ops.specs.{declared.types.NewBlock.NewBlock, Plans.AreNew, Plans.ref_of}
-use Rattle.editor_state.specs.Left.{CountsIds, Left, Stops, Untouched}
-use Rattle.editor_state.specs.Studios.{IsGiven, IsHeld, IsStudio, shown, studio_of}
-use Rattle.editor_state.specs.Took.{KeepsOneOf, Took, number_behind, with_sound}
-use Rattle.editor_state.specs.{Core.Core, Made.PiecesThere, Made.batch_of, Made.ids_from, Makes.AreSynced, Makes.Making}
-use Rattle.editor_state.specs.{Purges.Purges, Records.Records, Spent.NamesGiven, Spent.Needed}
+use Rattle.editor_state.specs.Left.{Stops, Untouched}
+use Rattle.editor_state.specs.Took.{KeepsOneOf, number_behind}
+use Rattle.editor_state.specs.{Purges.Purges, Records.Records, Spent.NamesGiven}
 use Rattle.model_laws.proofs.Answered.{answered_same, done_stays}
-use Rattle.editor_state.proofs.Calls.FileRemovals.{PacksNone, RemovesNone, frees_none}
-use Rattle.editor_state.proofs.Refusals.EarlyRefusals.{HasMade, stopped_not}
-use Rattle.editor_state.proofs.{Lists.all_so, Calls.CallPremises.TookWhere}
+use Rattle.editor_state.proofs.Calls.FileRemovals.{PacksNone, frees_none}
+use Rattle.editor_state.proofs.Refusals.EarlyRefusals.{HasMade}
+use Rattle.editor_state.proofs.{Calls.CallPremises.TookWhere}
 use Rattle.editor_blocks.proofs.StudioBlocks.{IsNewId, are_made, keeps_outside, made_state, refs, refs_all, refs_ids}
 use Rattle.editor_blocks.proofs.{BlocksWritten.making_next, BlocksLeft.all_changed}
 use Rattle.pcm_base.specs.Studio as model

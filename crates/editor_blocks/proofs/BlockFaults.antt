@@ -1,23 +1,20 @@
 -- A making of blocks that failed.
-use Rattle.std.proofs.Common.{ℤ, ◌≡◌, ◌⊎◌, ◌<◌, inl, inr, ⊎_elim, refl, sym, ap, ◌∙◌, subst, ℕ, ◌+◌, ◌^◌, ◌≤◌, IsTrue}
-use Rattle.std.proofs.Common.{None, List, length, Err, true, arith}
-use Rattle.pcm_base.specs.Run.{Answers, Leaves, may_change, outside}
-use Rattle.pcm_base.specs.{declared.command.Call.Call, declared.entry.SoundMove.SoundMove}
-use Rattle.pcm_base.specs.{declared.refusal.Refusal.Refusal, declared.wav.WavFault.TheVariants.Truncated}
-use Rattle.pcm_base.specs.{Counters.Needs, declared.limits.TheConstants.LONGEST_BODY}
-use Rattle.disk_model.specs.{Disk.StaysStep, Frames.Changed, Room.together, declared.store.Store.Ghosts}
-use Rattle.sample_block.specs.Spelling.{size_of}
-use Rattle.edit_ops.specs.{declared.types.NewBlock.NewBlock, Plans.AllNewFrom, Plans.AreNew}
-use Rattle.editor_state.specs.Made.{PiecesThere, SameOutside, batch_of}
-use Rattle.editor_state.specs.Makes.{HasMissed, Making, Stuck, Unput, Unread, made_room, one_call, OrCut}
-use Rattle.editor_state.specs.Studios.{IsHeld, IsStudio, named_blocks, studio_of}
-use Rattle.editor_state.specs.{Adding.stopped_by, Core.Core, Edits.Serves, Exchanges.may_have_begun}
-use Rattle.editor_state.specs.{Exchanges.reads_sound, Left.IsSoOf, Took.Took, Took.with_sound, Spent.Needed}
+use Rattle.editor_blocks.proofs.Common.{rules, ℤ, ◌≡◌, ◌⊎◌, ◌<◌, inl, inr, ⊎_elim, refl, sym, ap, ◌∙◌, subst, ℕ, ◌+◌}
+use Rattle.editor_blocks.proofs.Common.{◌^◌, ◌≤◌, IsTrue, None, List, length, Err, true, arith, Answers, outside, Call}
+use Rattle.editor_blocks.proofs.Common.{SoundMove, Refusal, Truncated, Needs, StaysStep, Changed, together, Ghosts}
+use Rattle.editor_blocks.proofs.Common.{size_of, NewBlock, AllNewFrom, AreNew, PiecesThere, SameOutside, batch_of}
+use Rattle.editor_blocks.proofs.Common.{HasMissed, Making, Stuck, Unput, Unread, made_room, one_call, IsHeld, IsStudio}
+use Rattle.editor_blocks.proofs.Common.{named_blocks, studio_of, stopped_by, Core, IsSoOf, Took, with_sound, Needed}
+use Rattle.editor_blocks.proofs.Common.{RemovesNone, stopped_not, same_studio}
+use Rattle.pcm_base.specs.Run.{Leaves, may_change}
+use Rattle.pcm_base.specs.{declared.limits.TheConstants.LONGEST_BODY}
+use Rattle.editor_state.specs.Makes.{OrCut}
+use Rattle.editor_state.specs.{Edits.Serves, Exchanges.may_have_begun, Exchanges.reads_sound}
 use Rattle.editor_state.proofs.Refusals.PurgeNumbers.{begun_purges, other_purges}
-use Rattle.editor_state.proofs.Calls.FileRemovals.{RemovesNone, broken_begins, cut_begins, frees_refused, names_sound}
+use Rattle.editor_state.proofs.Calls.FileRemovals.{broken_begins, cut_begins, frees_refused, names_sound}
 use Rattle.editor_state.proofs.Calls.FileRemovals.{begun_untouched}
-use Rattle.editor_state.proofs.Refusals.EarlyRefusals.{some_none, stopped_not}
-use Rattle.editor_state.proofs.{Images.ImageProjects.keeps_now, Images.SameMeaning.same_studio}
+use Rattle.editor_state.proofs.Refusals.EarlyRefusals.{some_none}
+use Rattle.editor_state.proofs.{Images.ImageProjects.keeps_now}
 use Rattle.editor_blocks.proofs.BlocksWritten.{making_unread}
 use Rattle.editor_blocks.proofs.BlocksLeft.{damaged_so, missed_so, some_changed, some_ids, some_left, some_stop}
 use Rattle.editor_blocks.proofs.BlocksLeft.{unput_changed, unput_failed, unput_files, unput_here, unput_ids, unput_is}
@@ -254,10 +251,7 @@ module _ {D : Type 0} (disk : Ghosts D) (s : Core D) (is : IsStudio disk s) (giv
         (λ un. unread stuck.made stuck.mid new stuck.before stuck.few stuck.read_faults un.0 un.1)
         (λ un. unput stuck.made stuck.mid new stuck.before stuck.few stuck.left stuck.read_faults un)
         stuck.by
-    not_made (refusal.Damaged file at want have) new stuck serves =
-        damaged stuck.made stuck.mid new stuck.before stuck.few stuck.read_faults stuck.by.0 file at want have
-        stuck.by.1
-        (damaged_so disk s given makes most c sound count is origin (refusal.Damaged file at want have) new stuck)
+    not_made (refusal.Damaged file at want have) new stuck serves = search (rules, damaged, damaged_so)
     not_made refusal.VaultFault new stuck serves =
         vault stuck.made stuck.mid new stuck.before stuck.few stuck.read_faults stuck.by.0 serves stuck.by.1
     not_made (refusal.BadWav (Truncated want have)) new stuck serves = tt

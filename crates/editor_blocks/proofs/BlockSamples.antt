@@ -1,16 +1,11 @@
 -- New blocks of which it is supposed that they are made: samples for their ids, as their pieces say.
-use Rattle.std.proofs.Common.{◌≡◌, refl, sym, ap, ap₂, ◌∙◌, ℕ, ◌+◌, ◌≤◌, ◌<◌, nat_lt, ◌==◌, Bool, false, if◌then◌else◌}
-use Rattle.std.proofs.Common.{ℤ, pos, List, [], ◌∷◌, ◌++◌, length, get_or, arith}
-use Rattle.std.proofs.lemmas.Bool.{eq-eqb, ne_eqb, lt-ltb, le-ltb}
-use Rattle.std.specs.List.{AllByRecursion}
-use Rattle.pcm_base.specs.declared.piece.Piece.TheVariants.{Old, Scaled, Zero, Given}
-use Rattle.pcm_base.specs.Pieces.{Sources, stretch, samples_of, all_samples}
-use Rattle.pcm_base.specs.{declared.block.BlockRef.BlockRef, declared.piece.Piece.Piece}
-use Rattle.pcm_base.proofs.Pieces.{length-all_samples, stretch_list}
-use Rattle.block_sequence.specs.Origins.{AllFrom}
-use Rattle.edit_ops.specs.{declared.types.NewBlock.NewBlock, Plans.AreNew, Plans.AreWritten, Plans.AllNewFrom}
-use Rattle.editor_state.specs.Edits.{beside}
-use Rattle.editor_state.proofs.Blocks.BlockLists.{contained}
+use Rattle.editor_blocks.proofs.Common.{rules, ◌≡◌, refl, sym, ap, ap₂, ◌∙◌, ℕ, ◌+◌, ◌≤◌, ◌<◌, Bool, false}
+use Rattle.editor_blocks.proofs.Common.{if◌then◌else◌, ℤ, pos, List, [], ◌∷◌, ◌++◌, length, get_or, arith, eq-eqb}
+use Rattle.editor_blocks.proofs.Common.{AllByRecursion, Old, Scaled, Zero, Given, Sources, stretch, samples_of}
+use Rattle.editor_blocks.proofs.Common.{all_samples, BlockRef, Piece, length-all_samples, stretch_list, AllFrom}
+use Rattle.editor_blocks.proofs.Common.{NewBlock, AreNew, AreWritten, AllNewFrom, beside, contained}
+use Rattle.std.proofs.Common.{nat_lt, ◌==◌}
+use Rattle.std.proofs.lemmas.Bool.{ne_eqb, lt-ltb, le-ltb}
 
 -- the samples of the new block with this id
 abbrev made_samples : Sources → List NewBlock → ℕ → List ℤ
@@ -60,10 +55,7 @@ module _ (block : ℕ → ℕ → ℤ) (given : ℕ → ℤ) (next : ℕ) (all :
 
     hides_more : (from : ℕ) (b : NewBlock) (bs : List NewBlock) → b.id ≡ from → Hides from (b ∷ bs)
         → Hides (from + 1) bs
-    hides_more from b bs is hides id least =
-        hides id (omega (arith, least))
-        ∙ ap (λ (e : Bool). if e then all_samples was b.pieces else made_samples was bs id)
-        (ne_eqb b.id id (λ e. absurd (omega (arith, e, is, least))))
+    hides_more from b bs is hides id least = search (rules, ne_eqb)
 
     written_from : (m from : ℕ) (bs : List NewBlock) → next ≤ from → AreNew m from bs → AllNewFrom old count bs
         → Hides from bs → AreWritten now bs

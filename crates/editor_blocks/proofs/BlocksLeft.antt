@@ -1,22 +1,19 @@
 -- What blocks that were made, and then a record or a fault, leave of other files and of a studio that refuses.
-use Rattle.std.proofs.Common.{ℤ, ◌≡◌, ◌⊎◌, inl, inr, ⊎_elim, refl, sym, ap, ◌∙◌, subst, ℕ, ◌+◌, ◌-◌, ◌^◌, ◌≤◌, ◌<◌}
-use Rattle.std.proofs.Common.{IsTrue, List, [], length, Result, Err, arith}
-use Rattle.pcm_base.specs.{declared.block.BlockRef.BlockRef, declared.answer.Reply.Reply, declared.command.Call.Call}
-use Rattle.pcm_base.specs.{declared.entry.SoundMove.SoundMove, declared.refusal.Refusal.Refusal, Counters.places_of}
-use Rattle.disk_model.specs.{Disk.Files, Disk.StaysStep, Frames.Changed, Room.files_made, Room.together}
-use Rattle.disk_model.specs.{declared.store.Store.Ghosts}
-use Rattle.disk_model.proofs.Frames.{changed_then_stays, changed_turn, changed_wider}
-use Rattle.sample_block.specs.Spelling.{size_of}
-use Rattle.block_ledger.specs.Counts.{Counts}
+use Rattle.editor_blocks.proofs.Common.{rules, ℤ, ◌≡◌, ◌⊎◌, inl, inr, ⊎_elim, refl, sym, ap, ◌∙◌, subst, ℕ, ◌+◌, ◌^◌}
+use Rattle.editor_blocks.proofs.Common.{◌≤◌, ◌<◌, IsTrue, List, [], length, Result, Err, arith, BlockRef, Reply, Call}
+use Rattle.editor_blocks.proofs.Common.{SoundMove, Refusal, Files, StaysStep, Changed, together, Ghosts}
+use Rattle.editor_blocks.proofs.Common.{changed_then_stays, changed_turn, changed_wider, size_of, Counts, NewBlock}
+use Rattle.editor_blocks.proofs.Common.{AllNewFrom, HasMissed, Making, Stuck, Unput, made_room, one_call, HasFailed}
+use Rattle.editor_blocks.proofs.Common.{stopped_by, Core, CountsIds, IsSoOf, Left, SameOutside, batch_of, IsGiven}
+use Rattle.editor_blocks.proofs.Common.{IsStudio, named_blocks, asks, with_sound, contained}
+use Rattle.std.proofs.Common.{◌-◌}
+use Rattle.pcm_base.specs.{Counters.places_of}
+use Rattle.disk_model.specs.{Room.files_made}
 use Rattle.envelope_view.specs.Answers.{IsDamagedIn}
-use Rattle.edit_ops.specs.{declared.types.NewBlock.NewBlock, Plans.AllNewFrom}
-use Rattle.editor_state.specs.Makes.{HasMissed, Making, Stuck, Unput, made_room, one_call}
-use Rattle.editor_state.specs.{Adding.HasFailed, Adding.stopped_by, Core.Core, Left.CountsIds, Left.IsSoOf, Left.Left}
-use Rattle.editor_state.specs.{Left.LeavesOthers, Left.MayRemove, Made.SameOutside, Made.batch_of, Packing.packed_by}
-use Rattle.editor_state.specs.{Studios.IsGiven, Studios.IsStudio, Studios.named_blocks, Took.asks, Took.with_sound}
+use Rattle.editor_state.specs.{Left.LeavesOthers, Left.MayRemove, Packing.packed_by}
 use Rattle.editor_state.proofs.Blocks.BlockDamage.{damage_named, from_at}
 use Rattle.editor_state.proofs.Calls.OtherFiles.{Leaving, NoneGoes, others_made, others_then, others_wider}
-use Rattle.editor_state.proofs.{Blocks.BlockLists.contained, Calls.FileRemovals.ids_made}
+use Rattle.editor_state.proofs.{Calls.FileRemovals.ids_made}
 use Rattle.editor_blocks.proofs.DiskCalls.{changed_told, within_last, within_some, within_then}
 use Rattle.editor_blocks.proofs.{BlocksWritten.making_next, BlocksWritten.making_size, BlockCounts.outside_then}
 use Rattle.pcm_base.specs.declared.refusal.Refusal.TheVariants as refusal
@@ -49,19 +46,7 @@ module _ {D : Type 0} (disk : Ghosts D) (s : Core D) (given : ℕ → ℤ) (make
   pub some_left : (k : ℕ) (new : Core D) → Making disk s (batch_of given makes) k new → (why : Refusal)
       → IsSoOf disk s new why
       → Left disk s new why
-  some_left k new making why so =
-      let next = making_next disk s given makes k new making in
-      let kept : new.cache ≡ s.cache = ap (λ (z : Core D). z.cache) making.is in
-      let stop = some_stop k new making in record {
-        same = making.is ∙ (λ i. record s {
-          store = new.store;
-          cache = sym kept i;
-          counts = new.counts;
-          next_block = sym next i;
-          stopped = sym stop i;
-        });
-        so = so;
-      }
+  some_left k new making why so = search (rules, making_next, some_stop)
 
   pub some_ids : (k : ℕ) (new : Core D) → Making disk s (batch_of given makes) k new → CountsIds s [] new
   some_ids k new making =
@@ -104,10 +89,7 @@ module _ {D : Type 0} (disk : Ghosts D) (s : Core D) (given : ℕ → ℤ) (make
 
     pub unput_files : Changed disk (SameOutside s.next_block (k + 1))
         (together (made_room (size_of s.block_size) k) (made_room (size_of mid.block_size) 1)) s.store new.store
-    unput_files =
-        changed_turn (λ d x w f apart. w f (⊎_elim (λ low. inl low) (λ high. inr (omega (arith, high))) apart))
-        (λ d e x w v. outside_then s.next_block k mid.next_block d e x (making_next disk s given makes k mid was) w v)
-        (record { files = omega arith; bytes = omega arith; calls = omega arith }) was.changed un.changed
+    unput_files = search (rules, changed_turn, outside_then, making_next)
 
     pub unput_changed : (len : ℕ) → Changed disk (LeavesOthers s.next_block unput_here.next_block may_go)
         (asks (with_sound c sound (Err refusal.DiskFault)) (disk.reads s.store s.file) s.block_size
@@ -130,10 +112,7 @@ module _ {D : Type 0} (disk : Ghosts D) (s : Core D) (given : ℕ → ℤ) (make
         left
 
     pub unput_failed : HasFailed disk s.store new.store
-    unput_failed = record {
-      rose = omega (arith, un.failed.rose, was.change_faults);
-      later = omega (arith, un.failed.later, was.change_faults);
-    }
+    unput_failed = search rules
 
     pub unput_left : Left disk s unput_here refusal.DiskFault
     unput_left = record { same = refl; so = inr unput_failed }
@@ -183,10 +162,7 @@ module _ {D : Type 0} (disk : Ghosts D) (s : Core D) (given : ℕ → ℤ) (make
       (record s { store = store; counts = counts; next_block = s.next_block + n }))
       (new : D) (failed : HasFailed disk store new) where
     pub all_failed : HasFailed disk s.store new
-    all_failed = record {
-      rose = omega (arith, failed.rose, making.change_faults);
-      later = omega (arith, failed.later, making.change_faults);
-    }
+    all_failed = search rules
 
     abbrev halted : Core D
     halted = stopped_by disk (record s { store = store; counts = counts; next_block = s.next_block + n }) new

@@ -1,28 +1,21 @@
 -- Blocks that are put one after another change nothing of those that are there.
-use Rattle.std.proofs.Common.{◌≡◌, ◌≢◌, ℕ, zero, suc, ◌+◌, ◌≤◌, ◌<◌, ◌⊎◌, inl, inr, ⊎_elim, ℤ, pos, List, [], ◌∷◌, ◌++◌}
-use Rattle.std.proofs.Common.{length, get_or, take, map, Option, Some, None, refl, sym, ap, ap₂, subst, ◌∙◌, arith}
-use Rattle.std.proofs.{lemmas.List.take_more, lemmas.Bool.cases_lt}
-use Rattle.std.specs.{Prelude.unwrap_or, List.AllByRecursion}
-use Rattle.pcm_base.specs.declared.piece.Piece.TheVariants.{Old, Scaled, Zero, Given}
+use Rattle.editor_blocks.proofs.Common.{rules, ◌≡◌, ℕ, zero, suc, ◌+◌, ◌≤◌, ◌<◌, ◌⊎◌, inl, inr, ⊎_elim, ℤ, pos, List}
+use Rattle.editor_blocks.proofs.Common.{[], ◌∷◌, ◌++◌, length, get_or, take, map, Option, Some, None, refl, sym, ap}
+use Rattle.editor_blocks.proofs.Common.{ap₂, subst, ◌∙◌, arith, take_more, cases_lt, AllByRecursion, Old, Scaled, Zero}
+use Rattle.editor_blocks.proofs.Common.{Given, Sources, stretch, samples_of, all_samples, total, BlockRef, Piece}
+use Rattle.editor_blocks.proofs.Common.{length-all_samples, stretch_list, Files, SameElsewhere, blocks, sources_with}
+use Rattle.editor_blocks.proofs.Common.{IsWhole, NewBlock, AreWritten, AreNew, ref_of, IsThere, AllThere, AreAbsent}
+use Rattle.editor_blocks.proofs.Common.{AreMade, PiecesThere, SameOutside, batch_of, ids_from}
+use Rattle.std.proofs.Common.{◌≢◌}
+use Rattle.std.specs.{Prelude.unwrap_or}
 use Rattle.pcm_base.specs.Arithmetic.{scaled, clamped}
-use Rattle.pcm_base.specs.Pieces.{Sources, stretch, samples_of, all_samples, total}
-use Rattle.pcm_base.specs.{declared.block.BlockRef.BlockRef, declared.piece.Piece.Piece}
-use Rattle.pcm_base.proofs.Pieces.{length-all_samples, stretch_list}
-use Rattle.disk_model.specs.Disk.{Files, SameElsewhere}
-use Rattle.sample_block.specs.{Blocks.blocks, Sources.samples_on, Sources.sources_with, Sources.IsWhole}
+use Rattle.sample_block.specs.{Sources.samples_on}
 use Rattle.sample_block.proofs.BlockLaws.{blocks_have}
-use Rattle.edit_ops.specs.{declared.types.NewBlock.NewBlock, Plans.AreWritten, Plans.AreNew, Plans.ref_of}
-use Rattle.block_writer.specs.Reading.{IsThere, AllThere}
-use Rattle.editor_state.specs.Made.{AreAbsent, AreMade, PiecesThere, SameOutside, batch_of, ids_from}
 use Rattle.editor_state.proofs.Blocks.BlockSounds.{same_whole}
 
 -- a file that is absent is not that of a block
 not_absent : (files : Files) (id : ℕ) (b : BlockRef) → files id ≡ None → IsWhole files b → b.id ≢ id
-not_absent files id b gone whole = λ is.
-    let has = blocks_have files b.id whole.0 whole.1 in
-    let there : files id ≡ Some has.bytes = ap files (sym is) ∙ has.file in
-    let clash : None ≡ Some has.bytes = sym gone ∙ there in
-    absurd cc
+not_absent files id b gone whole = search (rules, blocks_have)
 
 same_on : (files files' : Files) (id from n : ℕ) → files' id ≡ files id
     → stretch (samples_on files' id) from n ≡ stretch (samples_on files id) from n
@@ -78,10 +71,7 @@ module _ (given : ℕ → ℤ) (id : ℕ) (files files' : Files) (same : SameEls
   written_now : (b : NewBlock) → AllThere files b.pieces → total b.pieces ≡ b.len
       → blocks files' b.id ≡ Some (all_samples old b.pieces)
       → (stretch (samples_on files' b.id) 0 b.len ≡ all_samples now b.pieces) × IsWhole files' (ref_of b)
-  written_now b there len stored =
-      let xs : List ℤ = all_samples old b.pieces in
-      let long : length xs ≡ b.len = length-all_samples old b.pieces ∙ len in
-      (all_stretch files' b.id b.len xs stored long ∙ sym (all_samples_kept b.pieces there), (xs, stored, long))
+  written_now b there len stored = search (rules, length-all_samples, all_stretch, all_samples_kept)
 
 -- ---- facts of each, of a list and one more
 
@@ -126,13 +116,7 @@ new_at m next (b ∷ bs) (suc i) d lt new =
 
 outside : (next n : ℕ) (old : Files) → AreAbsent next n old → (b : BlockRef) → IsWhole old b
     → (b.id < next) ⊎ (next + n ≤ b.id)
-outside next n old gone b whole = ⊎_elim
-    (λ low. inl low)
-    (λ high. ⊎_elim
-    (λ within. absurd (not_absent old b.id b (gone b.id high within) whole refl))
-    (λ past. inr past)
-    (cases_lt b.id (next + n)))
-    (cases_lt b.id next)
+outside next n old gone b whole = search (rules, not_absent, cases_lt)
 
 module _ (next n : ℕ) (old new : Files) (same : SameOutside next n old new) (gone : AreAbsent next n old) where
   outside_there : (p : Piece) → IsThere old p → IsThere new p

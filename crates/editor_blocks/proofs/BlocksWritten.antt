@@ -1,19 +1,13 @@
 -- New blocks are written one after another, and then synced one after another.
-use Rattle.std.proofs.Common.{ℤ, ◌≡◌, inr, ⊎_elim, refl, sym, ap, ◌∙◌, subst, ℕ, ◌+◌, ◌≤◌, ◌<◌, IsTrue, Result, Ok, Err}
-use Rattle.std.proofs.Common.{List, length, get_or, arith}
-use Rattle.std.proofs.lemmas.Bool.{cases_lt}
-use Rattle.pcm_base.specs.declared.refusal.Refusal.{Refusal}
-use Rattle.disk_model.specs.Disk.{Files, StaysStep}
-use Rattle.disk_model.specs.{MomentLaws.upto_refl, Frames.Changed, declared.store.Store.Ghosts}
-use Rattle.disk_model.proofs.Frames.{Fewer, changed_none, changed_turn, changed_then_stays, changed_wider}
-use Rattle.sample_block.specs.Spelling.{size_of}
-use Rattle.block_ledger.specs.Counts.{Counts}
-use Rattle.project_journal.specs.Gate.{EachNow}
-use Rattle.edit_ops.specs.{declared.types.NewBlock.NewBlock, Plans.AreNew}
-use Rattle.editor_state.specs.Made.{AreMade, SameOutside, batch_of, ids_from}
-use Rattle.editor_state.specs.Makes.{AddsFree, AreSynced, IsDamageAmong, IsOfDevices, MadeOne, Makes, Making, NotMade}
-use Rattle.editor_state.specs.Makes.{Stuck, Synced, Syncs, Unread, Unsynced, Written, made_room, one_call}
-use Rattle.editor_state.specs.{Adding.HasFailed, Adding.stopped_by, Core.Core}
+use Rattle.editor_blocks.proofs.Common.{rules, ℤ, ◌≡◌, inr, ⊎_elim, refl, sym, ap, ◌∙◌, subst, ℕ, ◌+◌, ◌≤◌, ◌<◌, IsTrue}
+use Rattle.editor_blocks.proofs.Common.{Result, Ok, Err, List, length, get_or, arith, cases_lt, Refusal, Files}
+use Rattle.editor_blocks.proofs.Common.{StaysStep, upto_refl, Changed, Ghosts, Fewer, changed_turn, changed_then_stays}
+use Rattle.editor_blocks.proofs.Common.{changed_wider, size_of, EachNow, NewBlock, AreNew, SameOutside, batch_of}
+use Rattle.editor_blocks.proofs.Common.{ids_from, AddsFree, AreSynced, IsDamageAmong, IsOfDevices, MadeOne, Making}
+use Rattle.editor_blocks.proofs.Common.{NotMade, Stuck, Unread, Written, made_room, one_call, HasFailed, stopped_by}
+use Rattle.editor_blocks.proofs.Common.{Core}
+use Rattle.disk_model.proofs.Frames.{changed_none}
+use Rattle.editor_state.specs.Makes.{Makes, Synced, Syncs, Unsynced}
 use Rattle.editor_blocks.proofs.BlocksPut.{new_at, next_there, next_absent, made_more, made_none}
 use Rattle.editor_blocks.proofs.BlockCounts.{called, free_more, free_none, outside_more, outside_then, room_more}
 use Rattle.editor_blocks.proofs.BlockCounts.{size_most, some_block, then_kept}
@@ -81,17 +75,7 @@ module _ {D : Type 0} (disk : Ghosts D) (s : Core D) (given : ℕ → ℤ) (bs :
       → Changed disk (SameOutside s.next_block n) (made_room z n) s.store new.store
       → disk.change_fault_count new.store ≡ disk.change_fault_count mid.store
       → Making disk s (batch_of given bs) n new
-  making_over n mid new was is same changed faults =
-      let counts : new.counts ≡ mid.counts = ap (λ (x : Core D). x.counts) is in record {
-        is = is ∙ (λ i. record (was.is i) { store = new.store })
-            ∙ (λ i. record s { store = new.store; counts = sym counts i; next_block = s.next_block + n });
-        ledger = subst (λ (k : Counts). AddsFree s.next_block n s.counts k) (sym counts) was.ledger;
-        made = λ told there gone.
-            subst (λ (f : Files). AreMade (batch_of given bs) (ids_from s.next_block n) (disk.reads s.store) f)
-            (sym same) (was.made told there gone);
-        changed = changed;
-        change_faults = faults ∙ was.change_faults;
-      }
+  making_over n mid new was is same changed faults = search rules
 
   -- a piece of the next block could not be read
   pub making_unread : (n : ℕ) (mid new : Core D) → Making disk s (batch_of given bs) n mid → Unread disk mid new
@@ -107,11 +91,7 @@ module _ {D : Type 0} (disk : Ghosts D) (s : Core D) (given : ℕ → ℤ) (bs :
   pub written_more : (n : ℕ) (d : NewBlock) (mid new : Core D) → n < length bs → AreNew s.block_size s.next_block bs
       → Written disk s (batch_of given bs) n mid
       → MadeOne disk mid given (get_or bs n d) new → Written disk s (batch_of given bs) (n + 1) new
-  written_more n d mid new lt fresh was one = record {
-    making = making_more n d mid new lt fresh was.making one;
-    calls = omega (arith, was.calls, one.changed.calls);
-    read_faults = one.read_faults ∙ was.read_faults;
-  }
+  written_more n d mid new lt fresh was one = search (rules, making_more)
 
   -- ---- and synced
 
@@ -128,11 +108,7 @@ module _ {D : Type 0} (disk : Ghosts D) (s : Core D) (given : ℕ → ℤ) (bs :
       → Making disk s (batch_of given bs) (length bs) new
       × (disk.read_fault_count new.store ≡ disk.read_fault_count s.store)
       × AreSynced disk (ids_from s.next_block (length bs)) new.store
-  makes_done mid new was then = (
-    synced_making (length bs) (length bs) mid new (omega arith) was then,
-    then.read_faults ∙ was.read_faults,
-    then.same,
-  )
+  makes_done mid new was then = search (rules, synced_making)
 
   makes_unsynced : (why : Refusal) (mid new : Core D) → Written disk s (batch_of given bs) (length bs) mid
       → Unsynced disk mid (ids_from s.next_block (length bs)) why new

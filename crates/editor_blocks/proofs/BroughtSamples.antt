@@ -1,19 +1,16 @@
 -- The samples of new blocks that are made one after another, of which it may not be known before they are read which come.
-use Rattle.std.proofs.Common.{◌≡◌, ◌⊎◌, inl, inr, ⊎_elim, ◌≤◌, ◌<◌, ℕ, ◌+◌, ℤ, Bool, true, false, IsTrue, List, [], ◌∷◌}
-use Rattle.std.proofs.Common.{length, take, drop, get_or, Option, Some, None, refl, sym, ap, subst, ◌∙◌, arith}
-use Rattle.std.proofs.{lemmas.Bool.true≢false, lemmas.Bool.cases_eq, lemmas.List.drop_more, lemmas.List.take_more}
-use Rattle.std.proofs.{lemmas.Option.same_Some}
-use Rattle.disk_model.specs.{Disk.Files, declared.store.Store.Ghosts}
-use Rattle.disk_model.proofs.Frames.{Fewer}
-use Rattle.pcm_base.specs.declared.piece.Piece.TheVariants.{Old, Scaled, Zero, Given}
-use Rattle.pcm_base.specs.{Pieces.all_samples, declared.piece.Piece.Piece}
-use Rattle.sample_block.specs.{Blocks.blocks, Sources.sources_with}
-use Rattle.edit_ops.specs.{declared.types.NewBlock.NewBlock, Plans.AreNew, Plans.AreWritten}
-use Rattle.block_writer.specs.Brought.{Brought, MayBring, AreInOrder}
-use Rattle.block_writer.specs.{Making.IsFilled, Reading.AllThere, Reading.IsThere}
+use Rattle.editor_blocks.proofs.Common.{rules, ◌≡◌, ◌⊎◌, inl, inr, ⊎_elim, ◌≤◌, ◌<◌, ℕ, ◌+◌, ℤ, Bool, true, false}
+use Rattle.editor_blocks.proofs.Common.{IsTrue, List, [], ◌∷◌, length, take, get_or, Option, Some, None, refl, sym, ap}
+use Rattle.editor_blocks.proofs.Common.{subst, ◌∙◌, arith, take_more, same_Some, Files, Ghosts, Fewer, Old, Scaled}
+use Rattle.editor_blocks.proofs.Common.{Zero, Given, all_samples, Piece, blocks, sources_with, NewBlock, AreNew}
+use Rattle.editor_blocks.proofs.Common.{AreWritten, AreInOrder, AllThere, IsThere, Core, AllInOrder, batch_of, MadeOne}
+use Rattle.editor_blocks.proofs.Common.{Making, Written}
+use Rattle.std.proofs.Common.{drop}
+use Rattle.std.proofs.{lemmas.Bool.true≢false, lemmas.Bool.cases_eq, lemmas.List.drop_more}
+use Rattle.block_writer.specs.Brought.{Brought, MayBring}
+use Rattle.block_writer.specs.{Making.IsFilled}
 use Rattle.block_writer.proofs.BringLaws.{any_brought, glue, glue_fits, glue_front, glue_rest, order_le, order_wider}
 use Rattle.block_writer.proofs.BringLaws.{parts_same}
-use Rattle.editor_state.specs.{Core.Core, Made.AllInOrder, Made.batch_of, Makes.MadeOne, Makes.Making, Makes.Written}
 use Rattle.editor_blocks.proofs.{BlocksWritten.written_more, BlocksWritten.written_none, PieceOrder.order_append}
 
 -- ---- one block
@@ -23,10 +20,7 @@ abbrev HasLength : Option (List ℤ) → ℕ → Type 0
 HasLength block len = (samples : List ℤ) × (block ≡ Some samples) × (length samples ≡ len)
 
 length_or : (block : Option (List ℤ)) (len : ℕ) → HasLength block len ⊎ (HasLength block len → ⊥)
-length_or None len = inr (λ has. none_held has.0 has.1)
-  where
-    none_held : (samples : List ℤ) → None ≡ Some samples → ⊥
-    none_held samples e = cc
+length_or None len = search rules
 length_or (Some xs) len = ⊎_elim
     (λ same. inl (xs, refl, same))
     (λ other. inr (λ has. other (ap (λ (ys : List ℤ). length ys) (same_Some xs has.0 has.1) ∙ has.2)))
@@ -108,48 +102,22 @@ module _ {D : Type 0} (disk : Ghosts D) (s : Core D) (bs : List NewBlock) (n : �
   -- the same blocks by other samples, which agree with these on all that was read
   pub making_same : (f g : ℕ → ℤ) (place : ℕ) → AllInOrder 0 place (take n bs) → ((i : ℕ) → i < place → f i ≡ g i)
       → Making disk s (batch_of f bs) n new → Making disk s (batch_of g bs) n new
-  making_same f g place order same making = record {
-    is = making.is;
-    ledger = making.ledger;
-    made = λ told there gone.
-        let made = making.made told there gone in record {
-          same = made.same;
-          written = written_same (disk.reads new.store) f g 0 place (take n bs) order same made.written;
-          whole = made.whole;
-        };
-    changed = making.changed;
-    change_faults = making.change_faults;
-  }
+  making_same f g place order same making = search (rules, written_same)
 
   pub written_by_others : (f g : ℕ → ℤ) (place : ℕ) → AllInOrder 0 place (take n bs)
       → ((i : ℕ) → i < place → f i ≡ g i) → Written disk s (batch_of f bs) n new → Written disk s (batch_of g bs) n new
-  written_by_others f g place order same was = record {
-    making = making_same f g place order same was.making;
-    calls = was.calls;
-    read_faults = was.read_faults;
-  }
+  written_by_others f g place order same was = search (rules, making_same)
 
 -- the next block by other samples, which agree with these on what was read for it
 pub one_same : {D : Type 0} (disk : Ghosts D) (old new : Core D) (f g : ℕ → ℤ) (low high : ℕ) (b : NewBlock)
     → AreInOrder low high b.pieces → ((i : ℕ) → low ≤ i → i < high → f i ≡ g i) → MadeOne disk old f b new
     → MadeOne disk old g b new
-one_same disk old new f g low high b order same one = record {
-  is = one.is;
-  ledger = one.ledger;
-  stored = λ told there gone. one.stored told there gone
-      ∙ ap (λ (xs : List ℤ). Some xs) (parts_same (disk.reads old.store) f g low high b.pieces order same);
-  changed = one.changed;
-  read_faults = one.read_faults;
-  change_faults = one.change_faults;
-}
+one_same disk old new f g low high b order same one = search (rules, parts_same)
 
 -- samples that agree with some before a place, and with others from there on
 pub both_may : (b : Brought) (f g : ℕ → ℤ) (place : ℕ) → b.tells ≡ false → MayBring b f → MayBring b g
     → MayBring b (glue place f g)
-both_may b f g place e first second = record {
-  known = λ told. absurd (true≢false (sym told ∙ e));
-  fit = λ quiet. glue_fits place f g (first.fit quiet) (second.fit quiet);
-}
+both_may b f g place e first second = search (rules, true≢false, glue_fits)
 
 -- none is made yet
 pub brought_none : {D : Type 0} (disk : Ghosts D) (s : Core D) (b : Brought) (bs : List NewBlock) → Fewer disk s.store

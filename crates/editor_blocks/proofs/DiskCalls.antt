@@ -1,10 +1,8 @@
 -- What blocks that are made and a record after them ask of the disk.
-use Rattle.std.proofs.Common.{◌≡◌, sym, subst, ℕ, ◌+◌, ◌*◌, ◌≤◌, IsTrue, List, Option, Err, arith}
-use Rattle.pcm_base.specs.{declared.command.Call.Call, declared.entry.SoundMove.SoundMove}
-use Rattle.disk_model.specs.Room.{IsWithin, Room, together}
-use Rattle.disk_model.specs.{Disk.Files, Frames.Changed, declared.store.Store.Ghosts}
-use Rattle.sample_block.specs.Spelling.{size_of}
-use Rattle.editor_state.specs.{Makes.made_room, Took.Exchange, Took.asks, Took.with_sound}
+use Rattle.editor_blocks.proofs.Common.{rules, ◌≡◌, sym, subst, ℕ, ◌+◌, ◌*◌, ◌≤◌, IsTrue, List, Option, Err, arith}
+use Rattle.editor_blocks.proofs.Common.{Call, SoundMove, IsWithin, Room, together, Files, Changed, Ghosts, size_of}
+use Rattle.editor_blocks.proofs.Common.{made_room, asks, with_sound}
+use Rattle.editor_state.specs.{Took.Exchange}
 use Rattle.pcm_base.specs.declared.refusal.Refusal.TheVariants as refusal
 
 -- (the bytes over plain numbers, since the terms are long)
@@ -41,30 +39,10 @@ pub within_last : (call : Call) (sound : SoundMove) (journal : Option (List ℕ)
     → b ≡ n
     → IsWithin (together (made_room (size_of m) n) (made_room (size_of m') 1))
     (asks (with_sound call sound (Err refusal.DiskFault)) journal m b len packed)
-within_last call sound journal m m' n len packed b same all =
-    let z = size_of m in
-    let exchange = with_sound call sound (Err refusal.DiskFault) in
-    let base : IsWithin (together (made_room z n) (made_room z 1)) (asks exchange journal m n len packed) =
-    record { files = files_last n _; bytes = bytes_last z n _; calls = omega arith } in
-    let one = subst (λ (k : ℕ). IsWithin (together (made_room z n) (made_room (size_of k) 1))
-    (asks exchange journal m n len packed)) (sym same) base in
-    subst (λ (k : ℕ). IsWithin (together (made_room z n) (made_room (size_of m') 1))
-    (asks exchange journal m k len packed)) (sym all) one
+within_last call sound journal m m' n len packed b same all = search (rules, files_last, bytes_last)
 
 -- the same said by more, where a disk that tells its bytes says how many files are made
 pub changed_told : {D : Type 0} {disk : Ghosts D} {step : Files → Files → Type 0} {less more : Room} {old new : D}
     → (IsTrue (disk.tells old) → less.files ≤ more.files) → less.bytes ≤ more.bytes → less.calls ≤ more.calls
     → Changed disk step less old new → Changed disk step more old new
-changed_told files bytes calls f = record {
-  tells = f.tells;
-  model = f.model;
-  reads = f.reads;
-  images = f.images;
-  later = f.later;
-  files = λ told. omega (arith, files told, f.files told);
-  bytes = omega (arith, bytes, f.bytes);
-  calls = omega (arith, calls, f.calls);
-  room = f.room;
-  spent = f.spent;
-  unfailing = f.unfailing;
-}
+changed_told files bytes calls f = search rules

@@ -1,26 +1,18 @@
 -- The blocks of a layout: what they mean, and which of them are new.
-use Rattle.std.proofs.Common.{◌≡◌, ◌⊎◌, ⊎_elim, refl, sym, ap, ◌∙◌, subst, ℕ, ℤ, Some, List, [], ◌∷◌, true, eqb}
-use Rattle.std.proofs.Common.{if◌then◌else◌}
-use Rattle.std.proofs.{lemmas.Bool.eq-eqb, lemmas.Bool.Decides.eqb_tells, lemmas.Option.none-some}
-use Rattle.std.specs.List.{AllByRecursion}
-use Rattle.pcm_base.specs.{declared.block.BlockRef.BlockRef, Cells.cells_of_first}
-use Rattle.clip_track.specs.Clips.{layout_blocks, layout_cells}
-use Rattle.edit_ops.specs.{declared.types.NewBlock.NewBlock, Plans.AreOldOrNew}
-use Rattle.project_state.specs.{declared.track.Track.Track, Meaning.point_blocks, Tracks.track_of}
-use Rattle.editor_state.specs.{Edits.alone, Edits.beside, Points.put_in, Points.put_one}
-use Rattle.editor_state.proofs.Lists.{all_left, all_right}
-use Rattle.editor_state.proofs.Blocks.BlockSounds.{SameSound, same_point}
+use Rattle.editor_blocks.proofs.Common.{rules, ◌≡◌, ⊎_elim, sym, ap, ◌∙◌, subst, ℕ, ℤ, Some, List, [], ◌∷◌, true}
+use Rattle.editor_blocks.proofs.Common.{if◌then◌else◌, eq-eqb, eqb_tells, AllByRecursion, BlockRef, layout_blocks}
+use Rattle.editor_blocks.proofs.Common.{NewBlock, AreOldOrNew, Track, beside, all_left, all_right}
+use Rattle.std.proofs.Common.{eqb}
+use Rattle.std.proofs.{lemmas.Option.none-some}
+use Rattle.clip_track.specs.Clips.{layout_cells}
+use Rattle.project_state.specs.{Meaning.point_blocks, Tracks.track_of}
+use Rattle.editor_state.specs.{Edits.alone, Points.put_in, Points.put_one}
 use Rattle.editor_blocks.proofs.StudioBlocks.{refs}
 
 -- what a command brings changes no block
 pub layout_given : (block : ℕ → ℕ → ℤ) (given : ℕ → ℤ) (t : Track)
     → layout_cells (alone block) t.layout ≡ layout_cells (beside block given) t.layout
-layout_given block given t =
-    ap cells_of_first (same_point (beside block given) (alone block) (t ∷ []) (all (point_blocks (t ∷ []))))
-  where
-    all : (bs : List BlockRef) → AllByRecursion (SameSound (beside block given) (alone block)) bs
-    all [] = tt
-    all (b ∷ bs) = (refl, all bs)
+layout_given block given t = search rules
 
 -- ---- what holds of all blocks of a layout holds of the new ones
 

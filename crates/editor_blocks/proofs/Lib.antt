@@ -1,3 +1,4 @@
+mod Common
 -- One block after another.
 pub mod BlocksPut
 pub mod NextBlock

@@ -1,15 +1,11 @@
 -- The next block of some that are made.
-use Rattle.std.proofs.Common.{ℤ, ◌≡◌, inl, ⊎_elim, refl, sym, ◌∙◌, subst, ℕ, ◌+◌, ◌^◌, ◌≤◌, ◌<◌, IsTrue, IsSome, Option}
-use Rattle.std.proofs.Common.{Some, None, List, length, get_or, slice_get, arith}
-use Rattle.std.proofs.lemmas.Option.{slice_get-get_or, same_Some}
-use Rattle.pcm_base.specs.{Pieces.total, declared.refusal.Refusal.Refusal}
-use Rattle.disk_model.specs.declared.store.Store.{Ghosts}
+use Rattle.editor_blocks.proofs.Common.{ℤ, ◌≡◌, inl, ⊎_elim, refl, sym, ◌∙◌, subst, ℕ, ◌+◌, ◌^◌, ◌≤◌, ◌<◌, IsTrue}
+use Rattle.editor_blocks.proofs.Common.{IsSome, Option, Some, None, List, length, get_or, arith, same_Some, total}
+use Rattle.editor_blocks.proofs.Common.{Refusal, Ghosts, Counts, NewBlock, AreNew, AllThere, AddsFree, IsDamageAmong}
+use Rattle.editor_blocks.proofs.Common.{IsOfDevices, Making, NotMade, Stuck, Core, AreAbsent, PiecesThere, batch_of}
+use Rattle.std.proofs.Common.{slice_get}
+use Rattle.std.proofs.lemmas.Option.{slice_get-get_or}
 use Rattle.sample_block.specs.Spelling.{IsBlock}
-use Rattle.block_ledger.specs.Counts.{Counts}
-use Rattle.edit_ops.specs.{declared.types.NewBlock.NewBlock, Plans.AreNew}
-use Rattle.block_writer.specs.Reading.{AllThere}
-use Rattle.editor_state.specs.Makes.{AddsFree, IsDamageAmong, IsOfDevices, Making, NotMade, Stuck}
-use Rattle.editor_state.specs.{Core.Core, Made.AreAbsent, Made.PiecesThere, Made.batch_of}
 use Rattle.editor_blocks.proofs.BlocksPut.{new_at, next_there}
 
 -- ---- the next block of some

@@ -1,14 +1,11 @@
 -- An edit that is carried out finds no damaged file, where the disk holds the studio and has the blocks that are read.
-use Rattle.std.proofs.Common.{◌≡◌, ⊎_elim, sym, subst, ℕ, nat_lt, not, ◌+◌, ◌^◌, None, length, Err}
-use Rattle.pcm_base.specs.{declared.refusal.Refusal.Refusal, declared.wav.WavFault.TheVariants.Truncated}
-use Rattle.pcm_base.specs.{Counters.no_room, Refusals.◌otherwise◌}
-use Rattle.disk_model.specs.declared.store.Store.{Ghosts}
+use Rattle.editor_blocks.proofs.Common.{◌≡◌, ⊎_elim, sym, subst, ℕ, None, length, Err, Refusal, Truncated, Ghosts, Core}
+use Rattle.editor_blocks.proofs.Common.{PiecesThere, IsOfDevices, IsHeld, IsStudio}
 use Rattle.envelope_view.specs.Answers.{IsUndamaged}
 use Rattle.project_journal.specs.Journal.{rows_length}
 use Rattle.editor_state.specs.Edits.{Carried, NotPrepared, BlockCommit}
-use Rattle.editor_state.specs.{Core.Core, Made.PiecesThere, Makes.IsOfDevices, Studios.IsHeld, Studios.IsStudio}
 use Rattle.editor_blocks.proofs.StudioBlocks.{absent}
-use Rattle.editor_state.proofs.Refusals.DamageTests.{spent_tells, either_tells, tests_tell, outgrowing}
+use Rattle.editor_state.proofs.Refusals.Tests as tests
 use Rattle.pcm_base.specs.declared.refusal.Refusal.TheVariants as refusal
 
 -- a device's fault is no damage
@@ -24,22 +21,9 @@ module _ {D : Type 0} (disk : Ghosts D) (s : Core D) (is : IsStudio disk s) (goi
   n = length c.makes
 
   unprepared : NotPrepared s n c.tracks c.layouts c.count c.whole (rows_length c.bodies) why → IsUndamaged why
-  unprepared not = ⊎_elim
-      (λ memory. subst IsUndamaged (sym memory) tt)
-      (⊎_elim
-      (λ spent.
-      let block = no_room s.next_block n in
-      let track = no_room s.next_track c.tracks in
-      let number = no_room s.commit_number c.count in
-      tests_tell (block otherwise track otherwise number) why
-      (either_tells block (track otherwise number) (spent_tells (nat_lt (2 ^ 62) (s.next_block + n)) s.next_block n)
-      (either_tells track number (spent_tells (nat_lt (2 ^ 62) (s.next_track + c.tracks)) s.next_track c.tracks)
-      (spent_tells (nat_lt (2 ^ 62) (s.commit_number + c.count)) s.commit_number c.count)))
-      spent)
-      (λ over.
-      ⊎_elim (outgrowing s.journal_end s.next_layout c.layouts c.whole why)
-      (outgrowing s.journal_end s.next_layout c.layouts (rows_length c.bodies) why) over.3))
-      not
+  unprepared =
+      tests.unprepared IsUndamaged (λ have need. tt) (λ len. tt) s n c.tracks c.layouts c.count c.whole
+      (rows_length c.bodies) why tt
 
   pub no_damage : (new : Core D) → IsHeld disk s → PiecesThere (disk.reads s.store) c.makes
       → Carried disk s c (Err why) new → IsUndamaged why

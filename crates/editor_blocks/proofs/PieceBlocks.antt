@@ -1,18 +1,12 @@
 -- Pieces of blocks that are there, and ids that are counted.
-use Rattle.std.proofs.Common.{⊎_elim, refl, ap, subst, ℕ, ◌<◌, if◌then◌else◌, IsSome, Option, Some, None, List, [], ◌∷◌}
-use Rattle.std.proofs.Common.{arith}
-use Rattle.std.proofs.lemmas.Bool.Decides.{eqb_tells}
-use Rattle.std.specs.List.{AllByRecursion}
-use Rattle.pcm_base.specs.declared.piece.Piece.TheVariants.{Old, Scaled, Zero, Given}
-use Rattle.pcm_base.specs.{declared.block.BlockRef.BlockRef, declared.piece.Piece.Piece}
-use Rattle.disk_model.specs.Disk.{Files}
-use Rattle.sample_block.specs.Sources.{IsWhole, AllWhole}
-use Rattle.block_sequence.specs.Origins.{AllFrom}
-use Rattle.block_ledger.specs.Counts.{Counts, occurrences}
-use Rattle.edit_ops.specs.{declared.types.NewBlock.NewBlock, Plans.AllNewFrom}
-use Rattle.block_writer.specs.Reading.{AllThere}
-use Rattle.editor_state.specs.{Made.PiecesThere, Occurrences.HasIds, Occurrences.times_named}
-use Rattle.editor_state.proofs.{Blocks.BlockLists.contained, Blocks.BlockNumbers.some_count}
+use Rattle.editor_blocks.proofs.Common.{⊎_elim, refl, ap, subst, ℕ, ◌<◌, if◌then◌else◌, IsSome, List, [], ◌∷◌, arith}
+use Rattle.editor_blocks.proofs.Common.{eqb_tells, AllByRecursion, Old, Scaled, Zero, Given, BlockRef, Piece, Files}
+use Rattle.editor_blocks.proofs.Common.{IsWhole, AllFrom, Counts, NewBlock, AllNewFrom, AllThere, PiecesThere}
+use Rattle.editor_blocks.proofs.Common.{contained}
+use Rattle.sample_block.specs.Sources.{AllWhole}
+use Rattle.block_ledger.specs.Counts.{occurrences}
+use Rattle.editor_state.specs.{Occurrences.HasIds, Occurrences.times_named}
+use Rattle.editor_state.proofs.{Blocks.BlockNumbers.some_count}
 
 pieces_all : (files : Files) (xs : List BlockRef) (n : ℕ) (ps : List Piece) → AllWhole files xs → AllFrom xs n ps
     → AllThere files ps

@@ -1,10 +1,7 @@
 -- Blocks whose pieces come in order, after others that do.
-use Rattle.std.proofs.Common.{◌≤◌, ℕ, ◌+◌, List, [], ◌∷◌, ◌++◌, arith}
-use Rattle.pcm_base.specs.declared.piece.Piece.{Piece}
-use Rattle.pcm_base.specs.declared.piece.Piece.TheVariants.{Old, Scaled, Zero, Given}
-use Rattle.edit_ops.specs.declared.types.NewBlock.{NewBlock}
-use Rattle.block_writer.specs.Brought.{AreInOrder, LiesBetween}
-use Rattle.editor_state.specs.Made.{AllInOrder}
+use Rattle.editor_blocks.proofs.Common.{◌≤◌, ℕ, List, [], ◌∷◌, ◌++◌, arith, Piece, Old, Scaled, Zero, Given, NewBlock}
+use Rattle.editor_blocks.proofs.Common.{AreInOrder, AllInOrder}
+use Rattle.block_writer.specs.Brought.{LiesBetween}
 
 pub order_append : (low mid high : ℕ) (xs ys : List NewBlock) → AllInOrder low mid xs → AllInOrder mid high ys
     → AllInOrder low high (xs ++ ys)

@@ -1,17 +1,14 @@
 -- The blocks of plans: which a layout names, and which pieces are read.
-use Rattle.std.proofs.Common.{⊎_elim, sym, subst, ℕ, ◌+◌, List, [], ◌∷◌, Contains}
-use Rattle.std.specs.List.{AllByRecursion}
-use Rattle.pcm_base.specs.declared.piece.Piece.TheVariants.{Old, Scaled, Zero, Given}
-use Rattle.pcm_base.specs.{declared.block.BlockRef.BlockRef, declared.piece.Piece.Piece, Pieces.AllValid}
-use Rattle.block_sequence.specs.Origins.{AllFrom}
+use Rattle.editor_blocks.proofs.Common.{⊎_elim, sym, subst, ℕ, ◌+◌, List, [], ◌∷◌, Contains, AllByRecursion, Old}
+use Rattle.editor_blocks.proofs.Common.{Scaled, Zero, Given, BlockRef, Piece, AllFrom, layout_blocks, NewBlock, AreNew}
+use Rattle.editor_blocks.proofs.Common.{AllNewFrom, AreOldOrNew, IsGiven, contained, all_left, all_right}
+use Rattle.pcm_base.specs.{Pieces.AllValid}
 use Rattle.sample_block.specs.Sources.{AllNamed, IsNamed}
-use Rattle.clip_track.specs.{declared.clips.Clip.Clip, Clips.layout_blocks}
-use Rattle.edit_ops.specs.{declared.types.NewBlock.NewBlock, Plans.AreNew, Plans.AllNewFrom, Plans.AreOldOrNew}
+use Rattle.clip_track.specs.{declared.clips.Clip.Clip}
 use Rattle.block_writer.specs.Reading.{AllReadable}
 use Rattle.record_body.specs.Valid.{AllGiven, AllClipsGiven}
 use Rattle.record_body.proofs.SavedBounds.{all_append}
-use Rattle.editor_state.specs.{Edits.AreAmong, Made.PiecesReadable, Studios.IsGiven}
-use Rattle.editor_state.proofs.{Blocks.BlockLists.contained, Lists.all_left, Lists.all_right}
+use Rattle.editor_state.specs.{Edits.AreAmong, Made.PiecesReadable}
 use Rattle.editor_blocks.proofs.StudioBlocks.{refs}
 
 -- ---- their ids

@@ -1,26 +1,22 @@
 -- A studio whose new blocks are made is a studio, and what it stands for is as before.
-use Rattle.std.proofs.Common.{ℤ, ◌≡◌, inl, inr, ⊎_elim, refl, sym, ◌∙◌, subst, ℕ, zero, suc, ◌+◌, ◌^◌, ◌≤◌, ◌<◌, IsTrue}
-use Rattle.std.proofs.Common.{IsSome, Option, None, List, [], ◌∷◌, length, map, take, arith}
-use Rattle.std.proofs.lemmas.Bool.{cases_lt}
-use Rattle.std.specs.List.{AllByRecursion}
-use Rattle.pcm_base.specs.declared.block.BlockRef.{BlockRef}
-use Rattle.disk_model.specs.{MomentLaws.upto_refl, Disk.Files, Disk.Follows, declared.store.Store.Ghosts}
-use Rattle.sample_block.specs.Sources.{sources_of, IsWhole}
-use Rattle.block_ledger.specs.Counts.{Counts}
-use Rattle.project_journal.specs.{Gate.EachNow, Gate.EachSince, Choice.other_file}
+use Rattle.editor_blocks.proofs.Common.{rules, ℤ, ◌≡◌, inl, inr, ⊎_elim, refl, sym, subst, ℕ, zero, suc, ◌+◌, ◌^◌, ◌≤◌}
+use Rattle.editor_blocks.proofs.Common.{◌<◌, IsSome, Option, None, List, [], ◌∷◌, length, map, take, arith, cases_lt}
+use Rattle.editor_blocks.proofs.Common.{AllByRecursion, BlockRef, upto_refl, Files, Ghosts, IsWhole, Counts, EachNow}
+use Rattle.editor_blocks.proofs.Common.{EachSince, NewBlock, AreNew, ref_of, Track, Keeps, all_so, same_studio}
+use Rattle.editor_blocks.proofs.Common.{AreAbsent, AreMade, PiecesThere, SameOutside, batch_of, ids_from, IsGiven}
+use Rattle.editor_blocks.proofs.Common.{IsHeld, IsStudio, named_blocks, shown, studio_of, Core, AddsFree, Making}
+use Rattle.disk_model.specs.{Disk.Follows}
+use Rattle.project_journal.specs.{Choice.other_file}
 use Rattle.project_journal.proofs.Kept.{SameJournals, each_since, is_at_still}
-use Rattle.edit_ops.specs.{declared.types.NewBlock.NewBlock, Plans.AreNew, Plans.ref_of}
 use Rattle.block_writer.proofs.MadeLaws.{file_of_block}
-use Rattle.project_state.specs.declared.track.Track.{Track}
-use Rattle.record_body.specs.{Saved.Keeps, SavedValid.IsValidPoint, SavedValid.IsValidTagged}
+use Rattle.record_body.specs.{SavedValid.IsValidPoint}
 use Rattle.record_body.proofs.SavedBounds.{tagged_more}
+use Rattle.editor_state.proofs.SameStudios.{durable_so}
 use Rattle.editor_state.proofs.Images.ImageProjects.{form_few, keeps_by, shown_is, covers_kept}
 use Rattle.editor_state.proofs.Blocks.BlockSounds.{all_whole, trans_same}
-use Rattle.editor_state.proofs.{Blocks.CachePages.pages_by_blocks, Lists.all_so, Images.SameMeaning.same_studio}
-use Rattle.editor_state.specs.Made.{AreAbsent, AreMade, PiecesThere, SameOutside, batch_of, ids_from}
-use Rattle.editor_state.specs.Studios.{IsGiven, SameBlocks, IsDurable, IsHeld, IsStudio, named_blocks, shown, studio_by}
-use Rattle.editor_state.specs.Studios.{studio_of}
-use Rattle.editor_state.specs.{Core.Core, Core.form_at, Makes.AddsFree, Makes.Making, declared.pin.Pin.Pin}
+use Rattle.editor_state.proofs.{Blocks.CachePages.pages_by_blocks}
+use Rattle.editor_state.specs.Studios.{SameBlocks, IsDurable}
+use Rattle.editor_state.specs.{Core.form_at}
 use Rattle.editor_blocks.proofs.NextBlock.{none_where}
 
 -- ---- the references to new blocks
@@ -93,12 +89,7 @@ module _ {D : Type 0} (disk : Ghosts D) (s : Core D) (is : IsStudio disk s) wher
   -- the files from the next block on are absent
   pub absent : (n : ℕ) → s.stopped ≡ None → IsHeld disk s → s.next_block + n ≤ 2 ^ 62
       → AreAbsent s.next_block n (disk.reads s.store)
-  absent n going held most f low high =
-      none_where (disk.reads s.store f)
-      (λ h.
-      let d = held.durable going in
-      let there = (d.files f (omega (arith, is.counters.block_least, low)) (omega (arith, high, most))).1 h in
-      absurd (omega (arith, (is.given f there).1, low)))
+  absent n going held most f low high = search (rules, none_where)
 
   -- while new blocks are made each image has the project of before
   pub keeps_outside : (n : ℕ) (store : D) → s.stopped ≡ None → IsHeld disk s
@@ -124,63 +115,13 @@ module _ {D : Type 0} (disk : Ghosts D) (s : Core D) (is : IsStudio disk s) wher
 
     pub with_store : s.next_block + n ≤ 2 ^ 62 → AddsFree s.next_block n s.counts counts
         → IsStudio disk later
-    with_store most free =
-        let m = s.block_size in
-        let next = s.next_block + n in
-        let Was : List Track × ℕ → Type 0 = IsValidTagged m s.next_block s.next_track s.commit_number in
-        let Now : List Track × ℕ → Type 0 = IsValidTagged m next s.next_track s.commit_number in record {
-          format = is.format;
-          counters = record {
-            block_least = omega (arith, is.counters.block_least);
-            block_most = most;
-            track_least = is.counters.track_least;
-            track_most = is.counters.track_most;
-            pin_least = is.counters.pin_least;
-            pin_most = is.counters.pin_most;
-            commit_most = is.counters.commit_most;
-            end_least = is.counters.end_least;
-            end_most = is.counters.end_most;
-          };
-          journal = is.journal;
-          few_points = is.few_points;
-          few_clips = is.few_clips;
-          points = all_so Was Now
-              (λ p h. tagged_more m s.next_block s.next_track s.commit_number next s.next_track s.commit_number p
-              (omega arith) (omega arith) (omega arith) h) s.history.points is.points;
-          pins = all_so (λ (p : Pin). IsValidPoint m s.next_block s.next_track p.point)
-              (λ (p : Pin). IsValidPoint m next s.next_track p.point)
-              (λ p h. point_more m s.next_block s.next_track next s.next_track p.point (omega arith) (omega arith) h)
-              s.pins is.pins;
-          numbers = is.numbers;
-          clipboard = is.clipboard;
-          ids = all_so (λ (b : BlockRef). IsGiven s.next_block b.id) (λ (b : BlockRef). IsGiven next b.id)
-              (λ b h. (h.0, omega (arith, h.1))) bs is.ids;
-          layouts = is.layouts;
-          numbered = is.numbered;
-          drawn = is.drawn;
-          counted = record {
-            fresh_uses = is.counted.fresh_uses;
-            none_free = is.counted.none_free;
-            fresh_counts = λ id. free.counts id ∙ is.counted.fresh_counts id;
-          };
-          given = λ id have. ⊎_elim
-              (λ o. let was = is.given id o in (was.0, omega (arith, was.1)))
-              (λ r. (omega (arith, r.0, is.counters.block_least), r.1))
-              ((free.ids id).0 have);
-          pages = pages_by_blocks s.next_block n s.cache is.pages;
-        }
+    with_store most free = search (rules, all_so, tagged_more, point_more, pages_by_blocks)
 
     -- the disk that held it holds it still
     pub with_held : disk.tells store ≡ disk.tells s.store → (k : ℕ)
         → SameOutside s.next_block k (disk.reads s.store) (disk.reads store) → (stopped ≡ None → IsDurable disk later)
         → IsHeld disk s → IsHeld disk later
-    with_held tells k same durable held =
-        let was = disk.reads s.store in
-        let now = disk.reads store in record {
-          tells = subst IsTrue (sym tells) held.tells;
-          whole = all_whole was now bs (below_same s.next_block k bs was now is.ids same) held.whole;
-          durable = durable;
-        }
+    with_held tells k same durable held = search (rules, all_whole, below_same)
 
   module _ (given : ℕ → ℤ) (makes : List NewBlock) (n : ℕ) (mid : Core D)
       (making : Making disk s (batch_of given makes) n mid) (going : s.stopped ≡ None)
@@ -238,26 +179,13 @@ module _ {D : Type 0} (disk : Ghosts D) (s : Core D) (is : IsStudio disk s) wher
     grown_durable : IsHeld disk s → IsDurable disk grown
     grown_durable held =
         let d = held.durable going in
-        let least = is.counters.block_least in record {
-          log = d.log;
-          base = d.base;
-          kept = d.kept;
-          there = is_at_still {form = form_at s} (journals_same s.file s.next_block n is.journal.among least)
-              (journals_same s.file s.next_block n is.journal.among least (disk.reads s.store) (disk.reads mid.store)
-              (are_made held).same)
-              making.changed.images d.there;
-          generation = d.generation;
-          begins = d.begins;
-          told = d.told;
-          rate = d.rate;
-          block_size = d.block_size;
-          history = d.history;
-          next_block = omega (arith, d.next_block);
-          next_track = d.next_track;
-          commit = d.commit;
-          blocks = grown_blocks held;
-          files = λ id low high. (counts_now held id low high, files_now held id low high);
-        }
+        let least = is.counters.block_least in
+        durable_so disk s mid.store s.cache s.stopped (s.next_block + n) s.clipboard s.pins s.next_pin s.uses mid.counts d
+        (is_at_still {form = form_at s} (journals_same s.file s.next_block n is.journal.among least)
+        (journals_same s.file s.next_block n is.journal.among least (disk.reads s.store) (disk.reads mid.store)
+        (are_made held).same)
+        making.changed.images d.there)
+        (omega arith) (grown_blocks held) (λ id low high. (counts_now held id low high, files_now held id low high))
 
     grown_studio : IsStudio disk grown
     grown_studio = with_store mid.store n mid.counts s.stopped (omega (arith, most, few)) making.ledger
@@ -279,12 +207,4 @@ module _ {D : Type 0} (disk : Ghosts D) (s : Core D) (is : IsStudio disk s) wher
           next_block = s.next_block + n;
           read_faults = disk.read_fault_count mid.store;
         }
-    made_state held =
-        let same = same_studio reads now disk s (named_same held) in
-        let one : studio_of disk mid ≡ studio_by (sources_of now) disk grown =
-        λ i. studio_by (sources_of now) disk (making.is i) in
-        one ∙ (λ i. record (same i) {
-          next_block = s.next_block + n;
-          read_faults = disk.read_fault_count mid.store;
-          change_faults = making.change_faults i;
-        })
+    made_state held = search (rules, same_studio, named_same)

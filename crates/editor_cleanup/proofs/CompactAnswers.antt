@@ -1,29 +1,26 @@
 -- What a `compact` answers.
-use Rattle.std.proofs.Common.{◌≡◌, inl, inr, refl, sym, ap, ◌∙◌, subst, ℕ, ◌+◌, ◌^◌, ◌≤◌, ◌<◌, Bool, IsTrue, List, ◌∷◌}
-use Rattle.std.proofs.Common.{length, Some, None, Result, Ok, Err, OnOk, arith}
-use Rattle.pcm_base.specs.{declared.answer.Reply.TheVariants.Packed, declared.command.Call.Call}
-use Rattle.pcm_base.specs.{declared.command.Call.TheVariants.Line, declared.command.Command.TheVariants.Compact}
-use Rattle.pcm_base.specs.{declared.refusal.Refusal.Refusal, Causes.HasCause, Causes.Rose, History.IsHistory}
-use Rattle.pcm_base.specs.{Run.packed, Run.stop_of}
-use Rattle.disk_model.specs.{Disk.Files, Frames.Changed, Frames.Kept, Room.Room, declared.store.Store.Ghosts}
-use Rattle.disk_model.proofs.Frames.{tells_back, tells_on, Fewer, changed_kept, changed_turn, changed_wider}
+use Rattle.editor_cleanup.proofs.Common.{◌≡◌, inl, inr, refl, sym, ap, ◌∙◌, subst, ℕ, ◌+◌, ◌^◌, ◌≤◌, ◌<◌, Bool, IsTrue}
+use Rattle.editor_cleanup.proofs.Common.{List, ◌∷◌, length, Some, None, Result, Ok, Err, arith, rules, Call, Line}
+use Rattle.editor_cleanup.proofs.Common.{Refusal, HasCause, Rose, IsHistory, packed, stop_of, Files, Changed, Room}
+use Rattle.editor_cleanup.proofs.Common.{Ghosts, Fewer, changed_turn, changed_wider, sources_of, AreShort, HasEither}
+use Rattle.editor_cleanup.proofs.Common.{MayPack, OnlyJournals, Tells, pack_room, other_file, EachNow, EachSince}
+use Rattle.editor_cleanup.proofs.Common.{form_3, IsAt, Log, Keeps, packed_core, packed_log, packed_size, packed_text}
+use Rattle.editor_cleanup.proofs.Common.{points_in, IsHeld, IsStudio, shown, studio_by, studio_of, HasFailed, Core}
+use Rattle.editor_cleanup.proofs.Common.{form_at, LeavesOthers, MayRemove, IsQuiet, room_of, no_record, none_given}
+use Rattle.editor_cleanup.proofs.Common.{off_untouched, keeps_now, fits, stopped_not}
+use Rattle.std.proofs.Common.{OnOk}
+use Rattle.pcm_base.specs.{declared.answer.Reply.TheVariants.Packed, declared.command.Command.TheVariants.Compact}
+use Rattle.disk_model.specs.{Frames.Kept}
+use Rattle.disk_model.proofs.Frames.{tells_back, tells_on, changed_kept}
 use Rattle.disk_model.proofs.Moments.{each_on}
-use Rattle.sample_block.specs.Sources.{sources_of}
-use Rattle.project_journal.specs.Packing.{AreShort, HasEither, MayPack, OnlyJournals, Tells, pack_room}
-use Rattle.project_journal.specs.{Choice.other_file, Gate.EachNow, Gate.EachSince, Header.Form, Header.form_3}
-use Rattle.project_journal.specs.{Journal.IsAt, Journal.Log}
-use Rattle.record_body.specs.Saved.{Keeps}
-use Rattle.editor_state.specs.Packing.{packed_core, packed_log, packed_size, packed_text, points_in}
-use Rattle.editor_state.specs.Studios.{IsHeld, IsStudio, shown, studio_by, studio_of}
-use Rattle.editor_state.specs.{Adding.HasFailed, Core.Core, Core.form_at, Left.LeavesOthers, Left.MayRemove}
+use Rattle.project_journal.specs.{Header.Form}
 use Rattle.editor_state.specs.{Removals.PacksJournal, Took.Took, Took.quietly}
 use Rattle.editor_cleanup.specs.Compacts.{Compacts}
 use Rattle.editor_state.proofs.Calls.LookCalls.{keeps_still, looked, looked_failed, looked_held, looked_studio}
-use Rattle.editor_state.proofs.Calls.QuietCalls.{IsQuiet, quiet_follows, refused_by, refused_stopped, refused_wanting}
-use Rattle.editor_state.proofs.Calls.QuietCalls.{room_of, tests_then}
-use Rattle.editor_state.proofs.Calls.FileRemovals.{ids_same, no_record, none_given, off_untouched, packs_refused}
-use Rattle.editor_state.proofs.{Images.ImageProjects.keeps_now, Refusals.CommitTests.fits, Refusals.CommitTests.spends}
-use Rattle.editor_state.proofs.{Refusals.EarlyRefusals.stopped_not, Blocks.CachePages.reads_none}
+use Rattle.editor_state.proofs.Calls.QuietCalls.{quiet_follows, refused_by, refused_stopped, refused_wanting}
+use Rattle.editor_state.proofs.Calls.QuietCalls.{tests_then}
+use Rattle.editor_state.proofs.Calls.FileRemovals.{ids_same, packs_refused}
+use Rattle.editor_state.proofs.{Refusals.CommitTests.spends, Blocks.CachePages.reads_none}
 use Rattle.editor_cleanup.proofs.HeaderJournal.{halted_held, halted_studio, keeps_packing, may_pack, packed_held}
 use Rattle.editor_cleanup.proofs.HeaderJournal.{packed_state, packed_studio, size_least, still_means, text_size}
 use Rattle.editor_cleanup.proofs.ReclaimAnswers.{some_none}
@@ -63,10 +60,7 @@ pub record Packs {D T E : Type 0} (disk : Ghosts D) (file : ℕ) (there : Bool) 
 -- only the files of journals change
 only_others : (file first last : ℕ) (MayGo : ℕ → Type 0) → file ≤ 1 → (d c : Files) → OnlyJournals file d c
     → LeavesOthers first last MayGo d c
-only_others file first last MayGo few d c only = record {
-  others = λ n other apart.
-      inl (only n (λ e. absurd (omega (arith, e, other, few))) (λ e. absurd (omega (arith, e, other))));
-}
+only_others file first last MayGo few d c only = search rules
 
 module _ {D : Type 0} (disk : Ghosts D) (old : Core D) (is : IsStudio disk old) (fewer : Fewer disk old.store) where
   abbrev t : model.Studio
@@ -75,10 +69,7 @@ module _ {D : Type 0} (disk : Ghosts D) (old : Core D) (is : IsStudio disk old) 
   -- ---- nothing was asked of the disk
 
   refused : (why : Refusal) → Took disk old (quietly call (Err why)) old → Compacts disk old (Err why) old
-  refused why took = record {
-    took = took;
-    any_moment = λ on held. took.refused on held on;
-  }
+  refused why took = search rules
 
   pub compact_stopped : (faults : ℕ) → old.stopped ≡ Some faults
       → Compacts disk old (Err (refusal.Stopped faults)) old
@@ -265,9 +256,7 @@ module _ {D : Type 0} (disk : Ghosts D) (old : Core D) (is : IsStudio disk old) 
           still_told told = tells_on kept told
 
           after_studio : IsStudio disk after
-          after_studio =
-              packed_studio disk old is going new (length (packed_text old)) all_changed later history rate short there
-              other most
+          after_studio = search (rules, packed_studio, all_changed)
 
           after_held : IsHeld disk old → IsHeld disk after
           after_held =
@@ -287,18 +276,7 @@ module _ {D : Type 0} (disk : Ghosts D) (old : Core D) (is : IsStudio disk old) 
           -- what it leaves of the journal's files
           packs_so : (bytes : ℕ) → bytes ≡ length (packed_text old) + 1
               → PacksJournal disk old (Ok (Packed bytes)) after
-          packs_so bytes answer =
-              let size : bytes ≡ length (1 ∷ packed_text old) = omega (arith, answer) in record {
-                size = ap Packed size;
-                alone = λ told. alone (still_told told) (other_mid (still_told told));
-                settled = λ keeps c here.
-                    let model : IsTrue (disk.keeps_model new) = subst IsTrue (sym all_changed.model) keeps in
-                    let honest = stays model in
-                    let told : IsTrue (disk.tells store) = subst IsTrue changed.tells honest.0 in
-                    one c (disk.reads new) here honest.1 ∙ alone told (other_mid told);
-                gone = λ told c here. durable c here ∙ gone (still_told told);
-                fields = refl;
-              }
+          packs_so bytes answer = search (rules, still_told, other_mid)
 
           pub compact_done : (bytes : ℕ) → bytes ≡ length (packed_text old) + 1 → Compacts disk old (Ok bytes) after
           compact_done bytes answer =

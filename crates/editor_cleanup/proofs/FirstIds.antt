@@ -1,9 +1,7 @@
 -- The first ids of count 0, before and after they were taken out of the counts.
-use Rattle.std.proofs.Common.{◌≡◌, inr, sym, ◌∙◌, ℕ, ◌≤◌, List, length, Option, Some, None, arith}
-use Rattle.std.specs.Prelude.{Contains}
-use Rattle.block_ledger.specs.Counts.{Counts, IsFirstFree, IsNextFree}
-use Rattle.editor_cleanup.specs.Passes.{AreFirst, AreNext, NoneFrom}
-use Rattle.editor_state.specs.Removals.{Forgets}
+use Rattle.editor_cleanup.proofs.Common.{◌≡◌, inr, sym, ◌∙◌, ℕ, ◌≤◌, List, length, Option, Some, None, arith, rules}
+use Rattle.editor_cleanup.proofs.Common.{Contains, Counts, IsFirstFree, IsNextFree, AreFirst, AreNext, NoneFrom}
+use Rattle.editor_cleanup.proofs.Common.{Forgets}
 use Rattle.editor_cleanup.proofs.FreeIds.{next_below, next_past, next_same}
 
 none_some : (o : Option ℕ) → o ≡ None → o ≡ Some 0 → ⊥
@@ -38,18 +36,10 @@ module _ (old new : Counts) (ids : List ℕ) (end : ℕ) (next : AreNext old 0 i
 
   -- what is first then came next
   pub first_is_next : (id : ℕ) → IsFirstFree new id → IsNextFree old end id
-  first_is_next id first =
-      let was = left_free id first.free in record {
-        free = was.0;
-        past = was.1;
-        least = λ other past free. first.least other (still_free other past free);
-      }
+  first_is_next id first = search (rules, left_free, still_free)
 
   pub next_is_first : (id : ℕ) → IsNextFree old end id → IsFirstFree new id
-  next_is_first id is = record {
-    free = still_free id is.past is.free;
-    least = λ other free. let was = left_free other free in is.least other was.1 was.0;
-  }
+  next_is_first id is = search (rules, still_free, left_free)
 
   pub none_left : NoneFrom old end → (id : ℕ) → new id ≡ Some 0 → ⊥
   none_left none id free = let was = left_free id free in none id was.1 was.0

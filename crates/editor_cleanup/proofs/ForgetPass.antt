@@ -1,8 +1,7 @@
 -- Blocks that nothing names are forgotten, one after another.
-use Rattle.std.proofs.Common.{◌≡◌, sym, ap, subst, ℕ, ◌+◌, List, [], ◌∷◌, ◌++◌, length, None}
-use Rattle.block_ledger.specs.Counts.{Counts, IsFirstFree, SetsCount}
-use Rattle.editor_state.specs.{Core.Core, Removals.Forgets}
-use Rattle.editor_cleanup.specs.Passes.{AreFirst, AreNext, ForgetsFirst}
+use Rattle.editor_cleanup.proofs.Common.{◌≡◌, sym, ap, subst, ℕ, ◌+◌, List, [], ◌∷◌, ◌++◌, length, None, rules, Counts}
+use Rattle.editor_cleanup.proofs.Common.{IsFirstFree, SetsCount, Core, Forgets, AreFirst, AreNext}
+use Rattle.editor_cleanup.specs.Passes.{ForgetsFirst}
 use Rattle.editor_cleanup.proofs.FirstIds.{first_is_next, first_same}
 use Rattle.editor_cleanup.proofs.{IdRemovals.forgets_more, FreeIds.next_more}
 
@@ -16,12 +15,7 @@ module _ {D : Type 0} (old : Core D) where
   pub forgetting_more : (ids : List ℕ) (end id : ℕ) (mid : Core D) (counts : Counts) → Forgetting old ids end mid
       → IsFirstFree mid.counts id → SetsCount mid.counts counts id None
       → Forgetting old (ids ++ id ∷ []) (id + 1) (record mid { counts = counts })
-  forgetting_more ids end id mid counts was first set = record {
-    next = next_more old.counts 0 ids end id was.next
-        (first_is_next old.counts mid.counts ids end was.next was.forgets id first);
-    forgets = forgets_more old.counts mid.counts counts ids id was.forgets first set;
-    fields = λ i. record (was.fields i) { counts = counts };
-  }
+  forgetting_more ids end id mid counts was first set = search (rules, next_more, first_is_next, forgets_more)
 
   pub forgets_all : (count : ℕ) (ids : List ℕ) (end : ℕ) (new : Core D) → Forgetting old ids end new
       → AreFirst old.counts count ids → ForgetsFirst old count new

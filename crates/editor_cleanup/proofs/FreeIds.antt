@@ -1,11 +1,9 @@
 -- The ids of count 0 that follow one another.
-use Rattle.std.proofs.Common.{◌≡◌, ◌≢◌, ◌⊎◌, inl, inr, ⊎_elim, refl, subst, ℕ, ◌+◌, ◌≤◌, ◌<◌, List, [], ◌∷◌, ◌++◌}
-use Rattle.std.proofs.Common.{length, Some, arith}
-use Rattle.std.proofs.lemmas.Bool.{cases_eq, cases_lt}
-use Rattle.std.specs.Prelude.{Contains}
-use Rattle.block_ledger.specs.Counts.{Counts, IsNextFree}
+use Rattle.editor_cleanup.proofs.Common.{◌≡◌, ◌≢◌, ◌⊎◌, inl, inr, ⊎_elim, refl, subst, ℕ, ◌+◌, ◌≤◌, ◌<◌, List, [], ◌∷◌}
+use Rattle.editor_cleanup.proofs.Common.{◌++◌, length, Some, arith, rules, cases_eq, Contains, Counts, IsNextFree}
+use Rattle.editor_cleanup.proofs.Common.{AreNext, NoneFrom}
+use Rattle.std.proofs.lemmas.Bool.{cases_lt}
 use Rattle.block_ledger.proofs.Listed.{contains_cases, contains_more}
-use Rattle.editor_cleanup.specs.Passes.{AreNext, NoneFrom}
 
 pub is_among : (ids : List ℕ) (x : ℕ) → Contains ids x ⊎ (Contains ids x → ⊥)
 is_among [] x = inr (λ has. omega (arith, has.1))
@@ -63,11 +61,7 @@ module _ (counts : Counts) where
 
   pub next_past : (ids : List ℕ) (end : ℕ) → AreNext counts 0 ids end → (x : ℕ) → counts x ≡ Some 0
       → (Contains ids x → ⊥) → end ≤ x
-  next_past ids end are x free not = by (cases_lt x end)
-    where
-      by : (x < end) ⊎ (end ≤ x) → end ≤ x
-      by (inl lt) = absurd (not (next_listed 0 ids end are x (omega arith) lt free))
-      by (inr le) = le
+  next_past ids end are x free not = search (rules, cases_lt, next_listed)
 
   -- as many of them are the same, and so are fewer where no more are left
   pub next_same : (from : ℕ) (xs ys : List ℕ) (x_end y_end : ℕ) → AreNext counts from xs x_end
@@ -75,10 +69,7 @@ module _ (counts : Counts) where
       → (length ys ≡ length xs) ⊎ NoneFrom counts y_end → ys ≡ xs
   next_same from [] [] x_end y_end one two few all = refl
   next_same from [] (y ∷ ys) x_end y_end one two few all = absurd (omega (arith, few))
-  next_same from (x ∷ xs) [] x_end y_end one two few all = absurd (⊎_elim
-      (λ same. omega (arith, same))
-      (λ none. none x (omega (arith, two, one.0.past)) one.0.free)
-      all)
+  next_same from (x ∷ xs) [] x_end y_end one two few all = search rules
   next_same from (x ∷ xs) (y ∷ ys) x_end y_end one two few all =
       let same : y ≡ x =
       omega (arith, one.0.least y two.0.past two.0.free, two.0.least x one.0.past one.0.free) in

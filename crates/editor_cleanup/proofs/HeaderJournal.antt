@@ -1,29 +1,28 @@
 -- The journal of a studio is put into one header: each image has the project still, and then the studio stands on it.
-use Rattle.std.proofs.Common.{◌≡◌, inr, ⊎_elim, ap₂, refl, sym, ◌∙◌, subst, ℕ, ◌+◌, ◌-◌, ◌^◌, ◌≤◌, ◌<◌, Bool, IsTrue}
-use Rattle.std.proofs.Common.{IsSome, List, [], ◌∷◌, ◌++◌, length, map, Some, None, arith, length-append}
+use Rattle.editor_cleanup.proofs.Common.{◌≡◌, inr, ⊎_elim, refl, sym, ◌∙◌, subst, ℕ, ◌+◌, ◌^◌, ◌≤◌, ◌<◌, Bool, IsTrue}
+use Rattle.editor_cleanup.proofs.Common.{IsSome, List, [], ◌∷◌, ◌++◌, length, map, Some, None, arith, length-append}
+use Rattle.editor_cleanup.proofs.Common.{rules, AllByRecursion, BlockRef, IsHistory, packed, Files, Changed, upto_refl}
+use Rattle.editor_cleanup.proofs.Common.{Ghosts, sources_of, AllWhole, IsWhole, HasLog, IsAt, Log, points_size}
+use Rattle.editor_cleanup.proofs.Common.{AreShort, HasEither, MayPack, OnlyJournals, Tells, pack_room, other_file}
+use Rattle.editor_cleanup.proofs.Common.{EachSince, form_3, Track, Keeps, point_bytes, IsValidTagged, packed_core}
+use Rattle.editor_cleanup.proofs.Common.{packed_log, packed_size, packed_text, points_in, IsDurable, IsGiven, IsHeld}
+use Rattle.editor_cleanup.proofs.Common.{IsStudio, SameBlocks, clip_blocks, named_blocks, shown, studio_by, studio_of}
+use Rattle.editor_cleanup.proofs.Common.{Core, form_at, covers_kept, form_few, keeps_by, shown_is, all_both}
+use Rattle.editor_cleanup.proofs.Common.{same_studio, all_whole, trans_same}
+use Rattle.std.proofs.Common.{ap₂, ◌-◌}
 use Rattle.std.proofs.lemmas.List.{length-map}
-use Rattle.std.specs.List.{AllByRecursion}
-use Rattle.pcm_base.specs.{declared.block.BlockRef.BlockRef, History.IsHistory, Run.packed}
-use Rattle.disk_model.specs.{Disk.Files, Frames.Changed, MomentLaws.upto_refl, declared.store.Store.Ghosts}
-use Rattle.sample_block.specs.Sources.{sources_of, AllWhole, IsWhole}
-use Rattle.project_journal.specs.Journal.{HasLog, IsAt, Log, points_size}
-use Rattle.project_journal.specs.Packing.{AreShort, HasEither, IsText, MayPack, OnlyJournals, Tells, header_row}
-use Rattle.project_journal.specs.Packing.{pack_room}
-use Rattle.project_journal.specs.{Choice.other_file, Gate.EachSince, Header.IsBase, Header.form_3}
+use Rattle.project_journal.specs.Packing.{IsText}
+use Rattle.project_journal.specs.{Header.IsBase}
 use Rattle.project_journal.proofs.{Parses.form_known, Texts.text_is}
 use Rattle.project_state.specs.Numbers.{AreUnnumbered, unnumbered}
-use Rattle.project_state.specs.{declared.track.Track.Track, Meaning.history_blocks}
-use Rattle.record_body.specs.Saved.{Begins, BeginsBy, IsHeaderBase, Keeps, Saved, point_bytes}
-use Rattle.record_body.specs.SavedValid.{IsValidTagged}
+use Rattle.project_state.specs.{Meaning.history_blocks}
+use Rattle.record_body.specs.Saved.{Begins, BeginsBy, IsHeaderBase, Saved}
 use Rattle.record_body.proofs.Unnumbered.{are_unnumbered, history_blocks_alike, history_meant_alike, point_alike}
 use Rattle.record_body.proofs.Unnumbered.{valid_alike}
-use Rattle.editor_state.specs.Packing.{packed_base, packed_core, packed_log, packed_size, packed_text, points_in}
-use Rattle.editor_state.specs.Studios.{IsDurable, IsGiven, IsHeld, IsStudio, SameBlocks, clip_blocks, named_blocks}
-use Rattle.editor_state.specs.Studios.{pin_blocks, shown, studio_by, studio_of}
-use Rattle.editor_state.specs.{Core.Core, Core.form_at, Spent.saved_of}
-use Rattle.editor_state.proofs.Images.ImageProjects.{covers_kept, form_few, keeps_by, shown_is}
-use Rattle.editor_state.proofs.{Lists.all_both, Lists.all_left, Lists.all_so, Images.SameMeaning.same_studio}
-use Rattle.editor_state.proofs.{Blocks.BlockSounds.all_whole, Blocks.BlockSounds.trans_same, SameStudios.studio_over}
+use Rattle.editor_state.specs.Packing.{packed_base}
+use Rattle.editor_state.specs.Studios.{pin_blocks}
+use Rattle.editor_state.specs.{Spent.saved_of}
+use Rattle.editor_state.proofs.{Lists.all_left, Lists.all_so, SameStudios.studio_over}
 use Rattle.editor_cleanup.proofs.HeaderPoints.{length_rows}
 
 -- ---- the text
@@ -68,53 +67,23 @@ module _ {D : Type 0} (disk : Ghosts D) (s : Core D) (is : IsStudio disk s) (lat
   size_least = omega (arith, points_least s.history.points some)
 
   base_is : IsBase s.history.depth (packed_base s)
-  base_is = record {
-    generation = omega (arith, later);
-    commit = is.counters.commit_most;
-    block_least = is.counters.block_least;
-    block_most = is.counters.block_most;
-    track_least = is.counters.track_least;
-    track_most = is.counters.track_most;
-    some = omega (arith, some);
-    few = is.few_points;
-    current = history.current;
-  }
+  base_is = search rules
 
   -- the text is that of a journal that begins with the history
   pub text_spells : s.rate < 2 ^ 32 → AreShort (points_in s.history) → IsText (packed_text s) (packed_log s)
-  text_spells rate short =
-      text_is (packed_log s) (packed_text s) refl refl is.format rate base_is
-      (length-map s.history.points point_bytes) short
+  text_spells rate short = search (rules, text_is, base_is, length-map)
 
   pub text_begins : Begins (packed_log s) (saved_of s)
-  text_begins =
-      let many : length (points_in s.history) ≡ length s.history.points = length-map s.history.points point_bytes in
-      begins_by (points_in s.history) (packed_log s) (saved_of s) (omega (arith, many, some)) (record {
-        points = points_alike s.history.points;
-        cursor = refl;
-        depth = refl;
-        next_block = refl;
-        next_track = refl;
-        commit = refl;
-        valid = points_valid s.block_size s.next_block s.next_track s.commit_number s.history.points is.points;
-        unnumbered = points_plain s.history.points;
-      })
+  text_begins = search (rules, length-map, begins_by, points_alike, points_valid, points_plain)
 
 pub text_size : {D : Type 0} (s : Core D) → 1 + length (packed_text s) ≡ packed_size s
-text_size s = omega (
-  arith,
-  length-append (header_row (packed_log s)) (0 ∷ []),
-  length_rows (points_in s.history),
-)
+text_size s = search (rules, length-append, length_rows)
 
 -- ---- the files of blocks stay
 
 only_blocks : (file : ℕ) (d c : Files) (next : ℕ) (bs : List BlockRef) → file ≤ 1 → OnlyJournals file d c
     → AllByRecursion (λ (b : BlockRef). IsGiven next b.id) bs → SameBlocks bs d c
-only_blocks file d c next bs few only =
-    all_so (λ (b : BlockRef). IsGiven next b.id) (λ b. c b.id ≡ d b.id)
-    (λ b h. let least = h.0 in
-    only b.id (λ e. absurd (omega (arith, e, least, few))) (λ e. absurd (omega (arith, e, least)))) bs
+only_blocks file d c next bs few only = search (rules, all_so)
 
 module _ {D : Type 0} (disk : Ghosts D) (s : Core D) (is : IsStudio disk s) (going : s.stopped ≡ None) (store : D)
     (len : ℕ) (changed : Changed disk (OnlyJournals s.file) (pack_room len) s.store store) where
@@ -141,11 +110,7 @@ module _ {D : Type 0} (disk : Ghosts D) (s : Core D) (is : IsStudio disk s) (goi
   halted_studio faults = studio_over disk s is store (Some faults)
 
   pub halted_held : (faults : ℕ) → IsHeld disk s → IsHeld disk (record s { store = store; stopped = Some faults })
-  halted_held faults held = record {
-    tells = still_tells held;
-    whole = still_whole held;
-    durable = λ on. absurd (cc on);
-  }
+  halted_held faults held = search (rules, still_tells, still_whole)
 
   -- ---- at each moment
 
@@ -204,40 +169,7 @@ module _ {D : Type 0} (disk : Ghosts D) (s : Core D) (is : IsStudio disk s) (goi
     new = packed_core s store
 
     pub packed_studio : packed_size s ≤ 2 ^ 62 → IsStudio disk new
-    packed_studio most = let least = size_least disk s is later history in record {
-      format = is.format;
-      counters = record {
-        block_least = is.counters.block_least;
-        block_most = is.counters.block_most;
-        track_least = is.counters.track_least;
-        track_most = is.counters.track_most;
-        pin_least = is.counters.pin_least;
-        pin_most = is.counters.pin_most;
-        commit_most = is.counters.commit_most;
-        end_least = omega (arith, least);
-        end_most = omega (arith, most);
-      };
-      journal = record {
-        among = omega arith;
-        version_least = omega arith;
-        version_most = omega arith;
-        generation_most = omega (arith, later);
-        first_version = λ first. absurd (omega (arith, first));
-      };
-      few_points = is.few_points;
-      few_clips = is.few_clips;
-      points = is.points;
-      pins = is.pins;
-      numbers = is.numbers;
-      clipboard = is.clipboard;
-      ids = is.ids;
-      layouts = is.layouts;
-      numbered = is.numbered;
-      drawn = is.drawn;
-      counted = is.counted;
-      given = is.given;
-      pages = is.pages;
-    }
+    packed_studio most = search (rules, size_least)
 
     packed_durable : IsTrue (disk.tells s.store)
         → IsAt (form_3 (other_file s.file)) disk store (length (packed_text s)) (packed_log s)

@@ -1,19 +1,17 @@
 -- The points of a history as a header has them, one after another.
-use Rattle.std.proofs.Common.{◌≡◌, ℕ, zero, suc, ◌+◌, ◌^◌, ◌<◌, List, [], ◌∷◌, ◌++◌, length, map, take, drop, slice_get}
-use Rattle.std.proofs.Common.{Some, refl, sym, ap, subst, arith, length-append}
-use Rattle.std.specs.{Prelude.slice_index, List.flat_map}
+use Rattle.editor_cleanup.proofs.Common.{◌≡◌, ℕ, zero, suc, ◌+◌, ◌^◌, ◌<◌, List, [], ◌∷◌, ◌++◌, length, map, Some, refl}
+use Rattle.editor_cleanup.proofs.Common.{sym, ap, subst, arith, length-append, rules, slice_index, points_size}
+use Rattle.editor_cleanup.proofs.Common.{AreShort, Track, point_bytes}
+use Rattle.std.proofs.Common.{take, drop, slice_get}
+use Rattle.std.specs.{List.flat_map}
 use Rattle.pcm_base.specs.History.{point_of, tag_of}
-use Rattle.project_journal.specs.{Journal.points_size, Packing.AreShort, Packing.sized}
-use Rattle.project_state.specs.declared.track.Track.{Track}
-use Rattle.record_body.specs.Saved.{point_bytes}
+use Rattle.project_journal.specs.{Packing.sized}
 
 -- a point and its tag, at a place
 pub tagged : {P : Type 0} (ps : List (P × ℕ)) (i : ℕ) (p : P) → slice_get (map point_of ps) i ≡ Some p
     → slice_get ps i ≡ Some (p, slice_index (map tag_of ps) i)
 tagged [] i p e = absurd cc
-tagged (x ∷ xs) zero p e =
-    let same : x.0 ≡ p = cc in
-    λ j. Some (same j, x.1)
+tagged (x ∷ xs) zero p e = search rules
 tagged (x ∷ xs) (suc i) p e = tagged xs i p e
 
 -- a point after its length
@@ -50,7 +48,5 @@ short_next ps i x e short less =
 pub short_at : (ps : List (List Track × ℕ)) (i : ℕ) (x : List Track × ℕ) → slice_get ps i ≡ Some x
     → AreShort (map point_bytes ps) → length (point_bytes x) < 2 ^ 32
 short_at [] i x e short = absurd cc
-short_at (p ∷ ps) zero x e short =
-    let same : p ≡ x = cc in
-    subst (λ (q : List Track × ℕ). length (point_bytes q) < 2 ^ 32) same short.0
+short_at (p ∷ ps) zero x e short = search rules
 short_at (p ∷ ps) (suc i) x e short = short_at ps i x e short.1

@@ -1,13 +1,11 @@
 -- Ids that went, one after another.
-use Rattle.std.proofs.Common.{◌≡◌, ◌≢◌, ◌⊎◌, inl, inr, ⊎_elim, refl, sym, ap, ◌∙◌, subst, ℕ, zero, suc, ◌+◌, ◌<◌, List}
-use Rattle.std.proofs.Common.{[], ◌∷◌, ◌++◌, length, length-append, Option, Some, None, arith}
-use Rattle.std.proofs.lemmas.Bool.{cases_eq}
+use Rattle.editor_cleanup.proofs.Common.{◌≡◌, ◌≢◌, ◌⊎◌, inl, inr, ⊎_elim, refl, sym, ap, ◌∙◌, subst, ℕ, zero, suc, ◌+◌}
+use Rattle.editor_cleanup.proofs.Common.{◌<◌, List, [], ◌∷◌, ◌++◌, length, length-append, Option, Some, None, arith}
+use Rattle.editor_cleanup.proofs.Common.{rules, cases_eq, Contains, slice_index, Files, RemoveStep, Counts, SetsCount}
+use Rattle.editor_cleanup.proofs.Common.{IsFirstFree, AreGone, Forgets, Removes, RemovesPart}
 use Rattle.std.proofs.lemmas.List.{get_or_append_left, get_or-append-add, get_or_default}
 use Rattle.std.proofs.lemmas.List.Elements.{Contains-append_left, Contains-append_right, Contains-append_cases}
-use Rattle.std.specs.{Prelude.Contains, Prelude.slice_index, List.Sorted.IsStrictlyIncreasing}
-use Rattle.disk_model.specs.Disk.{Files, RemoveStep}
-use Rattle.block_ledger.specs.Counts.{Counts, SetsCount, IsFirstFree}
-use Rattle.editor_state.specs.Removals.{AreGone, Forgets, Removes, RemovesPart}
+use Rattle.std.specs.{List.Sorted.IsStrictlyIncreasing}
 
 none_in : {X : Type 0} (x : X) → Contains [] x → ⊥
 none_in x h = omega (arith, h.1)
@@ -59,13 +57,7 @@ rises ids id up below = λ k lt. go k lt (cases_eq (k + 1) (length ids))
         )
 
 pub forgets_none : (old : Counts) → Forgets old old []
-forgets_none old = record {
-  rising = λ k lt. absurd (omega (arith, lt));
-  free = λ id h. absurd (none_in id h);
-  gone = λ id h. absurd (none_in id h);
-  least = λ id other h free. absurd (none_in id h);
-  others = λ id not. refl;
-}
+forgets_none old = search (rules, none_in)
 
 pub forgets_more : (old mid new : Counts) (ids : List ℕ) (id : ℕ) → Forgets old mid ids → IsFirstFree mid id
     → SetsCount mid new id None → Forgets old new (ids ++ id ∷ [])

@@ -1,3 +1,4 @@
+mod Common
 -- The ids of blocks that nothing names, and their files.
 pub mod FreeIds
 pub mod FirstIds

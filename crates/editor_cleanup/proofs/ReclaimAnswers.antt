@@ -1,25 +1,18 @@
 -- What a reclaim answers where the disk did not fail, and of a studio that had stopped.
-use Rattle.std.proofs.Common.{◌≡◌, ◌⊎◌, inl, inr, ⊎_elim, refl, sym, ap, subst, ℕ, ◌≤◌, IsTrue, [], length, Option}
-use Rattle.std.proofs.Common.{Some, None, Result, Ok, Err, arith}
-use Rattle.std.specs.Prelude.{IfSome, unwrap_or, ◌-◌, ◌^◌}
-use Rattle.pcm_base.specs.{declared.answer.Reply.Reply, declared.answer.Reply.TheVariants.Freed}
-use Rattle.pcm_base.specs.{declared.command.Call.Call, declared.command.Call.TheVariants.Line}
-use Rattle.pcm_base.specs.{declared.command.Command.TheVariants.Reclaim, declared.refusal.Refusal.Refusal, Run.stop_of}
-use Rattle.pcm_base.specs.{Step.IsWithin}
-use Rattle.disk_model.specs.declared.store.Store.{Ghosts}
-use Rattle.disk_model.proofs.Frames.{Fewer, changed_wider}
-use Rattle.block_ledger.specs.Counts.{Counts}
-use Rattle.editor_state.specs.Studios.{IsHeld, IsStudio, is_given, studio_of}
-use Rattle.editor_state.specs.{Core.Core, Removals.Forgets, Removals.FreesUnnamed, Took.silent}
-use Rattle.editor_cleanup.specs.{Frees.Reclaims, Passes.DropsFirst}
+use Rattle.editor_cleanup.proofs.Common.{◌≡◌, ◌⊎◌, inl, inr, ⊎_elim, refl, sym, ap, subst, ℕ, ◌≤◌, IsTrue, [], length}
+use Rattle.editor_cleanup.proofs.Common.{Option, Some, None, Result, Ok, Err, arith, IfSome, unwrap_or, ◌-◌, Call, Line}
+use Rattle.editor_cleanup.proofs.Common.{Reclaim, Refusal, stop_of, Ghosts, Fewer, changed_wider, Counts, IsHeld}
+use Rattle.editor_cleanup.proofs.Common.{IsStudio, is_given, studio_of, Core, Forgets, Reclaims, DropsFirst, IsQuiet}
+use Rattle.editor_cleanup.proofs.Common.{room_of, ids_freed, no_record, none_given, stopped_not, keeps_now, fits}
+use Rattle.std.specs.Prelude.{◌^◌}
+use Rattle.pcm_base.specs.{declared.answer.Reply.Reply, declared.answer.Reply.TheVariants.Freed, Step.IsWithin}
+use Rattle.editor_state.specs.{Removals.FreesUnnamed, Took.silent}
 use Rattle.editor_cleanup.proofs.StudioFiles.{keeps_since, less, less_held, less_studio, same_meaning}
 use Rattle.editor_cleanup.proofs.UnnamedFiles.{free_unnamed, only_named, spared, unnamed_free}
 use Rattle.editor_cleanup.proofs.{FirstIds.none_left, FreeFiles.freed_others, IdRemovals.forgets_none}
 use Rattle.editor_cleanup.proofs.{IdRemovals.part_none, ReclaimLimits.all_of, ReclaimLimits.within}
-use Rattle.editor_state.proofs.Calls.QuietCalls.{IsQuiet, carried, quiet_passes, room_of, stopped_first}
-use Rattle.editor_state.proofs.Calls.FileRemovals.{ids_freed, no_record, none_given}
-use Rattle.editor_state.proofs.Refusals.EarlyRefusals.{refuses, stopped_not}
-use Rattle.editor_state.proofs.{Images.ImageProjects.keeps_now, Refusals.CommitTests.fits}
+use Rattle.editor_state.proofs.Calls.QuietCalls.{carried, quiet_passes, stopped_first}
+use Rattle.editor_state.proofs.Refusals.EarlyRefusals.{refuses}
 use Rattle.pcm_base.specs.declared.refusal.Refusal.TheVariants as refusal
 
 pub some_none : {A : Type 0} (o : Option A) (x : A) → o ≡ Some x → o ≡ None → ⊥

@@ -1,19 +1,13 @@
 -- What a reclaim answers where the disk failed.
-use Rattle.std.proofs.Common.{◌≡◌, inl, inr, ⊎_elim, refl, ◌∙◌, ℕ, ◌+◌, ◌^◌, ◌<◌, IsTrue, IsSome, List, length, Option}
-use Rattle.std.proofs.Common.{Some, None, Err, arith}
-use Rattle.std.specs.Prelude.{Contains, unwrap_or, ◌-◌}
-use Rattle.disk_model.specs.declared.store.Store.{Ghosts}
-use Rattle.disk_model.proofs.Frames.{changed_wider}
-use Rattle.block_ledger.specs.Counts.{Counts}
-use Rattle.editor_state.specs.Studios.{IsHeld, IsStudio, is_given, studio_of}
-use Rattle.editor_state.specs.{Adding.HasFailed, Core.Core, Removals.Forgets, Removals.IsUnnamed, Removals.RemovesPart}
-use Rattle.editor_cleanup.specs.{Frees.Reclaims, Passes.RemovesFirst}
+use Rattle.editor_cleanup.proofs.Common.{◌≡◌, inl, inr, ⊎_elim, refl, ◌∙◌, ℕ, ◌+◌, ◌^◌, ◌<◌, IsTrue, IsSome, List}
+use Rattle.editor_cleanup.proofs.Common.{length, Option, Some, None, Err, arith, Contains, unwrap_or, ◌-◌, Ghosts}
+use Rattle.editor_cleanup.proofs.Common.{changed_wider, Counts, IsHeld, IsStudio, is_given, studio_of, HasFailed, Core}
+use Rattle.editor_cleanup.proofs.Common.{Forgets, IsUnnamed, RemovesPart, Reclaims, RemovesFirst, ids_freed, no_record}
+use Rattle.editor_cleanup.proofs.Common.{off_untouched, stopped_not}
 use Rattle.editor_cleanup.proofs.StudioFiles.{halted_held, halted_studio, keeps_since, same_meaning}
 use Rattle.editor_cleanup.proofs.ReclaimAnswers.{quiet, some_none}
 use Rattle.editor_cleanup.proofs.UnnamedFiles.{free_unnamed, spared, unnamed_before, unnamed_free}
 use Rattle.editor_cleanup.proofs.{FirstIds.next_is_first, FreeFiles.freed_others, ReclaimLimits.within}
-use Rattle.editor_state.proofs.Calls.FileRemovals.{ids_freed, no_record, off_untouched}
-use Rattle.editor_state.proofs.Refusals.EarlyRefusals.{stopped_not}
 use Rattle.pcm_base.specs.declared.refusal.Refusal.TheVariants as refusal
 use Rattle.pcm_base.specs.Studio as model
 

@@ -1,10 +1,7 @@
 -- How many files a reclaim lets go, by its limit.
-use Rattle.std.proofs.Common.{◌≡◌, ◌⊎◌, inl, refl, sym, ap, ◌∙◌, subst, ℕ, ◌^◌, ◌≤◌, IsSome, List, length, Option, Some}
-use Rattle.std.proofs.Common.{None, arith}
-use Rattle.std.specs.Prelude.{IfSome, unwrap_or, ◌-◌}
-use Rattle.disk_model.specs.declared.store.Store.{Ghosts}
-use Rattle.editor_state.specs.{Core.Core, Studios.IsStudio}
-use Rattle.editor_cleanup.specs.Passes.{AreNext}
+use Rattle.editor_cleanup.proofs.Common.{◌≡◌, ◌⊎◌, inl, refl, sym, ap, ◌∙◌, subst, ℕ, ◌^◌, ◌≤◌, IsSome, List, length}
+use Rattle.editor_cleanup.proofs.Common.{Option, Some, None, arith, IfSome, unwrap_or, ◌-◌, Ghosts, Core, IsStudio}
+use Rattle.editor_cleanup.proofs.Common.{AreNext}
 use Rattle.editor_cleanup.proofs.FreeIds.{next_few, next_most}
 
 pub within : (limit : Option ℕ) (most n : ℕ) → most ≡ unwrap_or limit (2 ^ 64 - 1) → n ≤ most

@@ -1,15 +1,12 @@
 -- Files of blocks are removed, one after another.
-use Rattle.std.proofs.Common.{◌≡◌, ◌⊎◌, inl, inr, ⊎_elim, refl, sym, ap, ◌∙◌, subst, ℕ, ◌+◌, ◌*◌, ◌≤◌, Bool, IsTrue}
-use Rattle.std.proofs.Common.{List, [], ◌∷◌, ◌++◌, length, None, Result, Ok, Err, arith}
-use Rattle.std.proofs.lemmas.Bool.{cases_eq}
-use Rattle.std.specs.Prelude.{Contains}
-use Rattle.disk_model.specs.{Disk.RemoveStep, Frames.Changed, declared.store.Store.Ghosts}
-use Rattle.disk_model.proofs.Frames.{Fewer, changed_none, changed_turn, changed_wider}
-use Rattle.block_cache.specs.Caches.{AllPass}
+use Rattle.editor_cleanup.proofs.Common.{◌≡◌, ◌⊎◌, inl, inr, sym, ap, ◌∙◌, subst, ℕ, ◌+◌, ◌≤◌, Bool, IsTrue, rules}
+use Rattle.editor_cleanup.proofs.Common.{List, [], ◌∷◌, ◌++◌, length, None, Result, Ok, Err, arith, cases_eq, Contains}
+use Rattle.editor_cleanup.proofs.Common.{RemoveStep, Changed, Ghosts, Fewer, changed_none, changed_turn, changed_wider}
+use Rattle.editor_cleanup.proofs.Common.{AllPass, Counts, IsNextFree, Core, Removes, AreNext, FreesFiles, NoneFrom}
+use Rattle.editor_cleanup.proofs.Common.{RemovesFirst, only_calls}
+use Rattle.std.proofs.Common.{◌*◌}
 use Rattle.block_cache.proofs.CarriedLaws.{pass_without}
-use Rattle.block_ledger.specs.Counts.{Counts, IsNextFree}
-use Rattle.editor_state.specs.{Core.Core, Removals.Drops, Removals.Removes}
-use Rattle.editor_cleanup.specs.Passes.{AreNext, FreesFiles, NoneFrom, RemovesFirst, only_calls}
+use Rattle.editor_state.specs.{Removals.Drops}
 use Rattle.editor_cleanup.proofs.IdRemovals.{gone_same, long, removes_more, removes_none}
 use Rattle.editor_cleanup.proofs.{FreeFiles.freed_none, FreeFiles.freed_one, FreeFiles.freed_then, FreeIds.next_more}
 
@@ -25,15 +22,7 @@ pub record Removing {D : Type 0} (disk : Ghosts D) (old : Core D) (ids : List �
 
 module _ {D : Type 0} (disk : Ghosts D) (old : Core D) where
   pub removing_none : Fewer disk old.store → Removing disk old [] 0 old
-  removing_none fewer = record {
-    next = refl;
-    fields = refl;
-    files = λ told. removes_none (disk.reads old.store);
-    pages = λ test pass. pass;
-    changed = changed_none old.store (freed_none old.counts) fewer;
-    change_faults = refl;
-    read_faults = refl;
-  }
+  removing_none fewer = search (rules, removes_none, changed_none, freed_none)
 
   -- what comes next by the counts as they are
   pub next_here : (ids : List ℕ) (end id : ℕ) (mid : Core D) → Removing disk old ids end mid
@@ -59,9 +48,7 @@ module _ {D : Type 0} (disk : Ghosts D) (old : Core D) where
       then_pages test pass = pass_without test id mid.cache new.cache drops.without (was.pages test pass)
 
       then_changed : (n : ℕ) → length ids + 1 ≤ n → Changed disk (FreesFiles old.counts) (only_calls n) old.store new.store
-      then_changed n le = changed_turn (λ d c step. step)
-          (λ d e c one two. freed_then old.counts d e c one (freed_one old.counts id next.free e c two))
-          (record { files = omega arith; bytes = omega arith; calls = omega (arith, le) }) was.changed drops.changed
+      then_changed n le = search (rules, changed_turn, freed_then, freed_one)
 
     pub removing_more : {T E : Type 0} (r : T) → Drops {E = E} disk mid id (Ok r) new
         → Removing disk old (ids ++ id ∷ []) (id + 1) new
@@ -80,18 +67,12 @@ module _ {D : Type 0} (disk : Ghosts D) (old : Core D) where
     others_fail : IsTrue (disk.tells old.store) → RemoveStep id (disk.reads mid.store) (disk.reads new.store) → (x : ℕ)
         → (Contains ids x → ⊥) → (x ≡ id) ⊎ (x ≡ id → ⊥)
         → (disk.reads new.store x ≡ disk.reads old.store x) ⊎ (disk.reads new.store x ≡ None) × IsNextFree old.counts end x
-    others_fail told step x not (inl is) = subst (λ (n : ℕ). (disk.reads new.store n ≡ disk.reads old.store n)
-        ⊎ (disk.reads new.store n ≡ None) × IsNextFree old.counts end n) (sym is) (⊎_elim
-        (λ same. inl (same ∙ (was.files told).others id (subst (λ (n : ℕ). Contains ids n → ⊥) is not)))
-        (λ none. inr (none, next))
-        step.gone)
+    others_fail told step x not (inl is) = search rules
     others_fail told step x not (inr other) = inl (step.others x other ∙ (was.files told).others x not)
 
     gone_fail : IsTrue (disk.tells old.store) → RemoveStep id (disk.reads mid.store) (disk.reads new.store) → (x : ℕ)
         → Contains ids x → (x ≡ id) ⊎ (x ≡ id → ⊥) → disk.reads new.store x ≡ None
-    gone_fail told step x has (inl is) = subst (λ (n : ℕ). disk.reads new.store n ≡ None) (sym is)
-        (gone_same (disk.reads mid.store id) (disk.reads new.store id)
-        (subst (λ (n : ℕ). disk.reads mid.store n ≡ None) is ((was.files told).gone x has)) step.gone)
+    gone_fail told step x has (inl is) = search (rules, gone_same)
     gone_fail told step x has (inr other) = step.others x other ∙ (was.files told).gone x has
 
     pub removes_fail : {T E : Type 0} (e : E) (most count : ℕ) → Drops {T = T} disk mid id (Err e) new
@@ -121,20 +102,4 @@ module _ {D : Type 0} (disk : Ghosts D) (old : Core D) where
   pub removes_all : {T E : Type 0} (r : T) (most count : ℕ) (ids : List ℕ) (end : ℕ) (new : Core D)
       → Removing disk old ids end new → length ids ≡ count → count ≤ most
       → (length ids ≡ most) ⊎ NoneFrom old.counts end → RemovesFirst {E = E} disk old 1 most count (Ok r) new
-  removes_all r most count ids end new was len few all = record {
-    ids = ids;
-    end = end;
-    next = was.next;
-    len = len;
-    few = omega (arith, len, few);
-    all = all;
-    fields = was.fields;
-    gone = λ told. (was.files told).gone;
-    others = λ told x not. inl ((was.files told).others x not);
-    done = was.files;
-    pages = was.pages;
-    changed = changed_wider (λ d c step. step)
-        (record { files = omega arith; bytes = omega arith; calls = omega arith }) was.changed;
-    faults = record { later = omega (arith, was.change_faults); failed = tt; kept = was.change_faults };
-    read_faults = was.read_faults;
-  }
+  removes_all r most count ids end new was len few all = search (rules, changed_wider)

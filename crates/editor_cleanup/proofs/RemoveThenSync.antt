@@ -1,14 +1,10 @@
 -- Files of blocks are removed and then synced.
-use Rattle.std.proofs.Common.{◌≡◌, ◌⊎◌, sym, ap, ◌∙◌, subst, ℕ, Bool, IsTrue, List, None, Result, Ok, Err, arith}
-use Rattle.std.specs.Prelude.{Contains, OnErr, OnOk}
-use Rattle.pcm_base.specs.Causes.{HasCause, Rose}
-use Rattle.disk_model.specs.{Disk.Files, declared.store.Store.Ghosts}
-use Rattle.disk_model.proofs.Frames.{changed_then_stays, changed_wider}
-use Rattle.project_journal.specs.Gate.{EachNow}
-use Rattle.block_cache.specs.Caches.{AllPass}
-use Rattle.block_ledger.specs.Counts.{Counts, IsNextFree}
-use Rattle.editor_state.specs.{Core.Core, Removals.AreGone, Removals.Removes}
-use Rattle.editor_cleanup.specs.Passes.{AreFirst, AreSettled, DropsFirst, RemovesFirst, SyncsFirst}
+use Rattle.editor_cleanup.proofs.Common.{◌≡◌, ◌⊎◌, sym, ap, ◌∙◌, subst, ℕ, Bool, IsTrue, List, None, Result, Ok, Err}
+use Rattle.editor_cleanup.proofs.Common.{arith, rules, Contains, HasCause, Rose, Files, Ghosts, changed_then_stays}
+use Rattle.editor_cleanup.proofs.Common.{changed_wider, EachNow, AllPass, Counts, IsNextFree, Core, AreGone, Removes}
+use Rattle.editor_cleanup.proofs.Common.{AreFirst, DropsFirst, RemovesFirst, SyncsFirst}
+use Rattle.std.specs.Prelude.{OnErr, OnOk}
+use Rattle.editor_cleanup.specs.Passes.{AreSettled}
 use Rattle.editor_cleanup.proofs.FirstIds.{first_same}
 
 on_any : {T E : Type 0} {P : Type 0} (r : Result T E) → P → OnOk r P
@@ -19,26 +15,7 @@ module _ {D : Type 0} (disk : Ghosts D) (old : Core D) (most count : ℕ) where
   -- a removal failed
   pub drops_fail : {T E : Type 0} (e : E) (new : Core D) → RemovesFirst {T = T} disk old 1 most count (Err e) new
       → DropsFirst {T = T} disk old most count (Err e) new
-  drops_fail e new was = record {
-    removes = record {
-      ids = was.ids;
-      end = was.end;
-      next = was.next;
-      len = was.len;
-      few = was.few;
-      all = tt;
-      fields = was.fields;
-      gone = was.gone;
-      others = was.others;
-      done = λ told. tt;
-      pages = was.pages;
-      changed = changed_wider (λ d c step. step)
-          (record { files = omega arith; bytes = omega arith; calls = omega arith }) was.changed;
-      faults = was.faults;
-      read_faults = was.read_faults;
-    };
-    durable = λ told. tt;
-  }
+  drops_fail e new was = search (rules, changed_wider)
 
   -- all were removed
   module _ {T E : Type 0} (r : T) (mid new : Core D) (was : RemovesFirst {E = E} disk old 1 most count (Ok r) mid) where

@@ -1,25 +1,19 @@
 -- Files of blocks that nothing names go, and the studio stays what it was.
-use Rattle.std.proofs.Common.{◌≡◌, ◌⊎◌, ◌↔◌, inl, inr, ⊎_elim, refl, sym, ap, ◌∙◌, subst, ℕ, ◌<◌, IsTrue, IsSome, List}
-use Rattle.std.proofs.Common.{[], ◌∷◌, Option, Some, None, arith}
-use Rattle.std.proofs.lemmas.Bool.{cases_eq}
-use Rattle.std.specs.Prelude.{Contains}
-use Rattle.pcm_base.specs.declared.block.BlockRef.{BlockRef}
-use Rattle.disk_model.specs.{Disk.Files, Frames.Changed, MomentLaws.upto_refl, Room.Room, declared.store.Store.Ghosts}
-use Rattle.sample_block.specs.Sources.{sources_of, IsWhole, AllWhole}
-use Rattle.block_ledger.specs.Counts.{Counts, occurrences}
+use Rattle.editor_cleanup.proofs.Common.{◌≡◌, ◌⊎◌, inl, inr, ⊎_elim, refl, sym, ◌∙◌, subst, ℕ, ◌<◌, IsTrue, IsSome}
+use Rattle.editor_cleanup.proofs.Common.{List, [], ◌∷◌, Option, Some, None, arith, rules, cases_eq, Contains, BlockRef}
+use Rattle.editor_cleanup.proofs.Common.{Files, Changed, upto_refl, Room, Ghosts, sources_of, IsWhole, AllWhole, Counts}
+use Rattle.editor_cleanup.proofs.Common.{occurrences, EachSince, HasLog, Keeps, AllPass, IsGiven, is_given, SameBlocks}
+use Rattle.editor_cleanup.proofs.Common.{IsDurable, IsHeld, IsStudio, shown, studio_by, studio_of, named_blocks}
+use Rattle.editor_cleanup.proofs.Common.{clip_blocks, Core, form_at, times_named, Forgets, Removes, FreesFiles}
+use Rattle.editor_cleanup.proofs.Common.{form_few, keeps_by, shown_is, covers_kept, free_named, all_both, same_studio}
+use Rattle.editor_cleanup.proofs.Common.{all_whole, trans_same}
+use Rattle.std.proofs.Common.{◌↔◌}
 use Rattle.block_ledger.proofs.Times.{times_here, times_other}
-use Rattle.project_journal.specs.{Gate.EachSince, Choice.other_file, Journal.HasLog}
 use Rattle.project_journal.proofs.Kept.{SameJournals, is_at_still, each_since}
-use Rattle.record_body.specs.Saved.{Keeps}
-use Rattle.block_cache.specs.Caches.{AllPass, Entries}
+use Rattle.block_cache.specs.Caches.{Entries}
 use Rattle.layout_uses.specs.Tallies.{AreCounts}
-use Rattle.editor_state.specs.Studios.{IsGiven, is_given, SameBlocks, IsDurable, IsHeld, IsStudio, ids_of, shown}
-use Rattle.editor_state.specs.Studios.{studio_by, studio_of, named_blocks, clip_blocks, studio_tracks}
-use Rattle.editor_state.specs.{Core.Core, Core.form_at, Occurrences.times_named, Removals.Forgets, Removals.Removes}
-use Rattle.editor_cleanup.specs.Passes.{FreesFiles}
-use Rattle.editor_state.proofs.Images.ImageProjects.{form_few, keeps_by, shown_is, covers_kept}
-use Rattle.editor_state.proofs.{Blocks.NamedBlocks.free_named, Lists.all_both, Images.SameMeaning.same_studio}
-use Rattle.editor_state.proofs.{Blocks.BlockSounds.all_whole, Blocks.BlockSounds.trans_same, SameStudios.studio_with}
+use Rattle.editor_state.specs.Studios.{ids_of, studio_tracks}
+use Rattle.editor_state.proofs.{SameStudios.durable_so, SameStudios.studio_with}
 use Rattle.editor_cleanup.proofs.FreeIds.{is_among}
 
 -- files of ids that come among blocks are the same
@@ -56,16 +50,10 @@ module _ {D : Type 0} (disk : Ghosts D) (s : Core D) (is : IsStudio disk s) (muc
 
   -- neither file of a journal is a block's
   journal_same : (file : ℕ) (d c : Files) → file < 16 → FreesFiles s.counts d c → c file ≡ d file
-  journal_same file d c low step = ⊎_elim
-      (λ same. same)
-      (λ gone. absurd (omega (arith, low, (is.given file (subst IsSome (sym gone.0) refl)).0)))
-      (step file)
+  journal_same file d c low step = search rules
 
   journals_same : (d c : Files) → FreesFiles s.counts d c → SameJournals s.file d c
-  journals_same d c step = (
-    journal_same s.file d c (omega (arith, is.journal.among)) step,
-    journal_same (other_file s.file) d c (omega arith) step,
-  )
+  journals_same d c step = search (rules, journal_same)
 
   same_files : IsTrue (disk.tells s.store) → SameBlocks (named_blocks s) (disk.reads s.store) (disk.reads store)
   same_files told = named_same (disk.reads s.store) (disk.reads store) (changed.reads told)
@@ -100,23 +88,13 @@ module _ {D : Type 0} (disk : Ghosts D) (s : Core D) (is : IsStudio disk s) (muc
   module _ (cache : Entries) (counts : Counts) (ids : List ℕ) (gone : Forgets s.counts counts ids) where
     less_counted : (x : ℕ) → Contains ids x ⊎ (Contains ids x → ⊥) → occurrences (counts x)
         ≡ occurrences (s.counts x)
-    less_counted x among = ⊎_elim
-        (λ has. ap occurrences (gone.gone x has) ∙ sym (ap occurrences (gone.free x has)))
-        (λ not. ap occurrences (gone.others x not))
-        among
+    less_counted x among = search rules
 
     less_counts : AreCounts (studio_tracks s) (clip_blocks s.clipboard) s.uses counts
-    less_counts = record {
-      fresh_uses = is.counted.fresh_uses;
-      none_free = is.counted.none_free;
-      fresh_counts = λ x. less_counted x (is_among ids x) ∙ is.counted.fresh_counts x;
-    }
+    less_counts = search (rules, less_counted, is_among)
 
     less_given : (x : ℕ) → IsSome (counts x) → Contains ids x ⊎ (Contains ids x → ⊥) → IsGiven s.next_block x
-    less_given x some among = ⊎_elim
-        (λ has. absurd (none_some (counts x) (gone.gone x has) some))
-        (λ not. is.given x (subst IsSome (gone.others x not) some))
-        among
+    less_given x some among = search (rules, none_some)
 
     -- it goes on
     abbrev pub less : Core D
@@ -129,31 +107,19 @@ module _ {D : Type 0} (disk : Ghosts D) (s : Core D) (is : IsStudio disk s) (muc
     less_durable : IsTrue (disk.tells s.store) → Removes (disk.reads s.store) (disk.reads store) ids → IsDurable disk s
         → IsDurable disk less
     less_durable told removes d =
-        let files = disk.reads s.store in record {
-          log = d.log;
-          base = d.base;
-          kept = d.kept;
-          there = is_at_still {form = form_at s} journals_same
-              (journals_same (disk.reads s.store) (disk.reads store) (changed.reads told)) changed.images d.there;
-          generation = d.generation;
-          begins = d.begins;
-          told = d.told;
-          rate = d.rate;
-          block_size = d.block_size;
-          history = d.history;
-          next_block = d.next_block;
-          next_track = d.next_track;
-          commit = d.commit;
-          blocks = λ c now.
-              let images = changed.images in
-              let from = images.from c (images.fewer (disk.clock s.store) (disk.clock store) c images.later
-              (upto_refl (disk.clock store)) now) in
-              let same = trans_same files from.0 c (named_blocks s) (d.blocks from.0 from.1)
-              (named_same from.0 c from.2) in
-              all_both (λ b. c b.id ≡ files b.id) (λ b. disk.reads store b.id ≡ files b.id) (λ b. c b.id
-              ≡ disk.reads store b.id) (λ b one two. one ∙ sym two) (named_blocks s) same (same_files told);
-          files = λ x least most. files_are x (d.files x least most) (is_among ids x);
-        }
+        let files = disk.reads s.store in
+        durable_so disk s store cache s.stopped s.next_block s.clipboard s.pins s.next_pin s.uses counts d
+        (is_at_still {form = form_at s} journals_same
+        (journals_same (disk.reads s.store) (disk.reads store) (changed.reads told)) changed.images d.there)
+        (omega arith)
+        (λ c now.
+        let images = changed.images in
+        let from = images.from c (images.fewer (disk.clock s.store) (disk.clock store) c images.later
+        (upto_refl (disk.clock store)) now) in
+        let same = trans_same files from.0 c (named_blocks s) (d.blocks from.0 from.1) (named_same from.0 c from.2) in
+        all_both (λ b. c b.id ≡ files b.id) (λ b. disk.reads store b.id ≡ files b.id) (λ b. c b.id
+        ≡ disk.reads store b.id) (λ b one two. one ∙ sym two) (named_blocks s) same (same_files told))
+        (λ x least most. files_are x (d.files x least most) (is_among ids x))
       where
         files_are : (x : ℕ) → IsSome (s.counts x) ↔ IsSome (disk.reads s.store x)
             → Contains ids x ⊎ (Contains ids x → ⊥) → IsSome (counts x) ↔ IsSome (disk.reads store x)
@@ -179,13 +145,7 @@ module _ {D : Type 0} (disk : Ghosts D) (s : Core D) (is : IsStudio disk s) (muc
     halted faults = record s { store = store; cache = cache; counts = counts; stopped = Some faults }
 
     pub halted_studio : AllPass (is_given s.next_block) cache → (faults : ℕ) → IsStudio disk (halted faults)
-    halted_studio pages faults =
-        studio_with disk s is store cache counts (Some faults) less_counts
-        (λ x some. less_given x some (is_among ids x)) pages
+    halted_studio pages faults = search (rules, studio_with, less_counts, less_given, is_among)
 
     pub halted_held : (faults : ℕ) → IsHeld disk s → IsHeld disk (halted faults)
-    halted_held faults held = record {
-      tells = still_tells held;
-      whole = still_whole held;
-      durable = λ still. absurd (cc still);
-    }
+    halted_held faults held = search (rules, still_tells, still_whole)

@@ -1,15 +1,9 @@
 -- Files of blocks are synced, one after another.
-use Rattle.std.proofs.Common.{◌≡◌, ⊎_elim, refl, sym, ap, ◌∙◌, subst, ℕ, ◌+◌, ◌≤◌, List, [], ◌∷◌, ◌++◌, length, Ok, Err}
-use Rattle.std.proofs.Common.{arith}
-use Rattle.std.specs.Prelude.{Contains}
-use Rattle.pcm_base.specs.Causes.{HasCause}
-use Rattle.disk_model.specs.Disk.{Files, StaysStep}
-use Rattle.disk_model.specs.{Frames.Changed, MomentLaws.upto_refl, declared.store.Store.Ghosts}
-use Rattle.disk_model.proofs.Frames.{Fewer, changed_none, changed_then_stays, changed_wider}
-use Rattle.block_ledger.specs.Counts.{Counts, IsNextFree}
-use Rattle.project_journal.specs.Gate.{EachNow}
-use Rattle.editor_state.specs.Core.{Core}
-use Rattle.editor_cleanup.specs.Passes.{AreFirst, AreNext, NoneFrom, SyncsFirst, only_calls}
+use Rattle.editor_cleanup.proofs.Common.{◌≡◌, ⊎_elim, refl, sym, ap, ◌∙◌, subst, ℕ, ◌+◌, ◌≤◌, List, [], ◌∷◌, ◌++◌}
+use Rattle.editor_cleanup.proofs.Common.{length, Ok, Err, arith, rules, Contains, HasCause, Files, Changed, upto_refl}
+use Rattle.editor_cleanup.proofs.Common.{Ghosts, Fewer, changed_none, changed_then_stays, changed_wider, Counts}
+use Rattle.editor_cleanup.proofs.Common.{IsNextFree, EachNow, Core, AreFirst, AreNext, NoneFrom, SyncsFirst, only_calls}
+use Rattle.disk_model.specs.Disk.{StaysStep}
 use Rattle.editor_cleanup.proofs.{IdRemovals.either, IdRemovals.long, FreeIds.next_more}
 
 -- a disk has these files for good as they read
@@ -70,41 +64,14 @@ module _ {D : Type 0} (disk : Ghosts D) (old : Core D) where
           → disk.change_fault_count store ≡ disk.change_fault_count mid.store
           → disk.read_fault_count store ≡ disk.read_fault_count mid.store
           → Syncing disk old (ids ++ id ∷ []) (id + 1) (record mid { store = store })
-      syncing_more next durable change_faults read_faults = record {
-        next = next_more old.counts 0 ids end id was.next next;
-        fields = λ i. record (was.fields i) { store = store };
-        reads = reads ∙ was.reads;
-        settled = settled_still durable;
-        changed = then_changed (length (ids ++ id ∷ [])) (omega (arith, long ids id));
-        change_faults = change_faults ∙ was.change_faults;
-        read_faults = read_faults ∙ was.read_faults;
-      }
+      syncing_more next durable change_faults read_faults = search (rules, next_more, settled_still, then_changed, long)
 
       pub syncs_fail : {T E : Type 0} (e : E) (count : ℕ) → length ids + 1 ≤ count
           → HasCause {T = T} (disk.change_fault_count mid.store) (disk.change_fault_count store) (Err e)
           → disk.read_fault_count store ≡ disk.read_fault_count mid.store
           → SyncsFirst {T = T} disk old count (Err e) (record mid { store = store })
-      syncs_fail e count le cause read_faults = record {
-        fields = λ i. record (was.fields i) { store = store };
-        reads = reads ∙ was.reads;
-        settled = tt;
-        changed = then_changed count le;
-        faults = record {
-          later = omega (arith, cause.later, was.change_faults);
-          failed = omega (arith, cause.failed, was.change_faults);
-          kept = tt;
-        };
-        read_faults = read_faults ∙ was.read_faults;
-      }
+      syncs_fail e count le cause read_faults = search (rules, then_changed)
 
     pub syncs_all : {T E : Type 0} (r : T) (count : ℕ) → AreFirst old.counts count ids
         → SyncsFirst {E = E} disk old count (Ok r) mid
-    syncs_all r count first = record {
-      fields = was.fields;
-      reads = was.reads;
-      settled = record { ids = ids; first = first; settled = was.settled };
-      changed = changed_wider (λ d c step. step)
-          (record { files = omega arith; bytes = omega arith; calls = omega (arith, first.few) }) was.changed;
-      faults = record { later = omega (arith, was.change_faults); failed = tt; kept = was.change_faults };
-      read_faults = was.read_faults;
-    }
+    syncs_all r count first = search (rules, changed_wider)

@@ -1,12 +1,9 @@
 -- Block files that nothing names.
-use Rattle.std.proofs.Common.{◌≡◌, ◌⊎◌, inl, inr, refl, sym, ap, ◌∙◌, subst, ℕ, zero, suc, ◌<◌, IsSome, List, Option}
-use Rattle.std.proofs.Common.{Some, None, arith}
-use Rattle.disk_model.specs.declared.store.Store.{Ghosts}
-use Rattle.block_ledger.specs.Counts.{occurrences}
-use Rattle.editor_state.specs.Studios.{IsDurable, IsStudio, named_blocks}
-use Rattle.editor_state.specs.{Core.Core, Occurrences.times_named, Removals.HasOnlyNamed, Removals.IsUnnamed}
-use Rattle.editor_cleanup.specs.Passes.{FreesFiles}
-use Rattle.editor_state.proofs.Blocks.NamedBlocks.{counted_most, free_named, named_counted}
+use Rattle.editor_cleanup.proofs.Common.{◌≡◌, refl, sym, ap, subst, ℕ, zero, suc, ◌<◌, IsSome, Option, rules, Some}
+use Rattle.editor_cleanup.proofs.Common.{None, arith, Ghosts, occurrences, IsDurable, IsStudio, named_blocks, Core}
+use Rattle.editor_cleanup.proofs.Common.{times_named, IsUnnamed, FreesFiles, free_named}
+use Rattle.editor_state.specs.{Removals.HasOnlyNamed}
+use Rattle.editor_state.proofs.Blocks.NamedBlocks.{counted_most, named_counted}
 
 -- whatever the disk tells
 pub spared : {D : Type 0} (disk : Ghosts D) (s : Core D) → IsStudio disk s → (id : ℕ) → s.counts id ≡ Some 0
@@ -56,15 +53,4 @@ module _ {D : Type 0} (disk : Ghosts D) (s : Core D) (is : IsStudio disk s) (d :
 module _ {D : Type 0} (disk : Ghosts D) (old new : Core D) where
   pub unnamed_before : named_blocks new ≡ named_blocks old → FreesFiles old.counts (disk.reads old.store)
       (disk.reads new.store) → (x : ℕ) → IsUnnamed disk new x → IsUnnamed disk old x
-  unnamed_before same step x un = record {
-    least = un.least;
-    most = un.most;
-    file = still (disk.reads new.store x) (step x) un.file;
-    unnamed = ap (times_named x) (sym same) ∙ un.unnamed;
-  }
-    where
-      still : (b : Option (List ℕ)) → (b ≡ disk.reads old.store x) ⊎ ((old.counts x ≡ Some 0) × (b ≡ None)) → IsSome b
-          → IsSome (disk.reads old.store x)
-      still b (inl is) some = subst IsSome is some
-      still None (inr gone) some = absurd (cc some)
-      still (Some n) (inr gone) some = absurd (cc gone.1)
+  unnamed_before same step x un = search rules

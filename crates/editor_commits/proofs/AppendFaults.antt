@@ -1,15 +1,17 @@
 -- Nothing was asked of the disk, or a record's append failed.
-use Rattle.std.proofs.Common.{◌≡◌, inl, inr, ⊎_elim, refl, sym, ap, ◌∙◌, subst, ℕ, ◌+◌, ◌≤◌, IsTrue, List, Ok, Err}
-use Rattle.std.proofs.Common.{Result, IfOk, OnOk, OnErr, IsErrOf, arith}
-use Rattle.pcm_base.specs.{Causes.Rose, declared.limits.TheConstants.LONGEST_BODY, declared.refusal.Refusal.Refusal}
-use Rattle.disk_model.specs.{Disk.SameElsewhere, Frames.Changed, declared.store.Store.Ghosts}
-use Rattle.disk_model.proofs.Frames.{Fewer, changed_none}
-use Rattle.project_journal.specs.Answer.{Appends, Causes, HasFault}
-use Rattle.project_journal.specs.Journal.{Log, IsAt, HasOneOf, rows_length, with_bodies}
-use Rattle.project_journal.specs.{Gate.EachSince, Rooms.append_room, declared.fault.JournalFault.JournalFault}
+use Rattle.editor_commits.proofs.Common.{rules, ◌≡◌, inl, inr, ⊎_elim, refl, sym, ap, ◌∙◌, subst, ℕ, ◌+◌, ◌≤◌, IsTrue}
+use Rattle.editor_commits.proofs.Common.{List, Ok, Err, Result, OnOk, IsErrOf, arith, LONGEST_BODY, Refusal, Ghosts}
+use Rattle.editor_commits.proofs.Common.{Fewer, Appends, IsAt, rows_length, with_bodies, EachSince, JournalFault, Adds}
+use Rattle.editor_commits.proofs.Common.{ExceedsBy, Fields, Settles, Core, form_at}
+use Rattle.std.proofs.Common.{IfOk, OnErr}
+use Rattle.pcm_base.specs.{Causes.Rose}
+use Rattle.disk_model.specs.{Disk.SameElsewhere, Frames.Changed}
+use Rattle.disk_model.proofs.Frames.{changed_none}
+use Rattle.project_journal.specs.Answer.{Causes, HasFault}
+use Rattle.project_journal.specs.Journal.{Log, HasOneOf}
+use Rattle.project_journal.specs.{Rooms.append_room}
 use Rattle.project_journal.proofs.Kept.{each_has}
-use Rattle.editor_state.specs.Adding.{Adds, ExceedsBy, Fields, HasFailed, Settles, stopped_by}
-use Rattle.editor_state.specs.Core.{Core, form_at}
+use Rattle.editor_state.specs.Adding.{HasFailed}
 use Rattle.pcm_base.specs.declared.refusal.Refusal.TheVariants as refusal
 use Rattle.project_journal.specs.declared.fault.JournalFault.TheVariants as journal
 
@@ -94,11 +96,7 @@ module _ {D : Type 0} (disk : Ghosts D) (old : Core D) (store : D) (bodies : Lis
       ) in
       told_as result (Ok (tt {0})) new after by.0 by.1 (frame (Ok (tt {0})) after refl fields done)
   settled (Err journal.DiskFault) result new answer cause rose done untouched by =
-      let after : Core D = stopped_by disk old store in
-      let fields : Fields {R = Unit {0}} disk old whole count (rows_length bodies) (Err refusal.DiskFault) after =
-      (refl, answer, has_failed disk old.store store cause (rose refl), short) in
-      told_as result (Err refusal.DiskFault) new after by.0 by.1
-      (frame (Err refusal.DiskFault) after refl fields (λ log told here. tt))
+      search (rules, has_failed, told_as, frame)
   settled (Err journal.NoMemory) result new answer cause rose done untouched by =
       let same : store ≡ old.store = untouched (λ e. subst is_memory e tt) in
       let after : Core D = record old { store = store } in

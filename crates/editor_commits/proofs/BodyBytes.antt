@@ -1,21 +1,17 @@
 -- The bytes of a record's body, by the journal's version: how many they are, and that the record may come next.
-use Rattle.std.proofs.Common.{◌≡◌, inl, inr, ⊎_elim, refl, sym, ap, ◌∙◌, subst, ℕ, zero, suc, ◌+◌, ◌*◌, ◌^◌, ◌≤◌, ◌<◌}
-use Rattle.std.proofs.Common.{◌==◌, List, ◌∷◌, length, map, Option, Some, None, add-mul, arith}
+use Rattle.editor_commits.proofs.Common.{rules, ◌≡◌, inl, inr, ⊎_elim, refl, sym, ap, ◌∙◌, subst, ℕ, zero, suc, ◌+◌}
+use Rattle.editor_commits.proofs.Common.{◌*◌, ◌^◌, ◌≤◌, ◌<◌, ◌==◌, List, ◌∷◌, length, map, add-mul, arith, Sources}
+use Rattle.editor_commits.proofs.Common.{project_body_most, rows_length, Edit, Undo, Redo, Purge, IsNextIn, Saved}
+use Rattle.editor_commits.proofs.Common.{MayFollow, before_of, current_tracks, version_of, Body, with_point}
+use Rattle.editor_commits.proofs.Common.{unnumbered_body, IsValidBody, spelling, unnumbered, unnumbered_history, Track}
+use Rattle.editor_commits.proofs.Common.{meant, current_alike, IsLength, bodies_by, body_bytes, bytes_by, single}
+use Rattle.editor_commits.proofs.Common.{whole_by, Core, form_at}
 use Rattle.std.proofs.lemmas.Bool.{cases_Bool}
-use Rattle.std.specs.Option.{option_map}
-use Rattle.pcm_base.specs.{Pieces.Sources, Sizes.project_body_most}
-use Rattle.project_journal.specs.{Header.form_of, Journal.rows_length}
-use Rattle.record_body.specs.declared.body.Body.TheVariants.{Edit, Undo, Redo, Purge}
-use Rattle.record_body.specs.Saved.{IsNextIn, Saved, MayFollow, before_of, current_tracks, version_of}
-use Rattle.record_body.specs.{declared.body.Body.Body, Batches.with_point, Changes.spelling_in, Laws.EndsShort}
-use Rattle.record_body.specs.{Laws.HasShortEnds, Numbers.unnumbered_body, Valid.IsValidBody, Valid.IsValidPoint}
-use Rattle.record_body.specs.{Spelling.spelling}
-use Rattle.project_state.specs.Numbers.{unnumbered, unnumbered_history}
-use Rattle.project_state.specs.{declared.track.Track.Track, Meaning.meant, Tracks.track_of}
+use Rattle.project_journal.specs.{Header.form_of}
+use Rattle.record_body.specs.{Changes.spelling_in, Laws.HasShortEnds, Valid.IsValidPoint}
 use Rattle.record_body.proofs.Batched.{next_in}
-use Rattle.record_body.proofs.Unnumbered.{current_alike, delta_spelled_alike, found_alike, spelled_alike}
-use Rattle.editor_state.specs.Bodies.{IsLength, bodies_by, body_bytes, bytes_by, single, whole_by}
-use Rattle.editor_state.specs.{Core.Core, Core.form_at, Studios.AreJournalNumbers}
+use Rattle.record_body.proofs.Unnumbered.{delta_spelled_alike, found_alike, spelled_alike}
+use Rattle.editor_state.specs.{Studios.AreJournalNumbers}
 use Rattle.editor_state.proofs.Images.RecordLengths.{record_most, diff_most}
 
 pub version_at : (version file : ℕ) → 1 ≤ version → version ≤ 3 → version_of (form_of version file) ≡ version
@@ -42,10 +38,7 @@ rows_count version current body (suc more) = omega (arith, rows_count version cu
 more_most : (more rest low one high total : ℕ) → one ≤ low → total ≡ one + (5 + rest)
     → (5 * more ≤ rest) × (rest ≤ more * (5 + low) + high)
     → (5 * suc more ≤ total) × (total ≤ suc more * (5 + low) + high)
-more_most more rest low one high total first is within =
-    let step : suc more * (5 + low) ≡ more * (5 + low) + (5 + low) =
-    ap (λ (k : ℕ). k * (5 + low)) (omega arith) ∙ add-mul more 1 (5 + low) ∙ omega arith in
-    (omega (arith, is, within.0), omega (arith, is, first, within.1, step))
+more_most more rest low one high total first is within = search (rules, add-mul)
 
 rows_most : (version : ℕ) (current : List Track) (body : Body) (low high : ℕ)
     → length (bytes_by version current (with_point current body)) ≤ low → length (bytes_by version current body) ≤ high
@@ -76,11 +69,7 @@ spelled_in version current body = elim (cases_Bool (version == 1)) [
 ]
 
 pub ends_alike : (current : List Track) → HasShortEnds current → HasShortEnds (map unnumbered current)
-ends_alike current short = λ id. subst EndsShort (sym (found_alike id current)) (one (track_of id current) (short id))
-  where
-    one : (old : Option Track) → EndsShort old → EndsShort (option_map unnumbered old)
-    one None is = tt
-    one (Some t) is = is
+ends_alike current short = search (rules, found_alike)
 
 module _ {D : Type 0} (s : Core D) where
   pub version_is : AreJournalNumbers s.file s.version s.generation → version_of (form_at s) ≡ s.version

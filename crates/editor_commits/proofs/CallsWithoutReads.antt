@@ -1,14 +1,8 @@
 -- What reads no block tells of no damaged file.
-use Rattle.std.proofs.Common.{◌≡◌, ◌⊎◌, ⊎_elim, sym, subst, ℕ, ◌+◌, nat_lt, List, take, length, Some, Err}
-use Rattle.pcm_base.specs.{Refusals.bad_range, Refusals.too_narrow, declared.refusal.Refusal.Refusal}
-use Rattle.disk_model.specs.declared.store.Store.{Ghosts}
-use Rattle.clip_track.specs.declared.clips.Clip.{Clip}
-use Rattle.edit_ops.specs.Runs.{copy_tests, longest_of}
-use Rattle.envelope_view.specs.Answers.{IsUndamaged}
-use Rattle.project_state.specs.{Tracks.track_of, declared.track.Track.Track}
-use Rattle.project_journal.specs.Journal.{rows_length}
-use Rattle.editor_state.specs.{Adding.Adds, Adding.Fields, Core.Core}
-use Rattle.editor_commits.specs.{Plain.refusal_by, declared.plain_edit.PlainEdit.PlainEdit}
+use Rattle.editor_commits.proofs.Common.{rules, ◌≡◌, ◌⊎◌, ⊎_elim, sym, subst, ℕ, ◌+◌, nat_lt, List, length, Some, Err}
+use Rattle.editor_commits.proofs.Common.{Refusal, Ghosts, Clip, IsUndamaged, track_of, Track, rows_length, Adds, Fields}
+use Rattle.editor_commits.proofs.Common.{Core, refusal_by, PlainEdit}
+use Rattle.edit_ops.specs.Runs.{copy_tests}
 use Rattle.editor_state.proofs.Refusals.DamageTests.{TellsNone, either_tells, lacks_tells, one_tells, range_tells}
 use Rattle.editor_state.proofs.Refusals.DamageTests.{tests_tell}
 use Rattle.pcm_base.specs.declared.refusal.Refusal.TheVariants as refusal
@@ -20,10 +14,7 @@ memory_tells why is = subst IsUndamaged (sym is) tt
 
 -- ---- copies
 copy_tests_tell : (run : List (List Clip)) (n from to : ℕ) → TellsNone (copy_tests run n from to)
-copy_tests_tell run n from to =
-    let len = longest_of (take n run) in
-    either_tells (too_narrow (length run) n) (bad_range from to len)
-    (one_tells (nat_lt (length run) n) (refusal.TooNarrow (length run) n) tt) (range_tells from to len)
+copy_tests_tell run n from to = search (rules, either_tells, one_tells, range_tells)
 
 pub copies_tell : (run : List (List Clip)) (n from to : ℕ) (why : Refusal)
     → (copy_tests run n from to ≡ Some why) ⊎ (why ≡ refusal.NoMemory) → IsUndamaged why

@@ -1,32 +1,22 @@
 -- A commit whose records are not added: the journal is full, the record too long, memory is short, or the disk fails.
-use Rattle.std.proofs.Common.{◌≡◌, inl, inr, ⊎_elim, refl, sym, ap, subst, ℕ, ◌+◌, ◌-◌, ◌^◌, ◌≤◌, ◌<◌, IsTrue, List}
-use Rattle.std.proofs.Common.{Option, None, Err, false, ◌∙◌, arith}
+use Rattle.editor_commits.proofs.Common.{rules, ◌≡◌, inl, inr, ⊎_elim, refl, sym, ap, subst, ℕ, ◌+◌, ◌-◌, ◌^◌, ◌≤◌, ◌<◌}
+use Rattle.editor_commits.proofs.Common.{IsTrue, List, Option, None, Err, false, ◌∙◌, arith, Done, BlockRef, Call}
+use Rattle.editor_commits.proofs.Common.{SoundMove, Refusal, layouts_of, record_test, History, ◌otherwise◌, call_tests}
+use Rattle.editor_commits.proofs.Common.{outside, State, Ghosts, Fewer, changed_wider, IsWhole, Item, Track, Saved}
+use Rattle.editor_commits.proofs.Common.{AddsBody, ExceedsBy, Undrawn, stopped_by, IsLength, Writing, all_len}
+use Rattle.editor_commits.proofs.Common.{whole_len, IsHeld, IsStudio, named_blocks, studio_by, studio_of, Core}
+use Rattle.editor_commits.proofs.Common.{WouldMake, packed_by, Took, with_sound, NoneGoes, others_record, TookWhere}
+use Rattle.editor_commits.proofs.Common.{took_so, commit_frees, commit_leaves_journal, commit_removes_none, HasMade}
+use Rattle.editor_commits.proofs.Common.{record_within, refuses, stopped_not, wants, all_left, sources_elsewhere}
 use Rattle.std.proofs.lemmas.Bool.{true≢false}
-use Rattle.pcm_base.specs.{declared.answer.Reply.TheVariants.Done, declared.block.BlockRef.BlockRef}
-use Rattle.pcm_base.specs.{declared.command.Call.Call, declared.entry.SoundMove.SoundMove}
-use Rattle.pcm_base.specs.{declared.refusal.Refusal.Refusal, Counters.layouts_of, Counters.record_test, History.History}
-use Rattle.pcm_base.specs.{Refusals.◌otherwise◌, Refusals.call_tests, Run.outside, State.State}
-use Rattle.disk_model.specs.declared.store.Store.{Ghosts}
-use Rattle.disk_model.proofs.Frames.{Fewer, changed_wider}
-use Rattle.sample_block.specs.Sources.{IsWhole}
-use Rattle.clip_track.specs.declared.items.Item.{Item}
-use Rattle.project_state.specs.declared.track.Track.{Track}
-use Rattle.record_body.specs.Saved.{Saved}
-use Rattle.editor_state.specs.Adding.{AddsBody, ExceedsBy, Outgrows, Undrawn, stopped_by}
-use Rattle.editor_state.specs.Bodies.{IsLength, Writing, all_len, whole_len}
-use Rattle.editor_state.specs.Studios.{IsHeld, IsStudio, named_blocks, studio_by, studio_of}
-use Rattle.editor_state.specs.{Core.Core, Exchanges.may_begin, Spent.WouldMake, Spent.saved_of, Packing.packed_by}
-use Rattle.editor_state.specs.{Took.Took, Took.with_sound}
+use Rattle.editor_state.specs.Adding.{Outgrows}
+use Rattle.editor_state.specs.{Exchanges.may_begin, Spent.saved_of}
 use Rattle.editor_state.proofs.Refusals.VaultRefusals.{inside_begins_none, outgrowing_asks}
-use Rattle.editor_state.proofs.Calls.OtherFiles.{NoneGoes, others_record}
-use Rattle.editor_state.proofs.Calls.CallPremises.{TookWhere, took_so}
-use Rattle.editor_state.proofs.Calls.FileRemovals.{commit_frees, commit_leaves_journal, commit_removes_none, ids_same}
-use Rattle.editor_state.proofs.Calls.FileRemovals.{begun_untouched, broken_begins}
+use Rattle.editor_state.proofs.Calls.FileRemovals.{ids_same, begun_untouched, broken_begins}
 use Rattle.editor_state.proofs.Refusals.CommitTests.{exceeded, outgrows}
-use Rattle.editor_state.proofs.Refusals.EarlyRefusals.{HasMade, record_within, refuses, some_none, stopped_not, wants}
-use Rattle.editor_state.proofs.{Lists.all_left, Refusals.RefusalEffects.left_stopped}
-use Rattle.editor_state.proofs.{Refusals.CallTests.outgrowing_plain, Refusals.PurgeNumbers.other_purges}
-use Rattle.editor_state.proofs.{Blocks.BlockSounds.sources_elsewhere, Refusals.CounterNumbers.outgrowing_needed}
+use Rattle.editor_state.proofs.Refusals.EarlyRefusals.{some_none}
+use Rattle.editor_state.proofs.{Refusals.RefusalEffects.left_stopped, Refusals.CallTests.outgrowing_plain}
+use Rattle.editor_state.proofs.{Refusals.PurgeNumbers.other_purges, Refusals.CounterNumbers.outgrowing_needed}
 use Rattle.editor_commits.proofs.CommitImages.{IsCommit, IsTested, flight, whole_still}
 use Rattle.editor_commits.proofs.CommitStudios.{stopped_studio}
 use Rattle.pcm_base.specs.declared.refusal.Refusal.TheVariants as refusal
@@ -166,17 +156,7 @@ module _ {D : Type 0} (disk : Ghosts D) (s : Core D) (made : List BlockRef) (c :
   module _ (layouts : s.next_layout + layouts_of (outside (studio_of disk s) sound) (studio_of disk s).state c ≤ 2 ^ 62)
     where
       tested : IsTested (IsHeld disk s) disk s made c sound tracks w h clip track_then
-      tested = record {
-        is = is;
-        holds = λ held. held;
-        has_made = has_made;
-        move = move;
-        going = going;
-        own = own;
-        ids = ids;
-        number = number;
-        layouts = layouts;
-      }
+      tested = search rules
 
       unfit : (why : Refusal) → Fewer disk s.store → ExceedsBy s.journal_end (whole_len s w) size why
           → Took disk s (with_sound c sound (Err why)) s

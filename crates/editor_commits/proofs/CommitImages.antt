@@ -1,30 +1,23 @@
 -- A commit: the call, what it writes, and what it leads to; and what an image has while its records are added.
-use Rattle.std.proofs.Common.{◌≡◌, inl, inr, ⊎_elim, refl, sym, ◌∙◌, subst, ℕ, suc, ◌+◌, ◌^◌, ◌≤◌, ◌<◌, List, ◌++◌}
-use Rattle.std.proofs.Common.{length, Option, None, Result, arith}
-use Rattle.std.specs.List.{AllByRecursion}
-use Rattle.pcm_base.specs.Run.{CarriesOut, followed, outside, refusal_of}
-use Rattle.pcm_base.specs.{declared.answer.Reply.TheVariants.Done, declared.block.BlockRef.BlockRef}
-use Rattle.pcm_base.specs.{declared.command.Call.Call, declared.entry.SoundMove.SoundMove}
-use Rattle.pcm_base.specs.{declared.refusal.Refusal.Refusal, Counters.Needs, Counters.layouts_of, History.History}
-use Rattle.pcm_base.specs.{Outside.Outside, Refusals.call_tests, declared.limits.TheConstants.LONGEST_BODY, Step.after}
-use Rattle.disk_model.specs.{MomentLaws.upto_refl, declared.store.Store.Ghosts}
-use Rattle.sample_block.specs.Sources.{sources_of, IsWhole, AllWhole}
-use Rattle.clip_track.specs.declared.items.Item.{Item}
-use Rattle.project_journal.specs.Gate.{EachNow, EachSince}
-use Rattle.project_state.specs.Meaning.{meant_history, history_blocks}
-use Rattle.project_state.specs.{declared.track.Track.Track, Numbers.unnumbered_history}
-use Rattle.record_body.specs.Saved.{Saved, LeadIn, Keeps, version_of}
-use Rattle.record_body.specs.{Batches.after_bodies, SavedValid.IsValidTagged, Numbers.unnumbered_body}
-use Rattle.record_body.proofs.{Unnumbered.history_blocks_alike, Unnumbered.history_meant_alike, SavedBounds.all_append}
-use Rattle.editor_state.specs.Bodies.{IsLength, Writing, all_bytes, all_len}
-use Rattle.editor_state.specs.Studios.{IsGiven, IsDurable, IsHeld, IsStudio, MayPaste, SameBlocks, clip_blocks}
-use Rattle.editor_state.specs.Studios.{clip_cells, named_blocks, pin_blocks, shown, studio_of}
-use Rattle.editor_state.specs.{Adding.AddsBody, Core.Core, Core.form_at, Records.Says, Took.KeepsOneOf}
-use Rattle.editor_state.proofs.Images.ImageProjects.{opened_by, Covers, form_few, one_of, same_since, shown_is}
-use Rattle.editor_state.proofs.Images.ImageProjects.{covers_kept}
-use Rattle.editor_state.proofs.{Lists.all_left, Lists.all_right, Lists.all_both, Blocks.BlockSounds.blocks_same}
-use Rattle.editor_state.proofs.{Blocks.BlockSounds.all_whole, Refusals.CommitTests.IsCommitCall}
-use Rattle.editor_state.proofs.{Refusals.CommitTests.nothing, Refusals.EarlyRefusals.HasMade}
+use Rattle.editor_commits.proofs.Common.{rules, ◌≡◌, inl, inr, ⊎_elim, refl, sym, ◌∙◌, subst, ℕ, suc, ◌+◌, ◌^◌, ◌≤◌}
+use Rattle.editor_commits.proofs.Common.{◌<◌, List, ◌++◌, length, Option, None, Result, arith, AllByRecursion}
+use Rattle.editor_commits.proofs.Common.{CarriesOut, followed, outside, Done, BlockRef, Call, SoundMove, Refusal, Needs}
+use Rattle.editor_commits.proofs.Common.{layouts_of, History, Outside, call_tests, LONGEST_BODY, after, Ghosts}
+use Rattle.editor_commits.proofs.Common.{sources_of, IsWhole, AllWhole, Item, EachSince, meant_history, history_blocks}
+use Rattle.editor_commits.proofs.Common.{Track, unnumbered_history, Saved, LeadIn, version_of, after_bodies}
+use Rattle.editor_commits.proofs.Common.{IsValidTagged, unnumbered_body, all_append, IsLength, Writing, all_bytes}
+use Rattle.editor_commits.proofs.Common.{all_len, IsGiven, IsDurable, IsHeld, IsStudio, MayPaste, clip_blocks}
+use Rattle.editor_commits.proofs.Common.{clip_cells, named_blocks, studio_of, AddsBody, Core, form_at, Says, KeepsOneOf}
+use Rattle.editor_commits.proofs.Common.{Covers, all_left, all_right, IsCommitCall, HasMade}
+use Rattle.pcm_base.specs.Run.{refusal_of}
+use Rattle.disk_model.specs.{MomentLaws.upto_refl}
+use Rattle.project_journal.specs.Gate.{EachNow}
+use Rattle.record_body.specs.Saved.{Keeps}
+use Rattle.record_body.proofs.{Unnumbered.history_blocks_alike, Unnumbered.history_meant_alike}
+use Rattle.editor_state.specs.Studios.{SameBlocks, shown}
+use Rattle.editor_state.proofs.Images.ImageProjects.{opened_by, form_few, one_of, same_since, shown_is, covers_kept}
+use Rattle.editor_state.proofs.{Lists.all_both, Blocks.BlockSounds.blocks_same, Blocks.BlockSounds.all_whole}
+use Rattle.editor_state.proofs.{Refusals.CommitTests.nothing}
 use Rattle.pcm_base.specs.Studio as model
 
 -- the studio's numbers and history are those of the records
@@ -74,10 +67,7 @@ pub record IsCommit {D : Type 0} (Has : Type 0) (disk : Ghosts D) (s : Core D) (
 -- the clipboard that stays names no other blocks
 pub clip_stays : {D : Type 0} (s : Core D) (made : List BlockRef) (P : BlockRef → Type 0)
     → AllByRecursion P (named_blocks s ++ made) → AllByRecursion P (clip_blocks s.clipboard)
-clip_stays s made P all =
-    let rest = pin_blocks s.pins ++ clip_blocks s.clipboard in
-    all_right P (pin_blocks s.pins) (clip_blocks s.clipboard)
-    (all_right P (history_blocks s.history) rest (all_left P (named_blocks s) made all))
+clip_stays s made P all = search (rules, all_right, all_left)
 
 -- a commit of a studio that no test refused, on a disk that holds it where `Has`
 pub record IsTested {D : Type 0} (Has : Type 0) (disk : Ghosts D) (s : Core D) (made : List BlockRef) (c : Call)
@@ -122,13 +112,7 @@ module _ {D : Type 0} {Has : Type 0} {disk : Ghosts D} {s : Core D} {made : List
       (((t.holds has).durable t.going).blocks x now) (t.has_made.same has x now)
 
   pub matches : (d : IsDurable disk s) → Matches s d.log.block_size d.kept
-  matches d = record {
-    block_size = d.block_size;
-    history = d.history;
-    next_block = d.next_block;
-    next_track = d.next_track;
-    commit = d.commit;
-  }
+  matches d = search rules
 
   covers_before : (d : IsDurable disk s) → Covers every d.kept.history
   covers_before d P all = covers_kept disk s d P (all_left P (named_blocks s) made all)

@@ -1,32 +1,21 @@
 -- A commit whose records were added: then the studio has another history.
-use Rattle.std.proofs.Common.{◌≡◌, inl, inr, refl, sym, ap, ◌∙◌, subst, ℕ, suc, ◌+◌, ◌-◌, ◌^◌, ◌≤◌, ◌<◌, IsTrue, List}
-use Rattle.std.proofs.Common.{◌++◌, Option, None, IsSome, Ok, arith}
-use Rattle.std.specs.List.{AllByRecursion}
-use Rattle.pcm_base.specs.Counters.{MayDraw, layouts_of, record_bytes}
-use Rattle.pcm_base.specs.{declared.answer.Reply.TheVariants.Done, declared.block.BlockRef.BlockRef}
-use Rattle.pcm_base.specs.{declared.command.Call.Call, declared.entry.SoundMove.SoundMove, History.History}
-use Rattle.pcm_base.specs.{Outside.Outside, Refusals.call_tests, Run.followed, Run.outside, Step.after}
-use Rattle.disk_model.specs.declared.store.Store.{Ghosts}
-use Rattle.disk_model.proofs.Frames.{changed_wider}
-use Rattle.sample_block.specs.Sources.{IsWhole}
-use Rattle.block_ledger.specs.Counts.{Counts}
-use Rattle.clip_track.specs.declared.items.Item.{Item}
-use Rattle.project_journal.specs.Journal.{IsAt, with_bodies}
-use Rattle.record_body.specs.Saved.{Saved, LeadIn, version_of}
-use Rattle.record_body.specs.{Batches.after_bodies, Numbers.unnumbered_body}
-use Rattle.project_state.specs.{declared.track.Track.Track, Meaning.meant_history, Numbers.unnumbered_history}
-use Rattle.editor_state.specs.Studios.{IsDurable, IsHeld, IsStudio, clip_cells, named_blocks, studio_by, studio_of}
-use Rattle.editor_state.specs.{Adding.AddsBody, Bodies.Writing, Bodies.all_bytes, Bodies.all_len, Core.Core}
-use Rattle.editor_state.specs.{Core.form_at, Records.Says, Packing.packed_by, Took.Took, Took.with_sound}
+use Rattle.editor_commits.proofs.Common.{rules, ◌≡◌, inl, inr, refl, sym, ap, ◌∙◌, subst, ℕ, suc, ◌+◌, ◌-◌, ◌^◌, ◌≤◌}
+use Rattle.editor_commits.proofs.Common.{◌<◌, IsTrue, List, ◌++◌, Option, None, IsSome, Ok, arith, AllByRecursion}
+use Rattle.editor_commits.proofs.Common.{layouts_of, Done, BlockRef, Call, SoundMove, History, Outside, call_tests}
+use Rattle.editor_commits.proofs.Common.{followed, outside, after, Ghosts, changed_wider, IsWhole, Counts, Item, IsAt}
+use Rattle.editor_commits.proofs.Common.{with_bodies, Saved, LeadIn, version_of, after_bodies, unnumbered_body, Track}
+use Rattle.editor_commits.proofs.Common.{meant_history, unnumbered_history, IsDurable, IsHeld, IsStudio, clip_cells}
+use Rattle.editor_commits.proofs.Common.{named_blocks, studio_by, studio_of, AddsBody, Writing, all_bytes, all_len}
+use Rattle.editor_commits.proofs.Common.{Core, form_at, Says, packed_by, Took, with_sound, NoneGoes, others_record}
+use Rattle.editor_commits.proofs.Common.{TookWhere, took_so, commit_leaves_journal, commit_removes_none, HasMade}
+use Rattle.editor_commits.proofs.Common.{record_within, stopped_not, sources_elsewhere}
+use Rattle.pcm_base.specs.Counters.{MayDraw, record_bytes}
 use Rattle.editor_commits.proofs.CommitImages.{IsCommit, IsTested, flight, images_still, matches, passes, whole_still}
 use Rattle.editor_commits.proofs.CommitStudios.{CountsAfter, LeadsOn, led_studio, named_led}
 use Rattle.editor_state.proofs.Images.JournalLeads.{begins_more, lead_all}
-use Rattle.editor_state.proofs.Calls.OtherFiles.{NoneGoes, others_record}
-use Rattle.editor_state.proofs.Calls.CallPremises.{TookWhere, took_so}
-use Rattle.editor_state.proofs.Calls.FileRemovals.{commit_leaves_journal, commit_removes_none, ids_still, none_given}
-use Rattle.editor_state.proofs.Refusals.EarlyRefusals.{HasMade, record_within, stopped_not}
+use Rattle.editor_state.proofs.Calls.FileRemovals.{ids_still, none_given}
 use Rattle.editor_state.proofs.{Images.ImageProjects.keeps_now, Refusals.PurgeNumbers.done_purges}
-use Rattle.editor_state.proofs.{Blocks.BlockSounds.sources_elsewhere, Refusals.CommitTests.commit_bytes}
+use Rattle.editor_state.proofs.{Refusals.CommitTests.commit_bytes}
 use Rattle.pcm_base.specs.Studio as model
 
 module _ {D : Type 0} {Has : Type 0} {disk : Ghosts D} {s : Core D} {made : List BlockRef} {c : Call}
@@ -42,19 +31,7 @@ module _ {D : Type 0} {Has : Type 0} {disk : Ghosts D} {s : Core D} {made : List
   len = all_len s w
 
   on : LeadsOn s made h clip track_then (suc w.more)
-  on = record {
-    given = t.has_made.ids;
-    later = omega (arith, t.move.gives);
-    most = omega (arith, t.move.gives, t.ids);
-    number = omega (arith, t.number);
-    covers = t.move.covers;
-    clip_covers = t.move.clip_covers;
-    clip_few = t.move.clip_few;
-    clip_fits = t.move.clip_fits;
-    points = t.move.points;
-    depth = t.move.depth;
-    few = t.move.few;
-  }
+  on = search rules
 
   module _ {Q : Type 0} (q : Q) (mid : Core D) (adds : AddsBody disk s w (Ok q) mid)
       (h' : History (List Track)) (uses counts : Counts) (next_track next_layout : ℕ) (moved : h' ≡ h)
@@ -207,17 +184,7 @@ module _ {D : Type 0} (disk : Ghosts D) (s : Core D) (made : List BlockRef) (c :
     (ids : s.next_track + tracks ≤ 2 ^ 62) (number : s.commit_number + w.more < 2 ^ 62)
     (layouts : s.next_layout + layouts_of (outside (studio_of disk s) sound) (studio_of disk s).state c ≤ 2 ^ 62) where
   tested : IsTested (IsHeld disk s) disk s made c sound tracks w h clip track_then
-  tested = record {
-    is = is;
-    holds = λ held. held;
-    has_made = has_made;
-    move = move;
-    going = going;
-    own = own;
-    ids = ids;
-    number = number;
-    layouts = layouts;
-  }
+  tested = search rules
 
   module _ {Q : Type 0} (q : Q) (mid : Core D) (adds : AddsBody disk s w (Ok q) mid)
       (h' : History (List Track)) (uses counts : Counts) (next_track next_layout : ℕ) (moved : h' ≡ h)

@@ -1,20 +1,13 @@
 -- The studio that a commit leads to is one, whatever the disk tells; and so is one that a failed change has stopped.
-use Rattle.std.proofs.Common.{◌≡◌, ◌↔◌, sym, ap, ◌∙◌, subst, ℕ, ◌+◌, ◌^◌, ◌≤◌, List, ◌++◌, length, Option, IsSome}
-use Rattle.std.proofs.Common.{arith}
-use Rattle.std.specs.List.{AllByRecursion}
-use Rattle.pcm_base.specs.{declared.block.BlockRef.BlockRef, History.History}
-use Rattle.disk_model.specs.declared.store.Store.{Ghosts}
-use Rattle.block_ledger.specs.Counts.{Counts}
-use Rattle.clip_track.specs.declared.items.Item.{Item}
+use Rattle.editor_commits.proofs.Common.{rules, ◌≡◌, ◌↔◌, sym, ap, ◌∙◌, subst, ℕ, ◌+◌, ◌^◌, ◌≤◌, List, ◌++◌, length}
+use Rattle.editor_commits.proofs.Common.{Option, IsSome, arith, AllByRecursion, BlockRef, History, Ghosts, Counts, Item}
+use Rattle.editor_commits.proofs.Common.{Track, history_blocks, IsValidPoint, IsValidTagged, all_append, tagged_more}
+use Rattle.editor_commits.proofs.Common.{IsGiven, IsStudio, MayPaste, clip_blocks, named_blocks, pin_blocks, pin_tracks}
+use Rattle.editor_commits.proofs.Common.{stopped_by, Core, AreDrawn, AreNumbered, history_tracks, AreCounts, all_left}
+use Rattle.editor_commits.proofs.Common.{all_right, all_so, Covers}
 use Rattle.project_journal.specs.Header.{IsFormat}
-use Rattle.project_state.specs.{declared.track.Track.Track, Meaning.history_blocks}
-use Rattle.record_body.specs.SavedValid.{IsValidPoint, IsValidTagged}
-use Rattle.record_body.proofs.SavedBounds.{all_append, tagged_more}
-use Rattle.editor_state.specs.Studios.{IsGiven, IsStudio, MayPaste, clip_blocks, named_blocks, pin_blocks, pin_tracks}
-use Rattle.editor_state.specs.{Adding.stopped_by, Core.Core, declared.pin.Pin.Pin}
-use Rattle.layout_uses.specs.{Layouts.AreDrawn, Layouts.AreNumbered, Layouts.history_tracks, Tallies.AreCounts}
-use Rattle.editor_state.proofs.Lists.{all_left, all_right, all_so}
-use Rattle.editor_state.proofs.{Images.ImageProjects.Covers, SameStudios.studio_over}
+use Rattle.editor_state.specs.{declared.pin.Pin.Pin}
+use Rattle.editor_state.proofs.{SameStudios.studio_over}
 
 -- The uses of layouts and the counts of blocks for this history and clipboard beside these pins, and the number of the
 -- next layout, where the ids are those of these counts.
@@ -89,13 +82,7 @@ module _ {D : Type 0} (disk : Ghosts D) (s : Core D) (is : IsStudio disk s) wher
           (named_too P all)
 
       led_points : AllByRecursion (IsValidTagged s.block_size s.next_block next_track (s.commit_number + count)) h'.points
-      led_points =
-          subst (λ (n : ℕ). AllByRecursion (IsValidTagged s.block_size s.next_block n (s.commit_number + count)) h'.points)
-          (sym tracked)
-          (subst
-          (λ (z : History (List Track)). AllByRecursion
-          (IsValidTagged s.block_size s.next_block track_then (s.commit_number + count)) z.points)
-          (sym moved) on.points)
+      led_points = search rules
 
       -- tracks that pins have were given before
       pin_later : (p : Pin) → IsValidPoint s.block_size s.next_block s.next_track p.point

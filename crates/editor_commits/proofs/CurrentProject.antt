@@ -1,40 +1,29 @@
 -- What any edit stands on: the current project, and a new point after it.
-use Rattle.std.proofs.Common.{◌≡◌, refl, sym, ap, ap₂, ◌∙◌, ℕ, zero, suc, ◌+◌, ◌^◌, ◌≤◌, ◌<◌, List, [], ◌∷◌, ◌++◌}
-use Rattle.std.proofs.Common.{length, map, Option, subst, arith}
-use Rattle.std.specs.List.{AllByRecursion}
-use Rattle.pcm_base.specs.History.{History, edited, kept}
-use Rattle.pcm_base.specs.{declared.block.BlockRef.BlockRef, declared.command.Call.Call}
-use Rattle.pcm_base.specs.{declared.entry.SoundMove.SoundMove, declared.refusal.Refusal.TheVariants.NoTrack}
-use Rattle.pcm_base.specs.{Cells.Project, Cells.tracks_from, Counters.Needs, Pieces.Sources, Refusals.is_empty}
-use Rattle.pcm_base.specs.{Refusals.refused_if, Run.outside, State.State, State.current, Step.after}
-use Rattle.disk_model.specs.declared.store.Store.{Ghosts}
-use Rattle.sample_block.specs.Sources.{sources_of}
-use Rattle.block_ledger.specs.Entries.{count_of}
-use Rattle.clip_track.specs.declared.items.Item.{Item}
-use Rattle.record_body.specs.Saved.{current_tracks, Saved, IsNextIn, LeadIn, MayFollow, before_of, version_of}
-use Rattle.record_body.specs.{declared.body.Body.Body, declared.body.Body.TheVariants.Edit, Batches.after_bodies}
-use Rattle.record_body.specs.{Batches.bodies_in, SavedValid.IsValidPoint, SavedValid.IsValidTagged}
-use Rattle.record_body.specs.{Valid.AllValidTracks, Valid.IsValidBody, Numbers.unnumbered_body}
-use Rattle.project_state.specs.Meaning.{meant, meant_history, point_blocks, history_blocks}
-use Rattle.project_state.specs.{declared.track.Track.Track, Tracks.AllBelow, Tracks.track_of, Numbers.AgreeById}
-use Rattle.project_state.specs.{Numbers.unnumbered}
-use Rattle.record_body.proofs.Unnumbered.{are_unnumbered, current_alike, edited_alike, valid_alike}
-use Rattle.record_body.proofs.{Batched.leads, SavedBounds.tagged_more, ShortEnds.valid_ends}
+use Rattle.editor_commits.proofs.Common.{rules, ◌≡◌, refl, sym, ap, ◌∙◌, ℕ, zero, suc, ◌+◌, ◌^◌, ◌≤◌, ◌<◌, List, []}
+use Rattle.editor_commits.proofs.Common.{◌∷◌, ◌++◌, length, map, Option, subst, arith, AllByRecursion, History, edited}
+use Rattle.editor_commits.proofs.Common.{kept, BlockRef, Call, SoundMove, NoTrack, Project, tracks_from, Needs, Sources}
+use Rattle.editor_commits.proofs.Common.{is_empty, refused_if, outside, State, current, after, Ghosts, sources_of}
+use Rattle.editor_commits.proofs.Common.{count_of, Item, current_tracks, Saved, IsNextIn, LeadIn, MayFollow, before_of}
+use Rattle.editor_commits.proofs.Common.{version_of, Body, Edit, after_bodies, IsValidPoint, IsValidTagged, IsValidBody}
+use Rattle.editor_commits.proofs.Common.{unnumbered_body, meant, meant_history, point_blocks, history_blocks, Track}
+use Rattle.editor_commits.proofs.Common.{AllBelow, track_of, AgreeById, unnumbered, current_alike, tagged_more, Tally}
+use Rattle.editor_commits.proofs.Common.{HasNumbers, AreDrawn, AreNumbered, history_tracks, AreCounts, Becomes}
+use Rattle.editor_commits.proofs.Common.{MayBecome, same_numbers, IsLength, all_bytes, bodies_by, body_bytes, bytes_by}
+use Rattle.editor_commits.proofs.Common.{single, IsHeld, IsStudio, MayPaste, clip_blocks, clip_cells, named_blocks}
+use Rattle.editor_commits.proofs.Common.{pin_blocks, pin_tracks, studio_of, studio_tracks, Core, form_at, lacks}
+use Rattle.editor_commits.proofs.Common.{tracks_few, all_left, all_so, IsCommitCall}
+use Rattle.std.proofs.Common.{ap₂}
+use Rattle.record_body.specs.{Batches.bodies_in}
+use Rattle.record_body.proofs.Unnumbered.{are_unnumbered, edited_alike, valid_alike}
+use Rattle.record_body.proofs.{Batched.leads, ShortEnds.valid_ends}
 use Rattle.project_state.proofs.MeantHistories.{meant_edited}
-use Rattle.layout_uses.specs.{declared.tally.Tally.Tally, Drawing.HasNumbers, Layouts.AreDrawn, Layouts.AreNumbered}
-use Rattle.layout_uses.specs.{Layouts.history_tracks, Tallies.AreCounts, Tallies.Becomes, Tallies.MayBecome}
-use Rattle.layout_uses.proofs.{Numbers.agree_by_id, Putting.same_numbers}
-use Rattle.editor_state.specs.Bodies.{IsLength, all_bytes, bodies_by, body_bytes, bytes_by, single}
-use Rattle.editor_state.specs.Studios.{IsHeld, IsStudio, MayPaste, clip_blocks, clip_cells, named_blocks, pin_blocks}
-use Rattle.editor_state.specs.Studios.{pin_tracks, studio_of, studio_tracks}
-use Rattle.editor_state.specs.{Core.Core, Core.form_at, Points.lacks}
+use Rattle.layout_uses.proofs.{Numbers.agree_by_id}
 use Rattle.editor_commits.proofs.BodyBytes.{ends_alike, next_so, spelled_in, version_is}
 use Rattle.editor_commits.proofs.HistoryPoints.{all_edited, blocks_edited, current_all, current_blocks, ending_current}
 use Rattle.editor_commits.proofs.HistoryPoints.{ending_few}
 use Rattle.editor_commits.proofs.{CommitImages.IsCommit, CommitImages.Matches, CommitStudios.CountsAfter}
 use Rattle.editor_commits.proofs.{TrackChanges.current_is, TrackChanges.lacks_is, TrackLists.given_below}
-use Rattle.editor_state.proofs.{Blocks.NamedBlocks.current_among, Blocks.NamedBlocks.tracks_few, Lists.all_left}
-use Rattle.editor_state.proofs.{Lists.all_so, Refusals.CommitTests.IsCommitCall}
+use Rattle.editor_state.proofs.{Blocks.NamedBlocks.current_among}
 
 -- a valid project is one still where later tracks have ids
 pub valid_later : (m next_block next_track later : ℕ) (ts : List Track) → next_track ≤ later
@@ -110,13 +99,7 @@ module _ {D : Type 0} (disk : Ghosts D) (s : Core D) (is : IsStudio disk s) wher
         next_track = next;
         commit = s.commit_number + 1;
       }
-  pointed p q next same =
-      (λ i. record now { history = edited now.history (same i) 0; next_track = next; commit = s.commit_number + 1 })
-      ∙ (λ i. record now {
-        history = sym (meant_edited src s.history p 0) i;
-        next_track = next;
-        commit = s.commit_number + 1;
-      })
+  pointed p q next same = search (rules, meant_edited)
 
   -- where no track id is given
   pub pointed_so : (p : List Track) (q : Project) → q ≡ meant src p
@@ -146,10 +129,7 @@ module _ {D : Type 0} (disk : Ghosts D) (s : Core D) (is : IsStudio disk s) wher
   pub may_come : (m : ℕ) (k : Saved) (body : Body) → Matches s m k → s.commit_number < 2 ^ 62
       → IsValidBody m (before_of k) (unnumbered_body body) → MayFollow k.history (unnumbered_body body)
       → IsNextIn (version_of (form_at s)) m k (body_bytes s body) (unnumbered_body body)
-  may_come m k body e room valid follows =
-      next_so s m k body is.journal e.history (omega (arith, e.block_size, is.format.block_least))
-      (omega (arith, e.block_size, is.format.block_most)) (omega (arith, e.commit, room))
-      (valid_ends s.block_size s.next_block s.next_track old is.format.block_least current_valid) valid follows
+  may_come m k body e room valid follows = search (rules, next_so, valid_ends, current_valid)
 
   -- and the records of a batch may: those that say the current point, and then the last
   pub may_all : (m : ℕ) (k : Saved) (tag next_block next_track : ℕ) (point : List Track) (more : ℕ) → Matches s m k
@@ -206,13 +186,7 @@ module _ {D : Type 0} (disk : Ghosts D) (s : Core D) (is : IsStudio disk s) wher
   pub may_become : (p : List Track) (after : ℕ) → HasNumbers old s.next_layout p after → length p ≤ 64
       → (tally : Tally) → AreCounts (studio_tracks s) (clip_blocks s.clipboard) (count_of tally.uses)
       (count_of tally.ledger) → MayBecome p (history_tracks s.history) tally
-  may_become p after has few tally counted = record {
-    others = pin_tracks s.pins;
-    blocks = clip_blocks s.clipboard;
-    numbered = came_numbered p after has;
-    few = came_few p few;
-    counted = counted;
-  }
+  may_become p after has few tally counted = search (rules, came_numbered, came_few)
 
   -- the counts after a new history, where pins and clipboard stay
   pub counts_then : (p : List Track) (after : ℕ) (h : History (List Track)) (tally tally' : Tally)
@@ -244,24 +218,7 @@ module _ {D : Type 0} (disk : Ghosts D) (s : Core D) (is : IsStudio disk s) wher
 
     valid_then : (m : ℕ) (k : Saved) → Matches s m k → IsValidBody m (before_of k) (Edit 0 s.next_block track_then
         (map unnumbered p))
-    valid_then m k k_is = record {
-      tag_number = omega arith;
-      tag_given = omega arith;
-      block_least = is.counters.block_least;
-      block_most = is.counters.block_most;
-      block_later = k_is.next_block;
-      track_least = omega (arith, is.counters.track_least, later);
-      track_most = most;
-      track_later = omega (arith, k_is.next_track, later);
-      few = plain.few;
-      rising = plain.rising;
-      valid = subst (λ (n : ℕ). AllValidTracks n s.next_block track_then (map unnumbered p)) (sym k_is.block_size)
-          plain.valid;
-      unnumbered = are_unnumbered p;
-    }
-      where
-        plain : IsValidPoint s.block_size s.next_block track_then (map unnumbered p)
-        plain = valid_alike s.block_size s.next_block track_then p valid
+    valid_then m k k_is = search (rules, are_unnumbered, valid_alike)
 
     -- A call whose record tells a new point is a commit.
     pub point_commit : (made : List BlockRef) (c : Call) (call_sound : SoundMove) (tracks : ℕ)

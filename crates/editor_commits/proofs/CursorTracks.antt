@@ -1,20 +1,18 @@
 -- The point at the cursor, and its tracks.
-use Rattle.std.proofs.Common.{◌≡◌, ⊎_elim, refl, sym, ap, ◌∙◌, ℕ, ◌^◌, ◌≤◌, if◌then◌else◌, List, [], ◌∷◌, subst, None}
-use Rattle.std.proofs.Common.{Some, Contains, arith}
-use Rattle.std.proofs.{lemmas.Bool.eq-eqb, lemmas.Bool.ne_eqb, lemmas.Bool.Decides.eqb_tells}
+use Rattle.editor_commits.proofs.Common.{rules, ◌≡◌, ⊎_elim, refl, sym, ap, ◌∙◌, ℕ, ◌^◌, ◌≤◌, if◌then◌else◌, List, []}
+use Rattle.editor_commits.proofs.Common.{◌∷◌, subst, None, Some, arith, eq-eqb, ne_eqb, eqb_tells, none-some, same_Some}
+use Rattle.editor_commits.proofs.Common.{tracks_from, Sources, IsWhole, AllWhole, Clip, IsLayout, layout_blocks, Ghosts}
+use Rattle.editor_commits.proofs.Common.{Track, meant, point_blocks, track_of, current_tracks, Saved, IsValidPoint}
+use Rattle.editor_commits.proofs.Common.{IsValidTagged, IsHeld, IsStudio, named_blocks, Core, lacks}
+use Rattle.std.proofs.Common.{Contains}
 use Rattle.std.proofs.{lemmas.List.Elements.All-from_recursion, lemmas.List.Elements.recursion_from_All}
-use Rattle.std.proofs.{lemmas.Option.none-some, lemmas.Option.same_Some}
 use Rattle.std.specs.List.{All}
-use Rattle.pcm_base.specs.Cells.{cells_at, cells_of_first, tracks_from}
-use Rattle.pcm_base.specs.{History.history_of_one, Pieces.Sources}
-use Rattle.sample_block.specs.Sources.{IsNamed, IsWhole, AllNamed, AllWhole}
-use Rattle.clip_track.specs.{declared.clips.Clip.Clip, Clips.IsLayout, Clips.layout_blocks, Clips.layout_cells}
-use Rattle.disk_model.specs.declared.store.Store.{Ghosts}
-use Rattle.project_state.specs.{declared.track.Track.Track, Meaning.meant, Meaning.point_blocks, Tracks.track_of}
-use Rattle.record_body.specs.{Saved.current_tracks, Saved.Saved, SavedValid.IsValidPoint, SavedValid.IsValidTagged}
+use Rattle.pcm_base.specs.Cells.{cells_at, cells_of_first}
+use Rattle.pcm_base.specs.{History.history_of_one}
+use Rattle.sample_block.specs.Sources.{IsNamed, AllNamed}
+use Rattle.clip_track.specs.{Clips.layout_cells}
 use Rattle.record_body.proofs.SavedBounds.{IsBlockRef, valid_blocks}
-use Rattle.editor_state.specs.Studios.{IsHeld, IsStudio, named_blocks}
-use Rattle.editor_state.specs.{Core.Core, Edits.AreAmong, Points.lacks, Reads.HasLayout}
+use Rattle.editor_state.specs.{Edits.AreAmong, Reads.HasLayout}
 use Rattle.editor_state.proofs.Blocks.BlockLists.{among_itself}
 use Rattle.editor_commits.proofs.CurrentProject.{current_valid, old_names}
 use Rattle.editor_commits.proofs.TrackChanges.{layout_of, valid_of}
@@ -60,10 +58,7 @@ cells_meant src id (x ∷ xs) t found = ⊎_elim
 module _ {D : Type 0} (disk : Ghosts D) (s : Core D) (is : IsStudio disk s) where
   -- any project of it that is valid may be read
   pub may_read : (ts : List Track) → IsValidPoint s.block_size s.next_block s.next_track ts → AllNamed (point_blocks ts)
-  may_read ts valid =
-      let c = is.counters in
-      named_valid s.block_size s.next_block s.next_track ts is.format.block_most c.block_least c.block_most
-      c.track_least c.track_most valid
+  may_read ts valid = search (rules, named_valid)
 
   abbrev ts : List Track
   ts = current_tracks s.history

@@ -1,18 +1,13 @@
 -- The history after an undo, a redo or a purge that may be made.
-use Rattle.std.proofs.Common.{◌≡◌, ◌⊎◌, sym, ap, ◌∙◌, refl, ℕ, zero, suc, ◌+◌, ◌-◌, ◌≤◌, ◌<◌, ◌==◌, nat_lt, nat_le}
-use Rattle.std.proofs.Common.{◌&&◌, not, Bool, true, false, length, ⊎_elim, Option, None, Ok, Err, Result, OnOk, IfErr}
-use Rattle.std.proofs.Common.{arith}
+use Rattle.editor_commits.proofs.Common.{rules, ◌≡◌, ◌⊎◌, sym, ap, ◌∙◌, ℕ, zero, suc, ◌+◌, ◌-◌, ◌≤◌, ◌<◌, ◌==◌, nat_lt}
+use Rattle.editor_commits.proofs.Common.{nat_le, length, ⊎_elim, Option, None, Ok, Err, Result, OnOk, IfErr, arith}
+use Rattle.editor_commits.proofs.Common.{eqb_tells, length-map, none-some, History, at_cursor, purged, bad_range}
+use Rattle.editor_commits.proofs.Common.{call_tests, refused_if, Line, Refusal, outside, Ghosts, sources_of, meant}
+use Rattle.editor_commits.proofs.Common.{Core, studio_of, silent}
 use Rattle.std.proofs.lemmas.Bool.{leb-true, ltb-true}
-use Rattle.std.proofs.{lemmas.Bool.Decides.eqb_tells, lemmas.List.length-map, lemmas.Option.none-some}
 use Rattle.pcm_base.specs.declared.refusal.Refusal.TheVariants.{NothingToUndo, NothingToRedo, BadRange}
-use Rattle.pcm_base.specs.History.{History, IsHistory, at_cursor, purged}
-use Rattle.pcm_base.specs.Refusals.{bad_range, call_tests, refused_if}
-use Rattle.pcm_base.specs.{declared.command.Call.TheVariants.Line, declared.refusal.Refusal.Refusal, Run.outside}
-use Rattle.disk_model.specs.declared.store.Store.{Ghosts}
-use Rattle.sample_block.specs.Sources.{sources_of}
+use Rattle.pcm_base.specs.History.{IsHistory}
 use Rattle.undo_history.specs.Stored.{Stored}
-use Rattle.project_state.specs.Meaning.{meant}
-use Rattle.editor_state.specs.{Core.Core, Studios.studio_of, Took.silent}
 use Rattle.pcm_base.specs.declared.command.Command.TheVariants as command
 
 -- the cursor is not at the first point
@@ -30,10 +25,7 @@ undone h h' (Err e) some ok err = absurd (omega (arith, some, err.1))
 -- the cursor is not at the last point
 pub behind : {P : Type 0} (h : History P) (r : Refusal) → IsHistory h
     → refused_if (h.cursor + 1 == length h.points) r ≡ None → h.cursor + 1 < length h.points
-behind h r is none = ⊎_elim
-    (λ same. absurd (none-some r (sym none ∙ ap (λ b. refused_if b r) same.0)))
-    (λ other. omega (arith, is.current, other.1))
-    (eqb_tells (h.cursor + 1) (length h.points))
+behind h r is none = search (rules, none-some, eqb_tells)
 
 pub redone : {P : Type 0} (h h' : Stored P) (result : Result (Unit {0}) Refusal)
     → h.history.cursor + 1 < length h.history.points
@@ -54,13 +46,7 @@ own_is disk s own h =
 
 -- a purge that may be made
 pub in_range : (n cursor : ℕ) → bad_range 0 n cursor ≡ None → (1 ≤ n) × (n ≤ cursor)
-in_range n cursor e = go (nat_lt 0 n) (nat_le n cursor) refl refl e
-  where
-    go : (a b : Bool) → nat_lt 0 n ≡ a → nat_le n cursor ≡ b → refused_if (not (a && b)) BadRange ≡ None
-        → (1 ≤ n) × (n ≤ cursor)
-    go true true lt le e = (ltb-true 0 n lt, leb-true n cursor le)
-    go true false lt le e = absurd (none-some BadRange (sym e))
-    go false b lt le e = absurd (none-some BadRange (sym e))
+in_range n cursor e = search (rules, nat_lt, nat_le, ltb-true, leb-true, none-some)
 
 pub purged_by : {P : Type 0} (n : ℕ) (h h' : Stored P) (result : Result (Unit {0}) Refusal) → 1 ≤ n
     → n ≤ h.history.cursor

@@ -1,14 +1,10 @@
 -- What holds of the points of a history with one more, and of its current one.
-use Rattle.std.proofs.Common.{◌≡◌, refl, ap, ◌∙◌, ℕ, ◌+◌, ◌-◌, ◌≤◌, List, [], ◌∷◌, ◌++◌, drop, length, length-append}
-use Rattle.std.proofs.Common.{arith}
-use Rattle.std.proofs.lemmas.List.{drop-append-le, length-drop}
-use Rattle.std.specs.List.{AllByRecursion}
-use Rattle.pcm_base.specs.declared.block.BlockRef.{BlockRef}
-use Rattle.pcm_base.specs.History.{History, kept, edited, ending_with}
-use Rattle.project_state.specs.{declared.track.Track.Track, Meaning.point_blocks, Meaning.history_blocks}
-use Rattle.record_body.specs.Saved.{first_tracks, current_tracks}
-use Rattle.record_body.proofs.SavedBounds.{all_append}
-use Rattle.editor_state.proofs.Lists.{all_take, all_drop, all_each, all_joined}
+use Rattle.editor_commits.proofs.Common.{rules, ◌≡◌, refl, ap, ◌∙◌, ℕ, ◌+◌, ◌-◌, ◌≤◌, List, [], ◌∷◌, ◌++◌, drop, length}
+use Rattle.editor_commits.proofs.Common.{length-append, arith, length-drop, AllByRecursion, BlockRef, History, kept}
+use Rattle.editor_commits.proofs.Common.{edited, Track, point_blocks, history_blocks, first_tracks, current_tracks}
+use Rattle.editor_commits.proofs.Common.{all_append, all_take, all_drop, all_each, all_joined}
+use Rattle.std.proofs.lemmas.List.{drop-append-le}
+use Rattle.pcm_base.specs.History.{ending_with}
 
 -- a point with its tag
 abbrev pub Tagged : Type 0
@@ -41,12 +37,7 @@ last_of zs x =
 -- the last is the current one
 pub ending_current : (h : History (List Track)) (before : List Tagged) (p : List Track) (tag : ℕ) → 1 ≤ h.depth
     → current_tracks (ending_with h before (p, tag)) ≡ p
-ending_current h before p tag some =
-    let xs : List Tagged = before ++ (p, tag) ∷ [] in
-    let k : ℕ = length xs - h.depth in
-    let few : k ≤ length before = omega (arith, length-append before ((p, tag) ∷ []), some) in
-    let points : drop k xs ≡ drop k before ++ (p, tag) ∷ [] = drop-append-le k before ((p, tag) ∷ []) few in
-    ap (λ (z : List Tagged). first_tracks (drop (length z - 1) z)) points ∙ last_of (drop k before) (p, tag)
+ending_current h before p tag some = search (rules, length-append, drop-append-le, last_of)
 
 -- ---- after the current one
 
@@ -57,10 +48,7 @@ all_edited Q h p tag all one = ending_all h (kept h) p tag Q (all_take Q (h.curs
 pub blocks_edited : (P : BlockRef → Type 0) (h : History (List Track)) (p : List Track) (tag : ℕ)
     → AllByRecursion P (history_blocks h)
     → AllByRecursion P (point_blocks p) → AllByRecursion P (history_blocks (edited h p tag))
-blocks_edited P h p tag all one =
-    let old = all_each P (λ (q : List Track × ℕ). point_blocks q.0) h.points all in
-    all_joined P (λ (q : List Track × ℕ). point_blocks q.0) (edited h p tag).points
-    (all_edited (λ q. AllByRecursion P (point_blocks q.0)) h p tag old one)
+blocks_edited P h p tag all one = search (rules, all_each, all_joined, all_edited)
 
 -- ---- the current one
 

@@ -1,3 +1,4 @@
+mod Common
 -- The bytes of records, and their rows.
 pub mod BodyBytes
 pub mod RecordRows

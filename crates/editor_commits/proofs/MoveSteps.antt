@@ -1,98 +1,46 @@
 -- Undo, redo and purge: their records, and what they leave.
-use Rattle.std.proofs.Common.{◌≡◌, ◌↔◌, ⊎_elim, refl, sym, ap, ◌∙◌, subst, ℕ, ◌+◌, ◌-◌, ◌^◌, ◌≤◌, ◌<◌, nat_lt, Bool}
-use Rattle.std.proofs.Common.{true, false, List, [], ◌++◌, drop, map, length, IsSome, Option, Some, None, Ok, Err}
-use Rattle.std.proofs.Common.{arith}
-use Rattle.std.proofs.lemmas.List.{length-drop, length-map}
-use Rattle.std.proofs.lemmas.Option.{none-some, same_Some}
-use Rattle.std.specs.List.{AllByRecursion}
-use Rattle.pcm_base.specs.{declared.answer.Reply.TheVariants.Done, declared.block.BlockRef.BlockRef}
-use Rattle.pcm_base.specs.{declared.command.Call.Call, declared.command.Call.TheVariants.Line}
-use Rattle.pcm_base.specs.{declared.refusal.Refusal.Refusal, declared.limits.TheConstants.LONGEST_BODY, Counters.Needs}
-use Rattle.pcm_base.specs.{Counters.layouts_of, Counters.no_room, History.History, History.at_cursor, History.purged}
-use Rattle.pcm_base.specs.{Refusals.◌otherwise◌, Refusals.call_tests, Refusals.refused_if, Run.outside, Run.stop_of}
-use Rattle.disk_model.specs.declared.store.Store.{Ghosts}
-use Rattle.disk_model.proofs.Frames.{Fewer}
-use Rattle.sample_block.specs.Sources.{sources_of}
-use Rattle.block_ledger.specs.{Counts.Counts, Entries.count_of}
-use Rattle.clip_track.specs.declared.items.Item.{Item}
-use Rattle.record_body.specs.declared.body.Body.TheVariants.{Undo, Redo, Purge}
-use Rattle.record_body.specs.{declared.body.Body.Body, SavedValid.IsValidTagged}
-use Rattle.project_state.specs.Meaning.{history_blocks, point_blocks}
-use Rattle.project_state.specs.{declared.track.Track.Track, Numbers.unnumbered}
+use Rattle.editor_commits.proofs.Common.{rules, ◌≡◌, ◌↔◌, ⊎_elim, refl, sym, ap, ◌∙◌, subst, ℕ, ◌+◌, ◌-◌, ◌^◌, ◌≤◌, ◌<◌}
+use Rattle.editor_commits.proofs.Common.{nat_lt, Bool, true, false, List, [], ◌++◌, map, length, IsSome, Option, Some}
+use Rattle.editor_commits.proofs.Common.{None, Ok, Err, arith, length-drop, length-map, none-some, same_Some}
+use Rattle.editor_commits.proofs.Common.{AllByRecursion, Done, Call, Line, Refusal, LONGEST_BODY, Needs, layouts_of}
+use Rattle.editor_commits.proofs.Common.{History, at_cursor, purged, ◌otherwise◌, call_tests, refused_if, outside}
+use Rattle.editor_commits.proofs.Common.{stop_of, Ghosts, Fewer, sources_of, Counts, count_of, Item, Undo, Redo, Purge}
+use Rattle.editor_commits.proofs.Common.{Body, IsValidTagged, Track, unnumbered, AreDrawn, AreNumbered, history_tracks}
+use Rattle.editor_commits.proofs.Common.{Tally, AreCounts, Becomes, MayBecome, IsHeld, IsStudio, clip_blocks}
+use Rattle.editor_commits.proofs.Common.{named_blocks, pin_tracks, studio_of, studio_tracks, Adds, AddsBody, IsNoWant}
+use Rattle.editor_commits.proofs.Common.{single, Core, Took, quietly, silent, all_left, all_drop, all_each, all_joined}
+use Rattle.editor_commits.proofs.Common.{all_so, IsCommitCall, none_made, refuses, Covers, tracks_few, commit_frees}
+use Rattle.pcm_base.specs.{Counters.no_room}
 use Rattle.project_state.proofs.MeantHistories.{meant_purged}
 use Rattle.record_body.proofs.Unnumbered.{purged_alike}
-use Rattle.layout_uses.specs.Layouts.{AreDrawn, AreNumbered, history_tracks, points_tracks}
-use Rattle.layout_uses.specs.{declared.tally.Tally.Tally, Tallies.AreCounts, Tallies.Becomes, Tallies.MayBecome}
-use Rattle.editor_state.specs.Studios.{IsHeld, IsStudio, clip_blocks, named_blocks, pin_blocks, pin_tracks, studio_of}
-use Rattle.editor_state.specs.Studios.{studio_tracks}
-use Rattle.editor_state.specs.{Adding.Adds, Adding.AddsBody, Adding.IsNoWant, Bodies.single, Core.Core, Took.Took}
-use Rattle.editor_state.specs.{Took.quietly, Took.silent}
+use Rattle.layout_uses.specs.Layouts.{points_tracks}
 use Rattle.editor_commits.proofs.CommitImages.{IsCommit, clip_stays}
 use Rattle.editor_commits.proofs.{CurrentProject.may_come, CommitStudios.CountsAfter, CommitSteps.grows_so}
-use Rattle.editor_state.proofs.Lists.{all_left, all_drop, all_each, all_joined, all_so}
-use Rattle.editor_state.proofs.Refusals.CommitTests.{IsCommitCall, tested}
-use Rattle.editor_state.proofs.Refusals.EarlyRefusals.{none_made, refuses}
-use Rattle.editor_state.proofs.{Images.ImageProjects.Covers, Blocks.NamedBlocks.tracks_few}
-use Rattle.editor_state.proofs.{Calls.FileRemovals.commit_frees, Refusals.CounterNumbers.tested_needed}
+use Rattle.editor_state.proofs.Refusals.CommitTests.{tested}
+use Rattle.editor_state.proofs.{Refusals.CounterNumbers.tested_needed}
 use Rattle.pcm_base.specs.declared.command.Command.TheVariants as command
 use Rattle.pcm_base.specs.declared.refusal.Refusal.TheVariants as refusal
 
 pub undo_call : IsCommitCall (Line command.Undo) silent 0 0
-undo_call = record {
-  many = refl;
-  no_pin = refl;
-  tracks_is = λ rate. refl;
-  stops = λ o. refl;
-  changes = refl;
-  leaves = λ t. refl;
-  heard = λ rate s. refl;
-  quiet = refl;
-  done = λ rate s. refl;
-}
+undo_call = assumption
 
 pub redo_call : IsCommitCall (Line command.Redo) silent 0 0
-redo_call = record {
-  many = refl;
-  no_pin = refl;
-  tracks_is = λ rate. refl;
-  stops = λ o. refl;
-  changes = refl;
-  leaves = λ t. refl;
-  heard = λ rate s. refl;
-  quiet = refl;
-  done = λ rate s. refl;
-}
+redo_call = assumption
 
 pub purge_call : (n : ℕ) → IsCommitCall (Line (command.Purge n)) silent 0 0
-purge_call n = record {
-  many = refl;
-  no_pin = refl;
-  tracks_is = λ rate. refl;
-  stops = λ o. refl;
-  changes = refl;
-  leaves = λ t. refl;
-  heard = λ rate s. refl;
-  quiet = refl;
-  done = λ rate s. refl;
-}
+purge_call n = assumption
 
 module _ {D : Type 0} (disk : Ghosts D) (s : Core D) (is : IsStudio disk s) where
   abbrev Move : Call → Body → History (List Track) → Type 1
   Move c body h = IsCommit (IsHeld disk s) disk s [] c silent 0 (single body) h s.clipboard s.next_track
 
   same_points : (h : History (List Track)) → h.points ≡ s.history.points → Covers (named_blocks s ++ []) h
-  same_points h e P all =
-      let named = all_left P (named_blocks s) [] all in
-      subst (λ z. AllByRecursion P (history_blocks (record h { points = z }))) (sym e)
-      (all_left P (history_blocks s.history) (pin_blocks s.pins ++ clip_blocks s.clipboard) named)
+  same_points h e P all = search (rules, all_left)
 
   -- tags that were given stay given
   points_later : AllByRecursion
       (IsValidTagged s.block_size s.next_block s.next_track (s.commit_number + 1)) s.history.points
-  points_later =
-      all_so (IsValidTagged s.block_size s.next_block s.next_track s.commit_number)
-      (IsValidTagged s.block_size s.next_block s.next_track (s.commit_number + 1))
-      (λ p h. (h.0, omega (arith, h.1))) s.history.points is.points
+  points_later = search (rules, all_so)
 
   pub undoes : 0 < s.history.cursor → Move (Line command.Undo) Undo (at_cursor s.history (s.history.cursor - 1))
   undoes some = record {
@@ -158,13 +106,7 @@ module _ {D : Type 0} (disk : Ghosts D) (s : Core D) (is : IsStudio disk s) wher
   }
 
   purge_covers : (n : ℕ) → Covers (named_blocks s ++ []) (purged s.history n)
-  purge_covers n P all =
-      let named = all_left P (named_blocks s) [] all in
-      let blocks : List Track × ℕ → List BlockRef = λ q. point_blocks q.0 in
-      let points = all_each P blocks s.history.points
-      (all_left P (history_blocks s.history) (pin_blocks s.pins ++ clip_blocks s.clipboard) named) in
-      all_joined P blocks (drop n s.history.points)
-      (all_drop (λ (q : List Track × ℕ). AllByRecursion P (point_blocks q.0)) n s.history.points points)
+  purge_covers n P all = search (rules, all_left, all_each, all_joined, all_drop)
 
   pub purges : (n : ℕ) → 1 ≤ n → n ≤ s.history.cursor → n < 2 ^ 64
       → Move (Line (command.Purge n)) (Purge n) (purged s.history n)
@@ -306,14 +248,7 @@ pub no_want : (stopped : Option ℕ) (own : Option Refusal) (track tracks number
     → IsNoWant why
 no_want (Some n) own track tracks number why h e = subst IsNoWant (same_Some (refusal.Stopped n) why e) tt
 no_want None (Some r) track tracks number why h e = subst IsNoWant (same_Some r why e) (h r refl)
-no_want None None track tracks number why h e =
-    spaces (nat_lt (2 ^ 62) (track + tracks)) (nat_lt (2 ^ 62) (number + 1)) e
-  where
-    spaces : (a b : Bool) → (refused_if a (refusal.SpaceSpent track tracks)) otherwise
-        (refused_if b (refusal.SpaceSpent number 1)) ≡ Some why → IsNoWant why
-    spaces true b e = subst IsNoWant (same_Some (refusal.SpaceSpent track tracks) why e) tt
-    spaces false true e = subst IsNoWant (same_Some (refusal.SpaceSpent number 1) why e) tt
-    spaces false false e = absurd (none-some why e)
+no_want None None track tracks number why h e = search (rules, nat_lt, same_Some, none-some)
 
 -- a test that refuses for another reason
 pub other_reason : (b : Bool) (r : Refusal) → IsNoWant r → (o : Refusal) → refused_if b r ≡ Some o → IsNoWant o
@@ -327,16 +262,7 @@ pub own_range : (stopped : Option ℕ) (own : Option Refusal) (track tracks numb
 own_range (Some n) own track tracks number why e is =
     let no : ⊥ = cc (same_Some (refusal.Stopped n) why e ∙ is) in absurd no
 own_range None (Some r) track tracks number why e is = e ∙ ap Some is
-own_range None None track tracks number why e is =
-    spaces (nat_lt (2 ^ 62) (track + tracks)) (nat_lt (2 ^ 62) (number + 1)) e
-  where
-    spaces : (a b : Bool) → (refused_if a (refusal.SpaceSpent track tracks)) otherwise
-        (refused_if b (refusal.SpaceSpent number 1)) ≡ Some why → None ≡ Some refusal.BadRange
-    spaces true b e =
-        let no : ⊥ = cc (same_Some (refusal.SpaceSpent track tracks) why e ∙ is) in absurd no
-    spaces false true e =
-        let no : ⊥ = cc (same_Some (refusal.SpaceSpent number 1) why e ∙ is) in absurd no
-    spaces false false e = absurd (none-some why e)
+own_range None None track tracks number why e is = search (rules, nat_lt, same_Some, none-some)
 
 -- the journal refuses no range
 pub added_range : {D R : Type 0} (disk : Ghosts D) (old new : Core D) (bodies : List (List ℕ)) (count whole : ℕ)

@@ -1,34 +1,26 @@
 -- An edit that makes no blocks: the project that it makes, and its commit.
-use Rattle.std.proofs.Common.{◌≡◌, nat_lt, refl, sym, ap, ◌∙◌, subst, ℕ, ◌+◌, ◌^◌, ◌≤◌, ◌<◌, List, [], ◌∷◌, ◌++◌}
-use Rattle.std.proofs.Common.{length, length-append, arith, ⊎_elim, inr, None, Ok, Err}
-use Rattle.std.proofs.lemmas.List.{length-map, map-append}
-use Rattle.std.proofs.{lemmas.Bool.Decides.leb_tells, lemmas.Option.none-some}
-use Rattle.std.specs.List.{AllByRecursion}
-use Rattle.pcm_base.specs.Cells.{Project, changed_at, dropped}
-use Rattle.pcm_base.specs.{declared.answer.Reply.TheVariants.Done, declared.block.BlockRef.BlockRef}
-use Rattle.pcm_base.specs.{declared.command.Call.TheVariants.Line, declared.refusal.Refusal.Refusal}
-use Rattle.pcm_base.specs.{declared.refusal.Refusal.TheVariants.TrackLimit, Counters.LineNeeds, Counters.layouts_of}
-use Rattle.pcm_base.specs.{History.History, History.edited, Refusals.call_tests, Refusals.refused_if, Run.outside}
-use Rattle.pcm_base.specs.{Sizes.project_body_most, State.current, Step.after_line, Step.new_track, Pieces.Sources}
-use Rattle.disk_model.specs.declared.store.Store.{Ghosts}
-use Rattle.disk_model.proofs.Frames.{Fewer}
-use Rattle.block_ledger.specs.{Counts.Counts, Entries.count_of}
-use Rattle.clip_track.specs.{declared.clips.Clip.Clip, Clips.IsLayout, Clips.AllHalfFull, Clips.layout_blocks}
-use Rattle.record_body.specs.Valid.{IsValidTrack, AllClipsGiven}
-use Rattle.record_body.specs.{declared.body.Body.TheVariants.Edit, SavedValid.IsValidPoint}
-use Rattle.project_state.specs.Meaning.{meant, meant_track, meant_history, point_blocks}
-use Rattle.project_state.specs.{declared.track.Track.Track, Numbers.AgreeById}
-use Rattle.layout_uses.specs.Tallies.{AreCounts, Becomes, MayBecome}
-use Rattle.layout_uses.specs.{declared.tally.Tally.Tally, Drawing.HasNumbers, Layouts.history_tracks}
+use Rattle.editor_commits.proofs.Common.{rules, ◌≡◌, nat_lt, refl, sym, ap, ◌∙◌, subst, ℕ, ◌+◌, ◌^◌, ◌≤◌, ◌<◌, List, []}
+use Rattle.editor_commits.proofs.Common.{◌∷◌, ◌++◌, length, length-append, arith, ⊎_elim, inr, None, Ok, Err}
+use Rattle.editor_commits.proofs.Common.{length-map, none-some, AllByRecursion, Project, changed_at, dropped, Done}
+use Rattle.editor_commits.proofs.Common.{BlockRef, Line, Refusal, layouts_of, History, edited, call_tests, refused_if}
+use Rattle.editor_commits.proofs.Common.{outside, project_body_most, current, Sources, Ghosts, Fewer, Counts, count_of}
+use Rattle.editor_commits.proofs.Common.{Clip, IsLayout, layout_blocks, IsValidTrack, Edit, IsValidPoint, meant}
+use Rattle.editor_commits.proofs.Common.{meant_track, meant_history, point_blocks, Track, AgreeById, AreCounts, Becomes}
+use Rattle.editor_commits.proofs.Common.{MayBecome, Tally, HasNumbers, history_tracks, same_numbers, IsLength, Writing}
+use Rattle.editor_commits.proofs.Common.{single, whole_len, IsHeld, IsStudio, clip_blocks, named_blocks, studio_of}
+use Rattle.editor_commits.proofs.Common.{studio_tracks, AddsBody, Undrawn, Core, put_in, put_one, Took, quietly, silent}
+use Rattle.editor_commits.proofs.Common.{line_of, layouts_by, tracks_by, refusal_by, set_by, empty_track, without}
+use Rattle.editor_commits.proofs.Common.{PlainEdit, all_left, none_made}
+use Rattle.std.proofs.lemmas.List.{map-append}
+use Rattle.std.proofs.{lemmas.Bool.Decides.leb_tells}
+use Rattle.pcm_base.specs.{declared.refusal.Refusal.TheVariants.TrackLimit, Counters.LineNeeds, Step.after_line}
+use Rattle.pcm_base.specs.{Step.new_track}
+use Rattle.clip_track.specs.{Clips.AllHalfFull}
+use Rattle.record_body.specs.Valid.{AllClipsGiven}
 use Rattle.layout_uses.proofs.Draws.{found_among, numbers_more}
-use Rattle.layout_uses.proofs.Putting.{IsLike, same_numbers, set_numbers, without_numbers}
-use Rattle.editor_state.specs.Bodies.{IsLength, Writing, single, whole_len}
-use Rattle.editor_state.specs.Studios.{IsHeld, IsStudio, clip_blocks, named_blocks, studio_of, studio_tracks}
-use Rattle.editor_state.specs.{Adding.AddsBody, Adding.AddsDrawn, Adding.Undrawn, Core.Core, Points.put_in}
-use Rattle.editor_state.specs.{Points.put_one, Took.Took, Took.quietly, Took.silent}
-use Rattle.editor_commits.specs.Plain.{line_of, IsGood, layouts_by, tracks_by, refusal_by, set_by, IsSet, IsEdited}
-use Rattle.editor_commits.specs.Plain.{empty_track, without}
-use Rattle.editor_commits.specs.declared.plain_edit.PlainEdit.{PlainEdit}
+use Rattle.layout_uses.proofs.Putting.{IsLike, set_numbers, without_numbers}
+use Rattle.editor_state.specs.{Adding.AddsDrawn}
+use Rattle.editor_commits.specs.Plain.{IsGood, IsSet, IsEdited}
 use Rattle.editor_commits.proofs.CommitImages.{IsCommit, clip_stays}
 use Rattle.editor_commits.proofs.CommitFailures.{fails, undrawn}
 use Rattle.editor_commits.proofs.CurrentProject.{old, now, src, current_valid, current_below, current_meant, track_is}
@@ -39,7 +31,6 @@ use Rattle.editor_commits.proofs.TrackLists.{without_few, without_rising, withou
 use Rattle.editor_commits.proofs.TrackLists.{more_rising, more_valid, more_blocks}
 use Rattle.editor_commits.proofs.PlainLines.{Sets, call_by, draws_by, sets_gain, sets_mute, sets_side}
 use Rattle.editor_commits.proofs.{CommitSteps.grows_so, CommitStudios.CountsAfter, BodyBytes.lengths_most}
-use Rattle.editor_state.proofs.{Lists.all_left, Refusals.EarlyRefusals.none_made}
 use Rattle.record_body.proofs.DiffTracks.{found_id}
 use Rattle.pcm_base.specs.Cells as cells
 use Rattle.editor_commits.specs.declared.plain_edit.PlainEdit.TheVariants as edit
@@ -53,10 +44,7 @@ module _ {D : Type 0} (disk : Ghosts D) (s : Core D) (is : IsStudio disk s) wher
 
   pub own_is : (e : PlainEdit)
       → refusal_by e was ≡ call_tests (outside (studio_of disk s) silent) (studio_of disk s).state (Line (line_of e))
-  own_is edit.Track =
-      let n : length (current (now disk s is)) ≡ length was =
-      ap length (current_meant disk s is) ∙ length-map was (meant_track samples) in
-      ap (λ (k : ℕ). refused_if (nat_lt 64 (k + 1)) TrackLimit) (sym n)
+  own_is edit.Track = search (rules, now, current_meant, length-map, nat_lt)
   own_is (edit.Drop id) = track_is disk s is id
   own_is (edit.Level id gain) = track_is disk s is id
   own_is (edit.Side id side) = track_is disk s is id
@@ -65,11 +53,7 @@ module _ {D : Type 0} (disk : Ghosts D) (s : Core D) (is : IsStudio disk s) wher
   -- the studio's counts, by the tally that has them
   same_counts : (tally : Tally) → count_of tally.uses ≡ s.uses → count_of tally.ledger ≡ s.counts
       → AreCounts (studio_tracks s) (clip_blocks s.clipboard) (count_of tally.uses) (count_of tally.ledger)
-  same_counts tally uses_are counts_are =
-      subst (λ (u : Counts). AreCounts (studio_tracks s) (clip_blocks s.clipboard) u (count_of tally.ledger))
-      (sym uses_are)
-      (subst (λ (z : Counts). AreCounts (studio_tracks s) (clip_blocks s.clipboard) s.uses z) (sym counts_are)
-      is.counted)
+  same_counts tally uses_are counts_are = search rules
 
   -- ---- one track set
   module _ (id : ℕ) (g : Track → Track) (f : cells.Track → cells.Track) (sets : Sets g f) (p : List Track)
@@ -114,12 +98,7 @@ module _ {D : Type 0} (disk : Ghosts D) (s : Core D) (is : IsStudio disk s) wher
         subst (λ (z : List Track). AllByRecursion P (point_blocks z)) (sym set.is) (put_all P new was one mine)
 
     set_like : IsLike was new
-    set_like = record {
-      old = set.track;
-      among = found_among id was set.track set.found;
-      number = sym (sets.number set.track);
-      layout = sym (sets.layout set.track);
-    }
+    set_like = search (rules, old, found_among)
 
     set_has : HasNumbers was s.next_layout p (s.next_layout + 0)
     set_has =

@@ -1,13 +1,12 @@
 -- A history in which a point was recorded under a tag: what holds of its points, and which is its current one.
-use Rattle.std.proofs.Common.{◌≡◌, refl, ℕ, zero, suc, ◌+◌, ◌≤◌, Bool, true, false, if◌then◌else◌, List, [], ◌∷◌, map}
-use Rattle.std.proofs.Common.{take, length, arith}
-use Rattle.std.specs.{Prelude.slice_index, List.AllByRecursion}
-use Rattle.pcm_base.specs.declared.block.BlockRef.{BlockRef}
-use Rattle.pcm_base.specs.History.{History, kept, edited, amended, is_of_recording, recorded, tag_of, tags_of}
-use Rattle.project_state.specs.{declared.track.Track.Track, Meaning.point_blocks, Meaning.history_blocks}
-use Rattle.record_body.specs.Saved.{current_tracks}
+use Rattle.editor_commits.proofs.Common.{rules, ◌≡◌, refl, ℕ, zero, suc, ◌≤◌, Bool, true, false, if◌then◌else◌, List}
+use Rattle.editor_commits.proofs.Common.{[], ◌∷◌, map, length, arith, AllByRecursion, BlockRef, History, kept, edited}
+use Rattle.editor_commits.proofs.Common.{Track, point_blocks, history_blocks, current_tracks, all_take, all_each}
+use Rattle.editor_commits.proofs.Common.{all_joined}
+use Rattle.std.proofs.Common.{take}
+use Rattle.std.specs.{Prelude.slice_index}
+use Rattle.pcm_base.specs.History.{amended, is_of_recording, recorded, tag_of, tags_of}
 use Rattle.editor_commits.proofs.HistoryPoints.{Tagged, ending_all, ending_current, ending_few}
-use Rattle.editor_state.proofs.Lists.{all_take, all_each, all_joined}
 
 either : (P : History (List Track) → Type 0) (b : Bool) (x y : History (List Track)) → P x → P y
     → P (if b then x else y)
@@ -23,17 +22,11 @@ module _ (h : History (List Track)) (p : List Track) (tag : ℕ) where
 
   pub all_recorded : (Q : Tagged → Type 0) → AllByRecursion Q h.points → Q (p, tag) → Q (p, here)
       → AllByRecursion Q (recorded h p tag).points
-  all_recorded Q all one same =
-      by_both (λ z. AllByRecursion Q z.points)
-      (ending_all h (take h.cursor h.points) p here Q (all_take Q h.cursor h.points all) same)
-      (ending_all h (kept h) p tag Q (all_take Q (h.cursor + 1) h.points all) one)
+  all_recorded Q all one same = search (rules, by_both, ending_all, all_take)
 
   pub blocks_recorded : (P : BlockRef → Type 0) → AllByRecursion P (history_blocks h)
       → AllByRecursion P (point_blocks p) → AllByRecursion P (history_blocks (recorded h p tag))
-  blocks_recorded P all one =
-      let Q : Tagged → Type 0 = λ q. AllByRecursion P (point_blocks q.0) in
-      all_joined P (λ (q : Tagged). point_blocks q.0) (recorded h p tag).points
-      (all_recorded Q (all_each P (λ (q : Tagged). point_blocks q.0) h.points all) one one)
+  blocks_recorded P all one = search (rules, all_joined, all_recorded, all_each)
 
   pub recorded_few : length (recorded h p tag).points ≤ (recorded h p tag).depth
   recorded_few = by_both (λ z. length z.points ≤ z.depth) (ending_few h (take h.cursor h.points) p here)

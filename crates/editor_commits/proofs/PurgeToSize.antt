@@ -1,27 +1,22 @@
 -- A purge to a size: the purge of as many points as have to go.
-use Rattle.std.proofs.Common.{◌≡◌, ◌⊎◌, inl, inr, ⊎_elim, refl, sym, ◌∙◌, subst, ℕ, ◌≤◌, Bool, true, false, nat_lt}
-use Rattle.std.proofs.Common.{nat_le, ◌&&◌, not, List, [], ◌++◌, Option, Some, None, Result, Ok, Err, arith}
-use Rattle.std.proofs.{lemmas.Bool.le-leb, lemmas.Bool.lt-ltb, lemmas.List.append-nil, lemmas.Option.none-some}
-use Rattle.std.proofs.{lemmas.Option.same_Some}
-use Rattle.std.specs.List.{AllByRecursion}
-use Rattle.pcm_base.specs.Counters.{counter_tests, record_test}
-use Rattle.pcm_base.specs.Refusals.{◌otherwise◌, bad_range, call_tests, refused_if}
-use Rattle.pcm_base.specs.Run.{Answers, Breaks, BreaksOff, CarriesOut, LeavesAll, outside, stop_of, told_history}
-use Rattle.pcm_base.specs.{declared.answer.Reply.Reply, declared.block.BlockRef.BlockRef, declared.command.Call.Call}
-use Rattle.pcm_base.specs.{declared.command.Call.TheVariants.Line, declared.refusal.Refusal.Refusal, Step.after}
-use Rattle.disk_model.specs.{Disk.Files, declared.store.Store.Ghosts}
-use Rattle.disk_model.proofs.Frames.{Fewer}
-use Rattle.sample_block.specs.Sources.{sources_of}
-use Rattle.project_state.specs.{declared.track.Track.Track, Meaning.meant_history, Meaning.point_blocks}
-use Rattle.record_body.specs.SavedValid.{IsValidTagged}
-use Rattle.layout_uses.specs.Layouts.{AreNumbered, history_tracks, track_blocks}
+use Rattle.editor_commits.proofs.Common.{rules, ◌≡◌, ◌⊎◌, inl, inr, ⊎_elim, refl, sym, subst, ℕ, ◌≤◌, Bool, true, false}
+use Rattle.editor_commits.proofs.Common.{nat_lt, nat_le, List, [], ◌++◌, Option, Some, None, Result, Ok, Err, arith}
+use Rattle.editor_commits.proofs.Common.{none-some, same_Some, record_test, ◌otherwise◌, bad_range, call_tests}
+use Rattle.editor_commits.proofs.Common.{refused_if, CarriesOut, outside, stop_of, BlockRef, Call, Line, Refusal, after}
+use Rattle.editor_commits.proofs.Common.{Ghosts, Fewer, sources_of, Track, meant_history, AreNumbered, history_tracks}
+use Rattle.editor_commits.proofs.Common.{Writing, Core, WouldMake, IsStudio, pin_tracks, studio_of, KeepsOneOf, Took}
+use Rattle.editor_commits.proofs.Common.{quietly, silent, all_joined, all_so, refuses, wants}
+use Rattle.std.proofs.Common.{◌&&◌, not}
+use Rattle.std.proofs.{lemmas.Bool.le-leb, lemmas.Bool.lt-ltb, lemmas.List.append-nil}
+use Rattle.pcm_base.specs.Counters.{counter_tests}
+use Rattle.pcm_base.specs.Run.{Answers, Breaks, BreaksOff, LeavesAll, told_history}
+use Rattle.pcm_base.specs.{declared.answer.Reply.Reply}
+use Rattle.disk_model.specs.{Disk.Files}
+use Rattle.layout_uses.specs.Layouts.{track_blocks}
 use Rattle.layout_uses.proofs.Moves.{numbered_without}
 use Rattle.purge_size.specs.{Fits.AreSmall, Sizes.IsPurgeTo}
-use Rattle.editor_state.specs.{Bodies.Writing, Core.Core, Left.Stops, Spent.Leads, Spent.Needed, Spent.Plans}
-use Rattle.editor_state.specs.{Spent.WouldMake, Studios.IsStudio, Studios.pin_tracks, Studios.studio_of}
-use Rattle.editor_state.specs.{Took.KeepsOneOf, Took.Took, Took.quietly, Took.silent}
-use Rattle.editor_state.proofs.Lists.{all_joined, all_so}
-use Rattle.editor_state.proofs.Refusals.EarlyRefusals.{refuses, stays, wants}
+use Rattle.editor_state.specs.{Left.Stops, Spent.Leads, Spent.Needed, Spent.Plans}
+use Rattle.editor_state.proofs.Refusals.EarlyRefusals.{stays}
 use Rattle.editor_state.proofs.{Blocks.NamedBlocks.history_named, Refusals.PurgeNumbers.refused_to}
 use Rattle.editor_state.proofs.{Calls.QuietCalls.stopped_first, Blocks.BlockLengths.tracks_short}
 use Rattle.pcm_base.specs.declared.answer.Reply.TheVariants as reply
@@ -53,12 +48,7 @@ not_stopped (Some n) h = absurd (none-some (refusal.Stopped n) (sym h))
 
 -- so many points may go
 pub some_go : (n cursor : ℕ) → 1 ≤ n → n ≤ cursor → bad_range 0 n cursor ≡ Some refusal.BadRange → ⊥
-some_go n cursor some few h =
-    let above : nat_lt 0 n ≡ true = lt-ltb 0 n some in
-    let within : nat_le n cursor ≡ true = le-leb n cursor few in
-    let none : bad_range 0 n cursor ≡ None =
-    λ i. refused_if (not (above i && within i)) refusal.BadRange in
-    none-some refusal.BadRange (sym none ∙ h)
+some_go n cursor some few h = search (rules, nat_lt, lt-ltb, nat_le, le-leb, none-some)
 
 zero_least : (n : ℕ) → 0 ≤ n
 zero_least n = omega arith
@@ -170,12 +160,7 @@ module _ {D : Type 0} (disk : Ghosts D) (s : Core D) (bytes n : ℕ) (some : 1 �
   }
 
   would : WouldMake disk s counted silent → WouldMake disk s sized silent
-  would it = record {
-    writes = it.writes;
-    commits = it.commits;
-    blocks = it.blocks;
-    so = ⊎_elim (λ plans. absurd (no_plan it.blocks it.writes plans)) (λ leads. inr (leads.0, led it.writes leads.1)) it.so;
-  }
+  would it = search (rules, no_plan, led)
 
   needed_to : (why : Refusal) → Needed disk s counted silent why → Needed disk s sized silent why
   unfolding would
@@ -187,15 +172,7 @@ module _ {D : Type 0} (disk : Ghosts D) (s : Core D) (bytes n : ℕ) (some : 1 �
   -- they do not
   module _ (why : Refusal) (new : Core D) (took : Took disk s (quietly counted (Err why)) new) where
     off : (u : model.Studio) → BreaksOff t counted silent u → BreaksOff t sized silent u
-    off u b = record {
-      going = b.going;
-      blocks = b.blocks;
-      len = b.len;
-      needs = b.needs;
-      room = b.room;
-      is = b.is;
-      leaves = b.leaves;
-    }
+    off u b = search rules
 
     breaks : (e : Refusal) (u : model.Studio) → Breaks t counted silent e u → Breaks t sized silent e u
     breaks (refusal.Damaged file at want have) u b =
@@ -288,11 +265,4 @@ module _ {D : Type 0} (disk : Ghosts D) (s : Core D) (bytes : ℕ) (is : IsStudi
       (subst (λ (ts : List Track). AreNumbered (points ++ ts)) (sym (append-nil pins)) is.numbered))
 
   pub small_blocks : AreSmall (track_blocks (history_tracks s.history))
-  small_blocks =
-      let each = all_so (IsValidTagged s.block_size s.next_block s.next_track s.commit_number)
-      (λ (p : List Track × ℕ). AllByRecursion Small (point_blocks p.0))
-      (λ p valid. all_so (λ (b : BlockRef). b.len ≤ s.block_size) Small
-      (λ b short. omega (arith, short, is.format.block_most)) (point_blocks p.0)
-      (tracks_short s.block_size s.next_block s.next_track p.0 valid.0.valid)) s.history.points is.points in
-      subst (AllByRecursion Small) (sym (history_named s.history))
-      (all_joined Small (λ (p : List Track × ℕ). point_blocks p.0) s.history.points each)
+  small_blocks = search (rules, all_so, tracks_short, history_named, all_joined)

@@ -1,12 +1,10 @@
 -- Records that wait together.
-use Rattle.std.proofs.Common.{◌≡◌, ◌∙◌, refl, sym, ap, subst, ℕ, zero, suc, ◌+◌, ◌*◌, ◌^◌, ◌≤◌, ◌<◌, List, [], ◌∷◌}
-use Rattle.std.proofs.Common.{◌++◌, length, replicate, add-mul, arith}
-use Rattle.pcm_base.specs.declared.limits.TheConstants.{LONGEST_BODY}
-use Rattle.project_journal.specs.Journal.{AreWaiting, opened, rows_length}
+use Rattle.editor_commits.proofs.Common.{◌≡◌, ◌∙◌, refl, sym, ap, subst, ℕ, zero, suc, ◌+◌, ◌*◌, ◌^◌, ◌≤◌, ◌<◌, List}
+use Rattle.editor_commits.proofs.Common.{[], ◌∷◌, ◌++◌, length, add-mul, arith, LONGEST_BODY, rows_length, Body}
+use Rattle.editor_commits.proofs.Common.{with_point, spelling, Track, bodies_by, bytes_by, whole_by}
+use Rattle.std.proofs.Common.{replicate}
+use Rattle.project_journal.specs.Journal.{AreWaiting, opened}
 use Rattle.project_journal.proofs.Together.{waiting_more}
-use Rattle.record_body.specs.{declared.body.Body.Body, Batches.with_point, Spelling.spelling}
-use Rattle.project_state.specs.declared.track.Track.{Track}
-use Rattle.editor_state.specs.Bodies.{bodies_by, bytes_by, whole_by}
 use Rattle.editor_commits.proofs.BodyBytes.{rows_step}
 
 pub times_more : {A : Type 0} (n : ℕ) (x : A) → replicate n x ++ x ∷ [] ≡ replicate (n + 1) x

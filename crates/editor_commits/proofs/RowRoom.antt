@@ -1,10 +1,6 @@
 -- Where the row of the journal has room for a record, its append takes no memory. None tells of a damaged file.
-use Rattle.std.proofs.Common.{sym, refl, subst, ℕ, ◌+◌, ◌≤◌, ◌<◌, Result, Ok, Err, IfErr, IsErrOf, arith}
-use Rattle.pcm_base.specs.declared.refusal.Refusal.{Refusal}
-use Rattle.disk_model.specs.declared.store.Store.{Ghosts}
-use Rattle.envelope_view.specs.Answers.{IsUndamaged}
-use Rattle.project_journal.specs.{Answer.Appends, declared.fault.JournalFault.JournalFault}
-use Rattle.editor_state.specs.{Adding.IsNoWant, Adding.Settles, Core.Core}
+use Rattle.editor_commits.proofs.Common.{sym, refl, subst, ℕ, ◌+◌, ◌≤◌, ◌<◌, Result, Ok, Err, IfErr, IsErrOf, arith}
+use Rattle.editor_commits.proofs.Common.{Refusal, Ghosts, IsUndamaged, Appends, JournalFault, IsNoWant, Settles, Core}
 use Rattle.project_journal.specs.declared.fault.JournalFault.TheVariants as journal
 
 abbrev Answer : Type 0

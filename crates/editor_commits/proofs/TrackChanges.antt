@@ -1,19 +1,13 @@
 -- One track put in the place of another.
-use Rattle.std.proofs.Common.{◌≡◌, ⊎_elim, refl, sym, ap, ◌∙◌, subst, ℕ, ◌+◌, ◌<◌, true, false, eqb, if◌then◌else◌}
-use Rattle.std.proofs.Common.{List, [], ◌∷◌, map, drop, Some, arith}
-use Rattle.std.proofs.{lemmas.Bool.eq-eqb, lemmas.Bool.ne_eqb, lemmas.Bool.Decides.eqb_tells, lemmas.Option.none-some}
-use Rattle.std.proofs.{lemmas.Option.same_Some, lemmas.List.drop-map}
-use Rattle.std.specs.List.{AllByRecursion}
-use Rattle.pcm_base.specs.{declared.block.BlockRef.BlockRef, declared.refusal.Refusal.TheVariants.NoTrack}
-use Rattle.pcm_base.specs.{Pieces.Sources, Cells.tracks_from, Cells.changed_at, History.History, State.first_point}
-use Rattle.pcm_base.specs.{Refusals.refused_if, Refusals.is_empty}
-use Rattle.clip_track.specs.Clips.{layout_blocks}
-use Rattle.project_state.specs.Meaning.{meant, meant_track, point_blocks}
-use Rattle.project_state.specs.{declared.track.Track.Track, Tracks.AreAbove, Tracks.track_of}
-use Rattle.record_body.specs.{Valid.IsValidTrack, Valid.AllValidTracks, Saved.first_tracks, Saved.current_tracks}
-use Rattle.editor_state.specs.Points.{put_one, put_in, lacks}
-use Rattle.record_body.proofs.SavedBounds.{all_append}
-use Rattle.editor_state.proofs.Lists.{all_left, all_right}
+use Rattle.editor_commits.proofs.Common.{◌≡◌, ⊎_elim, refl, sym, ap, ◌∙◌, subst, ℕ, ◌+◌, ◌<◌, true, false, eqb}
+use Rattle.editor_commits.proofs.Common.{if◌then◌else◌, List, [], ◌∷◌, map, drop, Some, arith, eq-eqb, ne_eqb}
+use Rattle.editor_commits.proofs.Common.{eqb_tells, none-some, same_Some, AllByRecursion, BlockRef, NoTrack, Sources}
+use Rattle.editor_commits.proofs.Common.{tracks_from, changed_at, History, refused_if, is_empty, layout_blocks, meant}
+use Rattle.editor_commits.proofs.Common.{meant_track, point_blocks, Track, AreAbove, track_of, IsValidTrack}
+use Rattle.editor_commits.proofs.Common.{AllValidTracks, first_tracks, current_tracks, put_one, put_in, lacks}
+use Rattle.editor_commits.proofs.Common.{all_append, all_left, all_right}
+use Rattle.std.proofs.{lemmas.List.drop-map}
+use Rattle.pcm_base.specs.{State.first_point}
 use Rattle.pcm_base.specs.Cells as cells
 
 -- ---- the current project

@@ -1,16 +1,11 @@
 -- A project without one of its tracks, and with one more.
-use Rattle.std.proofs.Common.{◌≡◌, ◌≢◌, ⊎_elim, refl, sym, ap, ◌∙◌, ℕ, ◌+◌, ◌≤◌, ◌<◌, false, eqb, if◌then◌else◌, List}
-use Rattle.std.proofs.Common.{[], ◌∷◌, ◌++◌, length, arith}
-use Rattle.std.proofs.{lemmas.Bool.ne_eqb, lemmas.Bool.Decides.eqb_tells}
-use Rattle.std.specs.List.{AllByRecursion}
-use Rattle.pcm_base.specs.{declared.block.BlockRef.BlockRef, Pieces.Sources, Cells.Project, Cells.dropped}
-use Rattle.clip_track.specs.Clips.{layout_blocks}
-use Rattle.project_state.specs.Meaning.{meant, meant_track, point_blocks}
-use Rattle.project_state.specs.{declared.track.Track.Track, Tracks.AreAbove, Tracks.AllBelow}
-use Rattle.record_body.specs.Valid.{IsValidTrack, AllValidTracks}
-use Rattle.editor_commits.specs.Plain.{other_one, without, empty_track}
-use Rattle.record_body.proofs.SavedBounds.{all_append}
-use Rattle.editor_state.proofs.Lists.{all_left, all_right}
+use Rattle.editor_commits.proofs.Common.{◌≡◌, ⊎_elim, refl, sym, ap, ◌∙◌, ℕ, ◌+◌, ◌≤◌, ◌<◌, false, eqb, if◌then◌else◌}
+use Rattle.editor_commits.proofs.Common.{List, [], ◌∷◌, ◌++◌, length, arith, ne_eqb, eqb_tells, AllByRecursion}
+use Rattle.editor_commits.proofs.Common.{BlockRef, Sources, Project, dropped, layout_blocks, meant, meant_track}
+use Rattle.editor_commits.proofs.Common.{point_blocks, Track, AreAbove, AllBelow, IsValidTrack, AllValidTracks, without}
+use Rattle.editor_commits.proofs.Common.{empty_track, all_append, all_left, all_right}
+use Rattle.std.proofs.Common.{◌≢◌}
+use Rattle.editor_commits.specs.Plain.{other_one}
 
 -- ---- one track, or none
 

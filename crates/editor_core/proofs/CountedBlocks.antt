@@ -1,8 +1,7 @@
 -- The blocks that a studio names are those that it counts.
-use Rattle.std.proofs.Common.{◌↔◌, ℕ, ◌<◌, List, Option, Some, None, arith}
-use Rattle.disk_model.specs.declared.store.Store.{Ghosts}
+use Rattle.editor_core.proofs.Common.{ℕ, ◌<◌, List, Option, Some, None, arith, Ghosts, Core, IsStudio}
+use Rattle.std.proofs.Common.{◌↔◌}
 use Rattle.block_ledger.specs.Counts.{IsNamed, AreNamed, occurrences}
-use Rattle.editor_state.specs.{Core.Core, Studios.IsStudio}
 use Rattle.editor_core.specs.Facts.{AreBlocksOf}
 use Rattle.editor_state.proofs.Blocks.NamedBlocks.{counted_named, named_counted}
 

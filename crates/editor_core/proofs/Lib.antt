@@ -1,5 +1,9 @@
--- What a studio is made of, a new one, and what it counts.
+mod Common
+-- What a studio is made of, a new one, what it counts, keeps and answers.
 mod StudioParts
+mod KeptPages
+mod MoveAnswers
+mod Replies
 pub mod NewProjects
 mod CountedBlocks
 mod PointCounts

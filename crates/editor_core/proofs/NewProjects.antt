@@ -1,15 +1,10 @@
 -- The parts of a new project on a disk without blocks, with one page of each kind.
-use Rattle.std.proofs.Common.{◌≡◌, refl, sym, subst, ℕ, List, [], None, Some, Option, IsSome, arith}
-use Rattle.std.specs.List.{AllByRecursion}
-use Rattle.pcm_base.specs.History.{History, history_of_one}
-use Rattle.block_ledger.specs.Entries.{count_of}
-use Rattle.undo_history.specs.Stored.{Stored}
+use Rattle.editor_core.proofs.Common.{◌≡◌, refl, sym, subst, ℕ, List, [], None, Some, Option, IsSome, arith}
+use Rattle.editor_core.proofs.Common.{AllByRecursion, History, count_of, Stored, IsValidTagged, Track, AreDrawn}
+use Rattle.editor_core.proofs.Common.{AreNumbered, history_tracks, Tally, AreParts, Parts}
+use Rattle.pcm_base.specs.History.{history_of_one}
 use Rattle.project_journal.specs.Header.{IsFormat}
-use Rattle.record_body.specs.SavedValid.{IsValidTagged}
-use Rattle.project_state.specs.declared.track.Track.{Track}
-use Rattle.layout_uses.specs.Layouts.{AreDrawn, AreNumbered, history_tracks}
-use Rattle.layout_uses.specs.{declared.tally.Tally.Tally, Tallies.IsTally}
-use Rattle.editor_core.specs.{Parts.AreParts, declared.assembly.Parts.Parts}
+use Rattle.layout_uses.specs.{Tallies.IsTally}
 use Rattle.editor_state.proofs.Refusals.EarlyRefusals.{some_none}
 
 some_not : {A : Type 0} (o : Option A) → o ≡ None → IsSome o → ⊥

@@ -1,8 +1,8 @@
 -- What is counted once a point was recorded under a tag: after the current one, or in its place.
-use Rattle.std.proofs.Common.{◌≡◌, sym, subst, ℕ, Bool, true, false, if◌then◌else◌, List}
-use Rattle.pcm_base.specs.History.{History, edited, amended, is_of_recording, recorded}
-use Rattle.project_state.specs.declared.track.Track.{Track}
-use Rattle.layout_uses.specs.{declared.tally.Tally.Tally, Layouts.history_tracks, Tallies.Becomes}
+use Rattle.editor_core.proofs.Common.{◌≡◌, sym, subst, ℕ, Bool, false, List, History, edited, Track, Tally}
+use Rattle.editor_core.proofs.Common.{history_tracks, Becomes}
+use Rattle.std.proofs.Common.{true, if◌then◌else◌}
+use Rattle.pcm_base.specs.History.{amended, is_of_recording, recorded}
 
 module _ (h : History (List Track)) (p : List Track) (tag : ℕ) (old new : Tally) where
   abbrev BecomesBy : History (List Track) → Type 0

@@ -1,19 +1,16 @@
 -- A studio of valid parts is a studio, and the disk that has what they stand for holds it.
-use Rattle.std.proofs.Common.{◌≡◌, sym, ℕ, List, [], ◌∷◌, ◌++◌, arith, subst}
-use Rattle.std.proofs.lemmas.List.{append-nil}
-use Rattle.std.specs.List.{AllByRecursion}
-use Rattle.pcm_base.specs.{declared.block.BlockRef.BlockRef, History.History, History.IsHistory}
-use Rattle.disk_model.specs.declared.store.Store.{Ghosts}
+use Rattle.editor_core.proofs.Common.{◌≡◌, sym, ℕ, List, [], ◌∷◌, ◌++◌, arith, subst, append-nil, AllByRecursion}
+use Rattle.editor_core.proofs.Common.{BlockRef, History, Ghosts, count_of, Clip, layout_blocks, Track, point_blocks}
+use Rattle.editor_core.proofs.Common.{IsValidTagged, all_append, AreParts, assembled, Parts, AreDrawn, AreNumbered}
+use Rattle.editor_core.proofs.Common.{history_tracks, IsHeld, IsStudio, is_given}
+use Rattle.pcm_base.specs.{History.IsHistory}
 use Rattle.sample_block.specs.Sources.{IsWhole}
-use Rattle.block_ledger.specs.Entries.{count_of}
-use Rattle.clip_track.specs.{declared.clips.Clip.Clip, Clips.layout_blocks}
-use Rattle.project_state.specs.{declared.track.Track.Track, Meaning.history_blocks, Meaning.point_blocks}
-use Rattle.record_body.specs.{SavedValid.IsValidTagged, Valid.AllClipsGiven, Valid.AllGiven, Valid.AllValidTracks}
-use Rattle.record_body.proofs.SavedBounds.{all_append}
-use Rattle.editor_core.specs.{Parts.AreParts, Parts.HasParts, Parts.assembled, declared.assembly.Parts.Parts}
+use Rattle.project_state.specs.{Meaning.history_blocks}
+use Rattle.record_body.specs.{Valid.AllClipsGiven, Valid.AllGiven, Valid.AllValidTracks}
+use Rattle.editor_core.specs.{Parts.HasParts}
 use Rattle.block_cache.proofs.CacheLaws.{none_pass}
-use Rattle.layout_uses.specs.{Layouts.AreDrawn, Layouts.AreNumbered, Layouts.history_tracks, Tallies.AreCounts}
-use Rattle.editor_state.specs.Studios.{IsGiven, IsHeld, IsStudio, is_given}
+use Rattle.layout_uses.specs.{Tallies.AreCounts}
+use Rattle.editor_state.specs.Studios.{IsGiven}
 use Rattle.editor_state.proofs.Lists.{all_joined, all_so}
 
 module _ (next : ℕ) where

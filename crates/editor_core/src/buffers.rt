@@ -18,7 +18,8 @@ ghost use Rattle.sample_block.specs.Faults.{damage_of};
 ghost use Rattle.sample_block.specs.Sources.{sources_of, AllNamed, AllWhole};
 ghost use Rattle.sample_block.specs.Spelling.{IsBlock, size_of};
 ghost use Rattle.block_cache.specs.Caches.{AllPass};
-ghost use Rattle.block_cache.specs.Readers.{Reads};
+ghost use Rattle.block_cache.specs.Readers.{Hits, Reads};
+ghost use Rattle.mix_reader.specs.Heard.{HasHeard};
 ghost use Rattle.project_state.specs.Meaning.{meant, point_blocks};
 ghost use Rattle.mix_reader.specs.Tracks.{mix_length_of};
 ghost use Rattle.block_writer.specs.Brought.{AreInOrder};
@@ -186,6 +187,8 @@ impl BlockBuffers {
     ) -> Result<u64, ExportFault>
         requires named { AllNamed (point_blocks point.now) }
         ensures reads { Reads (point_blocks point.now) reader.old reader.new (disk_part result) }
+        ensures hit { Hits (HasHeard reader.old.cache 0 (mix_length_of point.now) point.now) reader.old reader.new
+            (disk_part result) }
         ensures written { IsTrue (V.tells vault.old) → IsTrue (S.tells reader.old.store)
             → AllWhole (S.reads reader.old.store) (point_blocks point.now)
             → Writes (wav_text (mix_of (meant (sources_of (S.reads reader.old.store)) point.now)) rate)

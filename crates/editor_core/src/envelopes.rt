@@ -2,8 +2,14 @@
 ghost use Rattle.pcm_base.specs.declared.answer.Reply.TheVariants as reply;
 ghost use Rattle.pcm_base.specs.declared.command.Call.TheVariants.{Line};
 ghost use Rattle.pcm_base.specs.declared.command.Command.TheVariants.{Envelope};
+ghost use Rattle.std.specs.Prelude.{◌≡◌, List, None, IfErr, IsOk};
+ghost use Rattle.block_cache.specs.Caches.{SameCache};
+ghost use Rattle.clip_track.specs.declared.clips.Clip.{Clip};
+ghost use Rattle.envelope_view.specs.Answers.{read_part};
+ghost use Rattle.envelope_view.specs.Kept.{HasColumns};
+ghost use Rattle.record_body.specs.Saved.{current_tracks};
 ghost use Rattle.editor_core.specs.Core.{core_of};
-ghost use Rattle.editor_state.specs.Reads.{Looks};
+ghost use Rattle.editor_state.specs.Reads.{HasLayout, Looks};
 ghost use Rattle.editor_state.specs.Studios.{IsStudio};
 ghost use Rattle.editor_state.specs.Took.{as_reply};
 
@@ -33,9 +39,16 @@ impl<S: Store> Studio<S> {
         columns: u64,
     ) -> Result<Columns, Refusal>
         requires { IsStudio S.Store (core_of self.old) }
-        ensures { Looks S.Store (core_of self.old) (Line (Envelope track from to columns))
+        ensures looks { Looks S.Store (core_of self.old) (Line (Envelope track from to columns))
             (as_reply reply.Columns result)
             (core_of self.new) }
+        // Where the cache has all pages that the columns may ask for, the disk refuses nothing, whatever the store would
+        // answer, and is asked nothing.
+        ensures hit { self.old.stopped ≡ None → (layout : List Clip)
+            → HasLayout track (current_tracks self.old.history.history) layout
+            → HasColumns self.old.reader.cache from to layout
+            → IfErr result (λ why. IsOk (read_part why)) × (self.new.reader.store ≡ self.old.reader.store)
+            × SameCache self.old.reader.cache self.new.reader.cache }
     {
         if let Some(faults) = self.stopped {
             return Err(Refusal::Stopped { faults });

@@ -22,8 +22,8 @@ use disk_model::Store;
 use edit_ports::Vault;
 use mixdown::Loaded;
 use pcm_base::{
-    Answer, Call, Cell, CellList, Event, Frame, Frames, LoadedTrack, LoadedTracks, NoMemory,
-    Refusal, Reply, Side,
+    Answer, Call, Event, Frame, Frames, LoadedTrack, LoadedTracks, NoMemory, Refusal, Reply,
+    Samples, Side,
 };
 use std::alloc::Global;
 
@@ -90,13 +90,18 @@ fn side_at(sides: &[Side], i: usize) -> Side
     sides[i]
 }
 
-// A copy of this many cells from a place on.
-fn cells_from(alloc: Global, cells: &[Cell], from: usize, len: usize) -> Result<Vec<Cell>, NoMemory>
-    requires { from + len ≤ length cells.now }
-    ensures { IfOk result (λ v. v.items ≡ take len (drop from cells.now)) }
+// A copy of this many samples from a place on.
+fn samples_from(
+    alloc: Global,
+    samples: &[i16],
+    from: usize,
+    len: usize,
+) -> Result<Vec<i16>, NoMemory>
+    requires { from + len ≤ length samples.now }
+    ensures { IfOk result (λ v. v.items ≡ take len (drop from samples.now)) }
 {
     let end = from + len;
-    let copy = Vec::from_slice(alloc, &cells[from..end])?;
+    let copy = Vec::from_slice(alloc, &samples[from..end])?;
     Ok(copy)
 }
 
@@ -104,24 +109,24 @@ fn cells_from(alloc: Global, cells: &[Cell], from: usize, len: usize) -> Result<
 fn track_at(
     alloc: Global,
     len: usize,
-    cells: &[Cell],
+    samples: &[i16],
     gains: &[u32],
     sides: &[Side],
     i: usize,
 ) -> Result<LoadedTrack, NoMemory>
-    requires cells { length cells.now ≡ length gains.now * len }
+    requires samples { length samples.now ≡ length gains.now * len }
     requires sides { length sides.now ≡ length gains.now }
     requires within { i < length gains.now }
-    ensures { IfOk result (λ t. slice_get (cut_in len cells.now gains.now sides.now) i ≡ Some t) }
+    ensures { IfOk result (λ t. slice_get (cut_in len samples.now gains.now sides.now) i ≡ Some t) }
 {
     let gain = gain_at(gains, i);
     let side = side_at(sides, i);
     let from = i * len;
-    let part = cells_from(alloc, cells, from, len)?;
+    let part = samples_from(alloc, samples, from, len)?;
     Ok(LoadedTrack {
         gain,
         side,
-        cells: CellList::new(part),
+        samples: Samples::new(part),
     })
 }
 
@@ -129,17 +134,17 @@ fn track_at(
 fn list_tracks(
     alloc: Global,
     len: usize,
-    cells: &[Cell],
+    samples: &[i16],
     gains: &[u32],
     sides: &[Side],
 ) -> Result<Vec<LoadedTrack>, NoMemory>
-    requires cells { length cells.now ≡ length gains.now * len }
+    requires samples { length samples.now ≡ length gains.now * len }
     requires sides { length sides.now ≡ length gains.now }
-    ensures { IfOk result (λ v. v.items ≡ cut_in len cells.now gains.now sides.now) }
+    ensures { IfOk result (λ v. v.items ≡ cut_in len samples.now gains.now sides.now) }
 {
     let mut tracks = Vec::new(alloc);
     'rows: for i in 0..gains.len() {
-        let track = track_at(alloc, len, cells, gains, sides, i)?;
+        let track = track_at(alloc, len, samples, gains, sides, i)?;
         tracks.push(track)?;
     }
     Ok(tracks)
@@ -151,11 +156,11 @@ fn tracks_of(alloc: Global, loaded: &Loaded) -> Result<Vec<LoadedTrack>, NoMemor
     ensures { IfOk result (λ v. v.items ≡ tracks_in loaded.now) }
 {
     let count = loaded.gains.len() * loaded.len;
-    let cells = &loaded.cells.as_slice()[..count];
+    let samples = &loaded.samples.as_slice()[..count];
     list_tracks(
         alloc,
         loaded.len,
-        cells,
+        samples,
         loaded.gains.as_slice(),
         loaded.sides.as_slice(),
     )

@@ -1,5 +1,5 @@
 // The mix of the current project as a sound of a vault.
-ghost use Rattle.std.specs.Prelude.{◌≡◌, ◌⊎◌, ◌≤◌, ◌+◌, ◌*◌, length, IsTrue, IfErr, IfOk, MatchResult};
+ghost use Rattle.std.specs.Prelude.{◌≡◌, ◌⊎◌, ◌≤◌, ◌+◌, ◌*◌, ℕ, None, length, IsTrue, IfErr, IfOk, MatchResult};
 ghost use Rattle.pcm_base.specs.declared.answer.Reply.TheVariants as reply;
 ghost use Rattle.pcm_base.specs.declared.command.Call.TheVariants.{Line};
 ghost use Rattle.pcm_base.specs.declared.command.Command.TheVariants as command;
@@ -9,7 +9,11 @@ ghost use Rattle.pcm_base.specs.Outside.{SameElsewhere};
 ghost use Rattle.pcm_base.specs.Wave.{wav_text};
 ghost use Rattle.disk_model.specs.Frames.{Kept};
 ghost use Rattle.sample_block.specs.Sources.{sources_of, AllNamed, AllWhole};
-ghost use Rattle.block_cache.specs.Readers.{Reads};
+ghost use Rattle.block_cache.specs.Caches.{SameCache};
+ghost use Rattle.block_cache.specs.Readers.{Hits, Reads};
+ghost use Rattle.mix_reader.specs.Heard.{HasHeard};
+ghost use Rattle.record_body.specs.Saved.{current_tracks};
+ghost use Rattle.pcm_base.specs.declared.refusal.Refusal.TheVariants.{TooLong, VaultFault};
 ghost use Rattle.project_state.specs.Meaning.{meant, point_blocks};
 ghost use Rattle.wav_pcm.specs.Wavs.{FitsFile};
 ghost use Rattle.mix_reader.specs.Tracks.{mix_length_of};
@@ -28,15 +32,9 @@ use super::studio::Studio;
 use block_cache::BlockReader;
 use disk_model::Store;
 use edit_ports::Vault;
-use pcm_base::{Cell, Frame, Refusal};
+use pcm_base::Refusal;
 use project_state::Point;
-use sound_export::{ExportFault, write_mix};
-
-// How many cells of tracks are read at a time, all tracks together.
-const EXPORT_CELLS: usize = 8192;
-
-// How many frames are mixed and written at a time.
-const EXPORT_FRAMES: usize = 16_384;
+use sound_export::{ExportFault, MixBuffers, write_mix};
 
 // Writes the mix of a project in stretches, whose bytes are written by `bytes`, and answers how many bytes the sound has.
 pub(crate) fn write_stretches<S: Store, V: Vault>(
@@ -50,6 +48,8 @@ pub(crate) fn write_stretches<S: Store, V: Vault>(
     requires named { AllNamed (point_blocks point.now) }
     requires bytes { 64 ≤ length bytes.old }
     ensures reads { Reads (point_blocks point.now) reader.old reader.new (disk_part result) }
+    ensures hit { Hits (HasHeard reader.old.cache 0 (mix_length_of point.now) point.now) reader.old reader.new
+        (disk_part result) }
     ensures written { IsTrue (V.tells vault.old) → IsTrue (S.tells reader.old.store)
         → AllWhole (S.reads reader.old.store) (point_blocks point.now)
         → Writes (wav_text (mix_of (meant (sources_of (S.reads reader.old.store)) point.now)) rate)
@@ -65,25 +65,15 @@ pub(crate) fn write_stretches<S: Store, V: Vault>(
     ensures tells { V.tells vault.new ≡ V.tells vault.old }
     ensures faults { ExportCounted result (V.fault_count vault.old) (V.fault_count vault.new) }
 {
-    let mut cells = [Cell::Gap; EXPORT_CELLS];
-    let mut frames = [Frame { left: 0, right: 0 }; EXPORT_FRAMES];
-    write_mix(
-        reader,
-        vault,
-        name,
-        point,
-        rate,
-        &mut cells,
-        &mut frames,
-        bytes,
-    )
+    let mut buffers = MixBuffers::new();
+    write_mix(reader, vault, name, point, rate, &mut buffers, bytes)
 }
 
 impl<S: Store> Studio<S> {
     /// Writes the mix of the current project to a vault as a WAV file of two channels, and answers how many bytes it
     /// has. The length is tested before the sound is touched; then the header is written, and stretches of 16,384 frames
-    /// are read, mixed and appended, each by one call. The frames stand on the stack, in 96 KiB, and their bytes in a
-    /// buffer that the studio has. Nothing of the studio and its disk changes but the pages that are kept, which take
+    /// are read, mixed and appended, each by one call. Samples and frames stand on the stack, in 192 KiB, and their bytes
+    /// in a buffer that the studio has. Nothing of the studio and its disk changes but the pages that are kept, which take
     /// memory only where there is some.
     ///
     /// # Errors
@@ -108,6 +98,13 @@ impl<S: Store> Studio<S> {
         ensures kept { Kept S.Store self.old.reader.store self.new.reader.store }
         ensures valid { IsHeld S.Store (core_of self.old) → IfErr result IsUndamaged }
         ensures memory { IfErr result IsNoWant }
+        // Where the cache has all pages of the tracks that are heard, the disk refuses nothing, whatever the store would
+        // answer, and is asked nothing.
+        ensures hit { self.old.stopped ≡ None
+            → HasHeard self.old.reader.cache 0 (mix_length_of (current_tracks self.old.history.history))
+            (current_tracks self.old.history.history)
+            → IfErr result (λ why. (why ≡ VaultFault) ⊎ ((frames : ℕ) × (why ≡ TooLong frames)))
+            × (self.new.reader.store ≡ self.old.reader.store) × SameCache self.old.reader.cache self.new.reader.cache }
         ensures others { IsTrue (V.tells vault.old) → SameElsewhere name.now (V.holds vault.old) (V.holds vault.new) }
         ensures tells { V.tells vault.new ≡ V.tells vault.old }
         ensures faults { VaultCounted result (V.fault_count vault.old) (V.fault_count vault.new) }

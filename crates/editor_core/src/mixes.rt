@@ -17,6 +17,7 @@ ghost use Rattle.mix_reader.specs.Tracks.{mix_length_of};
 ghost use Rattle.record_body.specs.Saved.{current_tracks};
 ghost use Rattle.editor_core.specs.Core.{core_of};
 ghost use Rattle.editor_state.specs.Reads.{Sees};
+ghost use Rattle.editor_views.specs.Pins.{HasPin};
 ghost use Rattle.editor_state.specs.Studios.{IsStudio};
 
 use super::current::current_of;
@@ -27,11 +28,11 @@ use block_cache::BlockReader;
 use block_store::BlockFault;
 use disk_model::Store;
 use mix_reader::{mix_len, read_frames};
-use pcm_base::{Cell, Frame, Refusal};
+use pcm_base::{Frame, Refusal};
 use project_state::Point;
 
-// How many cells of tracks are read at a time, all tracks together.
-const MIX_CELLS: usize = 8192;
+// How many samples of tracks are read at a time, all tracks together.
+const MIX_SAMPLES: usize = 16_384;
 
 // Puts the frames of a project's mix from a place on at the front of `out`, as many as there are, up to a number, and
 // answers how many.
@@ -58,8 +59,8 @@ fn read_mix<S: Store>(
 {
     let left = mix_len(point).saturating_sub(from);
     let count = (most as u64).min(left) as usize;
-    let mut cells = [Cell::Gap; MIX_CELLS];
-    read_frames(reader, point, from, &mut cells, &mut out[..count])
+    let mut samples = [0; MIX_SAMPLES];
+    read_frames(reader, point, from, &mut samples, &mut out[..count])
 }
 
 impl<S: Store> Studio<S> {
@@ -111,6 +112,11 @@ impl<S: Store> Studio<S> {
             (core_of self.new) }
         // No mix is longer.
         ensures limit { IfOk result (λ n. 0 < n → from + n ≤ MAX_CELLS) }
+        // Where the cache has all pages of the pin's tracks that are heard it is Ok, whatever the store would answer,
+        // and asks it nothing.
+        ensures hit { self.old.stopped ≡ None
+            → Hits (HasPin self.old.reader.cache self.old.pins.items pin from (from + length out.old))
+            self.old.reader self.new.reader result }
     {
         if let Some(faults) = self.stopped {
             return Err(Refusal::Stopped { faults });

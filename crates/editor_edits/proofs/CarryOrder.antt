@@ -1,10 +1,9 @@
 -- How an edit is carried out: once a block was made, nothing but the disk refuses.
-use Rattle.std.proofs.Common.{◌≡◌, ◌⊎◌, inr, ⊎_elim, refl, ap, length, Result, Ok, Err, IfErr, arith}
-use Rattle.pcm_base.specs.declared.refusal.Refusal.{Refusal}
-use Rattle.disk_model.specs.declared.store.Store.{Ghosts}
+use Rattle.editor_edits.proofs.Common.{◌≡◌, ◌⊎◌, inr, ⊎_elim, refl, length, Result, Ok, Err, IfErr, arith, rules}
+use Rattle.editor_edits.proofs.Common.{Refusal, Ghosts, Adds, Core, Carried, IsPrepared, BlockCommit, batch_of}
+use Rattle.editor_edits.proofs.Common.{ids_from, AreSynced, Making}
 use Rattle.project_journal.specs.Journal.{rows_length}
-use Rattle.editor_state.specs.{Adding.Adds, Adding.IsNoWant, Core.Core, Edits.Carried, Edits.IsPrepared}
-use Rattle.editor_state.specs.{Edits.BlockCommit, Made.batch_of, Made.ids_from, Makes.AreSynced, Makes.Making}
+use Rattle.editor_state.specs.{Adding.IsNoWant}
 use Rattle.pcm_base.specs.declared.refusal.Refusal.TheVariants as refusal
 
 either_one : {A : Type 0} → A ⊎ A → A
@@ -38,8 +37,7 @@ carried_by disk s mid new c (Err refusal.DiskFault) making reads synced prepared
 carried_by disk s mid new c (Err refusal.NoMemory) making reads synced prepared exact adds no_want =
     absurd no_want
 carried_by disk s mid new c (Err (refusal.SpaceSpent have need)) making reads synced prepared exact adds no_want =
-    let over = either_one exact.fields.1 in
-    absurd (omega (arith, over.0, prepared.place, ap (λ (z : Core _). z.journal_end) making.is))
+    search (rules, either_one)
 carried_by disk s mid new c (Err (refusal.RecordLimit n)) making reads synced prepared exact adds no_want =
     let over = either_one exact.fields.1 in absurd (omega (arith, over.1, prepared.short))
 carried_by disk s mid new c (Err why) making reads synced prepared exact adds no_want =

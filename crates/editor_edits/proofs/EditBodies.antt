@@ -1,12 +1,7 @@
 -- How the code carries an edit out, in the words of its laws.
-use Rattle.std.proofs.Common.{◌≡◌, subst, ℕ, suc, ◌+◌, List, [], length, Result}
-use Rattle.pcm_base.specs.declared.refusal.Refusal.{Refusal}
-use Rattle.disk_model.specs.declared.store.Store.{Ghosts}
-use Rattle.edit_ops.specs.declared.types.NewBlock.{NewBlock}
-use Rattle.record_body.specs.{declared.body.Body.Body, declared.body.Body.TheVariants.Edit}
-use Rattle.project_state.specs.declared.track.Track.{Track}
-use Rattle.editor_state.specs.{Bodies.Writing, Bodies.all_bytes, Bodies.whole_len, Core.Core, Edits.BlockCommit}
-use Rattle.editor_state.specs.{Edits.Carried, Edits.TaggedEdit}
+use Rattle.editor_edits.proofs.Common.{◌≡◌, ℕ, suc, ◌+◌, List, [], length, Option, Result, rules, Refusal, History}
+use Rattle.editor_edits.proofs.Common.{Counts, Item, Ghosts, NewBlock, Body, Edit, Track, Writing, all_bytes, whole_len}
+use Rattle.editor_edits.proofs.Common.{Core, BlockCommit, Carried, TaggedEdit}
 
 -- the project that a record tells
 abbrev pub body_point : Body → List Track
@@ -39,6 +34,23 @@ commit_of s e = commit_with s e e.plan.makes (s.next_block + length e.plan.makes
 pub carried_at : {D : Type 0} (disk : Ghosts D) (s new : Core D) (e : TaggedEdit) (makes : List NewBlock)
     (result : Result (Unit {0}) Refusal) → makes ≡ e.plan.makes → e.plan.next ≡ s.next_block + length e.plan.makes
     → Carried disk s (commit_with s e makes e.plan.next) result new → Carried disk s (commit_of s e) result new
-carried_at disk s new e makes result same at carried =
-    subst (λ (k : ℕ). Carried disk s (commit_with s e e.plan.makes k) result new) at
-    (subst (λ (bs : List NewBlock). Carried disk s (commit_with s e bs e.plan.next) result new) same carried)
+carried_at disk s new e makes result same at carried = search rules
+
+-- the studio after commits of records of this length, by its journal, and by what else is kept of it in memory
+abbrev pub added_to : {D : Type 0} → Core D → D → (len commits : ℕ) → Core D
+added_to s store len commits = record s {
+  store = store;
+  journal_end = s.journal_end + 5 + len;
+  commit_number = s.commit_number + commits;
+}
+
+abbrev pub edited_with : {D : Type 0} → Core D → History (List Track) → Option (List (List Item))
+    → (uses counts : Counts) → (next_track next_layout : ℕ) → Core D
+edited_with s history clip uses counts next_track next_layout = record s {
+  history = history;
+  clipboard = clip;
+  uses = uses;
+  counts = counts;
+  next_track = next_track;
+  next_layout = next_layout;
+}

@@ -1,25 +1,20 @@
 -- What an edit takes out comes into the clipboard, after the point that it records.
-use Rattle.std.proofs.Common.{◌≡◌, ◌↔◌, sym, ap, ◌∙◌, subst, ℕ, ◌+◌, ◌*◌, ◌^◌, ◌≤◌, ◌<◌, IsSome, Option, Some, None}
-use Rattle.std.proofs.Common.{List, [], ◌∷◌, ◌++◌, length, length-append, flat_map, arith}
-use Rattle.std.specs.List.{AllByRecursion}
-use Rattle.pcm_base.specs.{History.History, declared.block.BlockRef.BlockRef}
-use Rattle.disk_model.specs.declared.store.Store.{Ghosts}
-use Rattle.block_ledger.specs.{Counts.Counts, Counts.IsFreshCount, Counts.occurrences, Entries.count_of}
-use Rattle.clip_track.specs.declared.items.Item.{Item}
-use Rattle.project_state.specs.{declared.track.Track.Track, Meaning.history_blocks, Meaning.point_blocks}
-use Rattle.record_body.specs.SavedValid.{IsValidTagged}
-use Rattle.layout_uses.specs.Layouts.{history_tracks, numbers_of, track_blocks, used_blocks}
-use Rattle.layout_uses.specs.{declared.tally.Tally.Tally, Tallies.AreCounts, Tallies.Becomes}
+use Rattle.editor_edits.proofs.Common.{◌≡◌, sym, ap, ◌∙◌, subst, ℕ, ◌+◌, ◌*◌, ◌^◌, ◌≤◌, ◌<◌, Option, None, List, []}
+use Rattle.editor_edits.proofs.Common.{◌∷◌, ◌++◌, length, arith, AllByRecursion, History, BlockRef, Ghosts, Counts}
+use Rattle.editor_edits.proofs.Common.{occurrences, count_of, Item, Track, history_blocks, point_blocks, IsValidTagged}
+use Rattle.editor_edits.proofs.Common.{history_tracks, Tally, Becomes, IsStudio, clip_blocks, Core, IsPlanned}
+use Rattle.editor_edits.proofs.Common.{TaggedEdit, clip_behind, history_behind, batch_of, Making, HasAll, HasIds, Moves}
+use Rattle.editor_edits.proofs.Common.{all_so, all_recorded, recorded_depth, recorded_few, CountsAfter}
+use Rattle.std.proofs.Common.{◌↔◌, IsSome, Some, length-append, flat_map}
+use Rattle.block_ledger.specs.{Counts.IsFreshCount}
+use Rattle.layout_uses.specs.Layouts.{numbers_of, track_blocks, used_blocks}
+use Rattle.layout_uses.specs.{Tallies.AreCounts}
 use Rattle.layout_uses.proofs.Naming.{counts_most}
-use Rattle.editor_state.specs.Studios.{IsStudio, clip_blocks, ids_of, pin_blocks, pin_tracks, studio_tracks}
-use Rattle.editor_state.specs.{Core.Core, Edits.IsPlanned, Edits.TaggedEdit, Edits.clip_behind, Edits.history_behind}
-use Rattle.editor_state.specs.{Made.batch_of, Makes.Making, Occurrences.HasAll, Occurrences.HasIds, Occurrences.Moves}
+use Rattle.editor_state.specs.Studios.{ids_of, pin_blocks, pin_tracks, studio_tracks}
 use Rattle.editor_state.proofs.Blocks.BlockNumbers.{named_few, named_most, point_few}
 use Rattle.editor_state.proofs.Blocks.NamedBlocks.{others_counted, others_moved, tracks_named}
-use Rattle.editor_state.proofs.Lists.{all_so}
 use Rattle.editor_edits.proofs.EditPlans.{clip_there}
-use Rattle.editor_commits.proofs.PointTags.{all_recorded, recorded_depth, recorded_few}
-use Rattle.editor_commits.proofs.{CurrentProject.counts_then, CommitStudios.CountsAfter}
+use Rattle.editor_commits.proofs.{CurrentProject.counts_then}
 
 pub points_few : (ps : List (List Track × ℕ))
     → AllByRecursion (λ (p : List Track × ℕ). length (point_blocks p.0) ≤ 2 ^ 38) ps

@@ -1,39 +1,34 @@
 -- What holds of an edit that makes blocks, whatever its call means and whatever is told; and that no vault refuses it.
-use Rattle.std.proofs.Common.{◌≡◌, ◌⊎◌, ◌<◌, inl, inr, ⊎_elim, refl, sym, ap, ◌∙◌, subst, ℕ, suc, ◌+◌, ◌-◌, ◌^◌, ◌≤◌}
-use Rattle.std.proofs.Common.{IfErr, Option, None, List, [], true, length, Result, Ok, Err, arith}
-use Rattle.std.specs.Prelude.{IfOk}
-use Rattle.pcm_base.specs.{declared.answer.Reply.Reply, declared.answer.Reply.TheVariants.Done}
-use Rattle.pcm_base.specs.{declared.block.BlockRef.BlockRef, declared.command.Call.Call}
-use Rattle.pcm_base.specs.{declared.entry.SoundMove.SoundMove, declared.refusal.Refusal.Refusal}
-use Rattle.pcm_base.specs.{declared.wav.WavFault.TheVariants.Truncated, Counters.commits_of, History.History}
-use Rattle.disk_model.specs.{Disk.StaysStep, Frames.Changed, declared.store.Store.Ghosts}
-use Rattle.disk_model.proofs.Frames.{Fewer, changed_wider}
-use Rattle.block_ledger.specs.Counts.{Counts}
-use Rattle.clip_track.specs.declared.items.Item.{Item}
-use Rattle.record_body.specs.{declared.body.Body.TheVariants.Edit, Saved.current_tracks}
-use Rattle.project_state.specs.declared.track.Track.{Track}
-use Rattle.editor_state.specs.Bodies.{Writing, all_bytes, all_len, whole_len}
-use Rattle.editor_state.specs.Edits.{Carried, Committed, IsPlanned, IsPrepared, TaggedEdit, clip_behind, Serves}
-use Rattle.editor_state.specs.Left.{CountsIds, IsSoOf, Left, LeavesOthers, MayRemove, Stops, Untouched}
-use Rattle.editor_state.specs.Makes.{Making, Stuck, Unput, Unread, one_call}
-use Rattle.editor_state.specs.{Adding.Adds, Adding.AddsBody, Adding.stopped_by, Applied.Lasts, Core.Core}
-use Rattle.editor_state.specs.{Exchanges.may_have_begun, Records.Records, Spent.NamesGiven, Made.PiecesThere}
-use Rattle.editor_state.specs.{Made.batch_of, Packing.packed_by, Purges.Purges, Studios.IsGiven, Studios.IsHeld}
-use Rattle.editor_state.specs.{Studios.IsStudio, Took.asks, Took.number_behind, Took.with_sound}
+use Rattle.editor_edits.proofs.Common.{◌≡◌, ◌⊎◌, ◌<◌, inl, inr, ⊎_elim, refl, sym, ap, ◌∙◌, subst, ℕ, suc, ◌+◌, ◌^◌}
+use Rattle.editor_edits.proofs.Common.{◌≤◌, IfErr, Option, None, List, [], true, length, Result, Ok, Err, arith, rules}
+use Rattle.editor_edits.proofs.Common.{IfOk, Reply, Done, BlockRef, Call, SoundMove, Refusal, Truncated, commits_of}
+use Rattle.editor_edits.proofs.Common.{History, Ghosts, Fewer, Counts, Item, Edit, current_tracks, Track, Writing}
+use Rattle.editor_edits.proofs.Common.{all_bytes, all_len, whole_len, Carried, Committed, IsPlanned, IsPrepared}
+use Rattle.editor_edits.proofs.Common.{TaggedEdit, clip_behind, Serves, CountsIds, Left, Stops, Untouched, Making}
+use Rattle.editor_edits.proofs.Common.{Stuck, Adds, AddsBody, stopped_by, Lasts, Core, NamesGiven, PiecesThere}
+use Rattle.editor_edits.proofs.Common.{batch_of, IsGiven, IsHeld, IsStudio, with_sound, commit_frees}
+use Rattle.editor_edits.proofs.Common.{commit_removes_none, ids_made, begun_untouched, broken_begins, all_so}
+use Rattle.editor_edits.proofs.Common.{unprepared_plain, CountsAfter, recorded_current, recorded_depth, recorded_few}
+use Rattle.editor_edits.proofs.Common.{all_failed, all_ids, all_left, IsNewId, made_studio, refs, refs_ids}
+use Rattle.std.proofs.Common.{◌-◌}
+use Rattle.disk_model.specs.{Disk.StaysStep, Frames.Changed}
+use Rattle.disk_model.proofs.Frames.{changed_wider}
+use Rattle.editor_state.specs.Left.{IsSoOf, LeavesOthers, MayRemove}
+use Rattle.editor_state.specs.Makes.{Unput, Unread, one_call}
+use Rattle.editor_state.specs.{Exchanges.may_have_begun, Records.Records, Packing.packed_by, Purges.Purges, Took.asks}
+use Rattle.editor_state.specs.{Took.number_behind}
 use Rattle.editor_edits.proofs.EditPlans.{clip_covers_then, covers_then, edit_history, pieces_there, points_then}
-use Rattle.editor_edits.proofs.{EditBodies.commit_of, GivenIds.names_given}
+use Rattle.editor_edits.proofs.{EditBodies.added_to, EditBodies.commit_of, EditBodies.edited_with, GivenIds.names_given}
 use Rattle.editor_state.proofs.Calls.OtherFiles.{NoneGoes, others_record}
 use Rattle.editor_state.proofs.Refusals.PurgeNumbers.{begun_purges, done_purges, other_purges, unprepared_range}
-use Rattle.editor_state.proofs.Calls.FileRemovals.{commit_frees, commit_removes_none, ids_made, no_record}
-use Rattle.editor_state.proofs.Calls.FileRemovals.{begun_untouched, broken_begins, cut_begins}
+use Rattle.editor_state.proofs.Calls.FileRemovals.{no_record, cut_begins}
 use Rattle.editor_state.proofs.Refusals.EarlyRefusals.{record_within, stopped_not}
-use Rattle.editor_state.proofs.{Calls.VaultCalls.lasts_idle, Lists.all_so, Refusals.CallTests.unprepared_plain}
-use Rattle.editor_commits.proofs.CommitStudios.{CountsAfter, LeadsOn, led_studio, stopped_studio}
-use Rattle.editor_commits.proofs.PointTags.{recorded_current, recorded_depth, recorded_few}
-use Rattle.editor_blocks.proofs.BlocksLeft.{all_changed, all_failed, all_ids, all_left, damaged_so, missed_so}
-use Rattle.editor_blocks.proofs.BlocksLeft.{some_changed, some_ids, some_left, some_stop, unput_changed, unput_failed}
-use Rattle.editor_blocks.proofs.BlocksLeft.{unput_here, unput_ids, unput_is, unput_left}
-use Rattle.editor_blocks.proofs.StudioBlocks.{IsNewId, made_studio, refs, refs_ids, with_store}
+use Rattle.editor_state.proofs.{Calls.VaultCalls.lasts_idle}
+use Rattle.editor_commits.proofs.CommitStudios.{LeadsOn, led_studio, stopped_studio}
+use Rattle.editor_blocks.proofs.BlocksLeft.{all_changed, damaged_so, missed_so, some_changed, some_ids, some_left}
+use Rattle.editor_blocks.proofs.BlocksLeft.{some_stop, unput_changed, unput_failed, unput_here, unput_ids, unput_is}
+use Rattle.editor_blocks.proofs.BlocksLeft.{unput_left}
+use Rattle.editor_blocks.proofs.StudioBlocks.{with_store}
 use Rattle.editor_blocks.proofs.BlocksWritten.{making_unread}
 use Rattle.pcm_base.specs.declared.refusal.Refusal.TheVariants as refusal
 
@@ -76,21 +71,8 @@ module _ {D : Type 0} (disk : Ghosts D) (s : Core D) (is : IsStudio disk s) (goi
       s.store new.store
       → CountsIds s [] new → Purges s.history c told → Untouched disk s c told new → Stops disk s told new
       → IfErr told (Left disk s new) → Lasts disk s (with_sound c sound told) new
-  lasts_going told new studio number len records named changed ids purges untouched stops left = record {
-    studio = studio;
-    number = number;
-    rests = λ some. absurd (stopped_not s.stopped some going);
-    len = len;
-    records = records;
-    given = named;
-    changed = changed;
-    frees = commit_frees disk s c told new one;
-    ids = ids;
-    purges = purges;
-    untouched = untouched;
-    stops = stops;
-    left = left;
-  }
+  lasts_going told new studio number len records named changed ids purges untouched stops left =
+      search (rules, stopped_not, commit_frees)
 
   -- ---- some of the blocks are made
 
@@ -138,16 +120,9 @@ module _ {D : Type 0} (disk : Ghosts D) (s : Core D) (is : IsStudio disk s) (goi
         (λ un. unput_lasts fits stuck.made stuck.few stuck.mid new stuck.before stuck.left un)
         stuck.by
     stuck_lasts (refusal.Damaged file at want have) new stuck serves =
-        let why = refusal.Damaged file at want have in
-        unread_lasts fits stuck.made stuck.few why stuck.mid new stuck.before stuck.by.0 (broken_begins c why refl)
-        (damaged_so disk s given makes fits c sound e.count is plan.origin why new stuck)
-    stuck_lasts refusal.VaultFault new stuck serves =
-        unread_lasts fits stuck.made stuck.few refusal.VaultFault stuck.mid new stuck.before stuck.by.0
-        (cut_begins c refusal.VaultFault serves refl) tt
-    stuck_lasts (refusal.BadWav (Truncated want have)) new stuck serves =
-        let why = refusal.BadWav (Truncated want have) in
-        unread_lasts fits stuck.made stuck.few why stuck.mid new stuck.before stuck.by.0
-        (cut_begins c why serves refl) tt
+        search (rules, unread_lasts, broken_begins, damaged_so)
+    stuck_lasts refusal.VaultFault new stuck serves = search (rules, unread_lasts, cut_begins)
+    stuck_lasts (refusal.BadWav (Truncated want have)) new stuck serves = search (rules, unread_lasts, cut_begins)
     stuck_lasts why new stuck serves = absurd stuck.by
 
   -- ---- all of them
@@ -207,17 +182,7 @@ module _ {D : Type 0} (disk : Ghosts D) (s : Core D) (is : IsStudio disk s) (goi
         (moved : h' ≡ h) (tracked : next_track ≡ track_then)
         (after : CountsAfter s.pins h clip next_layout counts uses' counts') where
       abbrev done : Core D
-      done = record mid {
-        store = new.store;
-        journal_end = s.journal_end + 5 + len;
-        commit_number = s.commit_number + suc e.more;
-        history = h';
-        clipboard = clip;
-        uses = uses';
-        counts = counts';
-        next_track = next_track;
-        next_layout = next_layout;
-      }
+      done = edited_with (added_to mid new.store len (suc e.more)) h' clip uses' counts' next_track next_layout
 
       done_studio : IsStudio disk done
       done_studio =
@@ -225,28 +190,14 @@ module _ {D : Type 0} (disk : Ghosts D) (s : Core D) (is : IsStudio disk s) (goi
           (omega (arith, adds.fields.1)) (omega arith) h' uses' counts' next_track next_layout moved tracked after
 
       done_lasts : Lasts disk s (with_sound c sound (Ok Done))
-          (record new {
-            history = h';
-            clipboard = clip;
-            uses = uses';
-            counts = counts';
-            next_track = next_track;
-            next_layout = next_layout;
-          })
+          (edited_with new h' clip uses' counts' next_track next_layout)
       done_lasts =
           let number : s.commit_number + suc e.more ≡ s.commit_number + commits_of c =
           ap (λ (k : ℕ). s.commit_number + k) (sym one) in
           let current : current_tracks h' ≡ point =
           ap current_tracks moved ∙ recorded_current s.history point e.tag is.format.depth_least in
           subst (λ (z : Core D). Lasts disk s (with_sound c sound (Ok Done))
-          (record z {
-            history = h';
-            clipboard = clip;
-            uses = uses';
-            counts = counts';
-            next_track = next_track;
-            next_layout = next_layout;
-          })) (sym adds.fields.0)
+          (edited_with z h' clip uses' counts' next_track next_layout)) (sym adds.fields.0)
           (lasts_going (Ok Done) done done_studio number len
           (inr (
             writes,
@@ -297,14 +248,7 @@ module _ {D : Type 0} (disk : Ghosts D) (s : Core D) (is : IsStudio disk s) (goi
       → h' ≡ h → next_track ≡ track_then
       → CountsAfter s.pins h clip next_layout it.mid.counts uses' counts'
       → Lasts disk s (with_sound c sound (Ok Done))
-      (record new {
-        history = h';
-        clipboard = clip;
-        uses = uses';
-        counts = counts';
-        next_track = next_track;
-        next_layout = next_layout;
-      })
+      (edited_with new h' clip uses' counts' next_track next_layout)
   lasts_ok done new it h' uses' counts' next_track next_layout moved tracked after =
       done_lasts it.prepared it.mid.store it.mid.counts (made_so it.mid it.making) done new
       (subst (λ (z : Core D). Adds disk z bodies (suc e.more) (whole_len s writes) (Ok done) new) it.making.is it.adds)

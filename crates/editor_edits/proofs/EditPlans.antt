@@ -1,42 +1,35 @@
 -- An edit that makes blocks: what its plan says of the studio with the blocks made, and its commit.
-use Rattle.std.proofs.Common.{◌≡◌, inr, refl, sym, ap, ◌∙◌, subst, ℕ, suc, ◌+◌, ◌*◌, ◌^◌, ◌≤◌, ◌<◌, ℤ, Option, None}
-use Rattle.std.proofs.Common.{List, ◌++◌, length, map, arith}
+use Rattle.editor_edits.proofs.Common.{◌≡◌, inr, refl, sym, ap, ◌∙◌, subst, ℕ, suc, ◌+◌, ◌*◌, ◌^◌, ◌≤◌, ◌<◌, ℤ, Option}
+use Rattle.editor_edits.proofs.Common.{None, List, ◌++◌, length, arith, rules, AllByRecursion, BlockRef, Call}
+use Rattle.editor_edits.proofs.Common.{SoundMove, Needs, layouts_of, History, recorded, call_tests, outside, Ghosts}
+use Rattle.editor_edits.proofs.Common.{Counts, Item, current_tracks, Body, Edit, IsValidTagged, point_blocks}
+use Rattle.editor_edits.proofs.Common.{history_blocks, Track, IsEdit, IsPlanned, TaggedEdit, clip_behind}
+use Rattle.editor_edits.proofs.Common.{history_behind, IsGiven, IsHeld, IsStudio, clip_blocks, named_blocks, studio_of}
+use Rattle.editor_edits.proofs.Common.{IsLength, Writing, Core, PiecesThere, batch_of, ids_from, AreSynced, Making}
+use Rattle.editor_edits.proofs.Common.{HasIds, among_all, all_so, HasMade, all_recorded, recorded_few, recorded_depth}
+use Rattle.editor_edits.proofs.Common.{recorded_current, IsCommit, IsNewId, made_studio, refs, refs_ids, Few}
+use Rattle.std.proofs.Common.{map}
 use Rattle.std.proofs.lemmas.List.{take_all}
-use Rattle.std.specs.List.{AllByRecursion}
-use Rattle.pcm_base.specs.{declared.block.BlockRef.BlockRef, declared.command.Call.Call}
-use Rattle.pcm_base.specs.{declared.entry.SoundMove.SoundMove, Cells.Project, Counters.Needs, Counters.layouts_of}
-use Rattle.pcm_base.specs.{History.History, History.recorded, Refusals.call_tests, Run.outside, Sizes.project_body_most}
-use Rattle.pcm_base.specs.{State.current, Step.after}
-use Rattle.disk_model.specs.declared.store.Store.{Ghosts}
+use Rattle.pcm_base.specs.{Cells.Project, Sizes.project_body_most, State.current, Step.after}
 use Rattle.sample_block.specs.Sources.{samples_on}
-use Rattle.block_ledger.specs.Counts.{Counts}
-use Rattle.clip_track.specs.declared.items.Item.{Item}
 use Rattle.edit_ops.specs.Plans.{AreWritten}
-use Rattle.record_body.specs.Saved.{current_tracks, Saved, before_of}
-use Rattle.record_body.specs.{declared.body.Body.Body, declared.body.Body.TheVariants.Edit, SavedValid.IsValidPoint}
-use Rattle.record_body.specs.{SavedValid.IsValidTagged, Valid.AllValidTracks, Valid.IsValidBody}
-use Rattle.project_state.specs.Meaning.{meant, point_blocks, history_blocks}
-use Rattle.project_state.specs.{declared.track.Track.Track, Numbers.unnumbered}
+use Rattle.record_body.specs.Saved.{Saved, before_of}
+use Rattle.record_body.specs.{SavedValid.IsValidPoint, Valid.IsValidBody}
+use Rattle.project_state.specs.Meaning.{meant}
+use Rattle.project_state.specs.{Numbers.unnumbered}
 use Rattle.record_body.proofs.SavedBounds.{all_append, tagged_more}
 use Rattle.record_body.proofs.Unnumbered.{are_unnumbered, recorded_alike, valid_alike}
-use Rattle.editor_state.specs.Edits.{IsEdit, IsPlanned, alone, beside, blocks_with, TaggedEdit, clip_behind}
-use Rattle.editor_state.specs.Edits.{history_behind}
-use Rattle.editor_state.specs.Studios.{IsGiven, IsHeld, IsStudio, clip_blocks, named_blocks, pin_blocks, studio_by}
-use Rattle.editor_state.specs.Studios.{studio_of}
-use Rattle.editor_state.specs.{Bodies.IsLength, Bodies.Writing, Core.Core, Made.PiecesThere, Made.batch_of}
-use Rattle.editor_state.specs.{Made.ids_from, Makes.AreSynced, Makes.Making, Occurrences.HasIds}
-use Rattle.editor_state.proofs.{Blocks.BlockNumbers.few_more, Blocks.BlockLists.among_all}
-use Rattle.editor_state.proofs.{Blocks.NamedBlocks.named_counted, Lists.all_left, Lists.all_so}
-use Rattle.editor_state.proofs.{Images.SameMeaning.same_by, Refusals.EarlyRefusals.HasMade}
-use Rattle.editor_commits.proofs.PointTags.{all_recorded, blocks_recorded, recorded_few, recorded_depth}
-use Rattle.editor_commits.proofs.PointTags.{recorded_current, tag_here}
+use Rattle.editor_state.specs.Edits.{alone, beside, blocks_with}
+use Rattle.editor_state.specs.Studios.{studio_by}
+use Rattle.editor_state.proofs.{Blocks.BlockNumbers.few_more, Blocks.NamedBlocks.named_counted, Lists.all_left}
+use Rattle.editor_state.proofs.{Images.SameMeaning.same_by}
+use Rattle.editor_commits.proofs.PointTags.{blocks_recorded, tag_here}
 use Rattle.editor_commits.proofs.{BodyBytes.lengths_all, CurrentProject.current_valid, CurrentProject.may_all}
-use Rattle.editor_commits.proofs.{CommitImages.IsCommit, CommitImages.Matches, TrackChanges.current_is}
+use Rattle.editor_commits.proofs.{CommitImages.Matches, TrackChanges.current_is}
 use Rattle.editor_blocks.proofs.BlockCommits.{has_made}
-use Rattle.editor_blocks.proofs.StudioBlocks.{IsNewId, are_made, made_held, made_studio, refs, refs_ids}
+use Rattle.editor_blocks.proofs.StudioBlocks.{are_made, made_held}
 use Rattle.editor_blocks.proofs.BlockSamples.{old_same, supposed, supposed_written}
 use Rattle.editor_blocks.proofs.PieceBlocks.{makes_all, IsCounted, counted_there, there_of}
-use Rattle.layout_uses.proofs.Times.{Few}
 use Rattle.pcm_base.specs.Studio as model
 
 module _ {D : Type 0} (disk : Ghosts D) (s : Core D) (is : IsStudio disk s) (going : s.stopped ≡ None)
@@ -101,10 +94,7 @@ module _ {D : Type 0} (disk : Ghosts D) (s : Core D) (is : IsStudio disk s) (goi
   Holds P = AllByRecursion P (named_blocks s ++ made)
 
   pub covers_then : (P : BlockRef → Type 0) → Holds P → AllByRecursion P (history_blocks edit_history)
-  covers_then P all =
-      let old = all_left P (history_blocks s.history) (pin_blocks s.pins ++ clip_blocks s.clipboard)
-      (all_left P (named_blocks s) made all) in
-      blocks_recorded s.history point tag P old (among_all P (blocks_with s makes) (point_blocks point) plan.names all)
+  covers_then P all = search (rules, all_left, blocks_recorded, among_all)
 
   pub clip_covers_then : (P : BlockRef → Type 0) → Holds P → AllByRecursion P (clip_blocks clip)
   clip_covers_then P all = among_all P (blocks_with s makes) (clip_blocks clip) plan.clip_names all
@@ -179,9 +169,7 @@ module _ {D : Type 0} (disk : Ghosts D) (s : Core D) (is : IsStudio disk s) (goi
         subst (ShortBy len) same (short_by len one new written)
 
     pub edit_needs : (len : ℕ) → IsLength s writes len → (k : ℕ) → k ≤ n → Needs (outside t sound) t c k len
-    edit_needs len one k le =
-        let few = short len one in
-        edit.call.needs t.rate t k len (omega (arith, le, edit.few (samples_on (disk.reads s.store))), few.0, few.1)
+    edit_needs len one k le = search (rules, short)
 
     pub edit_own : call_tests (outside t sound) t.state c ≡ None
     edit_own = edit.own (samples_on (disk.reads s.store))
@@ -215,22 +203,7 @@ module _ {D : Type 0} (disk : Ghosts D) (s : Core D) (is : IsStudio disk s) (goi
         valid_then : (m : ℕ) (k : Saved) → Matches grown m k → (ts : List Track)
             → IsValidPoint s.block_size (s.next_block + n) track_then ts
             → IsValidBody m (before_of k) (Edit tag (s.next_block + n) track_then (map unnumbered ts))
-        valid_then m k e ts valid =
-            let plain = valid_alike s.block_size (s.next_block + n) track_then ts valid in record {
-              tag_number = omega (arith, plan.tag_given, is.counters.commit_most);
-              tag_given = omega (arith, plan.tag_given, e.commit);
-              block_least = omega (arith, is.counters.block_least);
-              block_most = most;
-              block_later = e.next_block;
-              track_least = omega (arith, is.counters.track_least);
-              track_most = ids;
-              track_later = omega (arith, e.next_track);
-              few = plain.few;
-              rising = plain.rising;
-              valid = subst (λ (b : ℕ). AllValidTracks b (s.next_block + n) track_then (map unnumbered ts))
-                  (sym e.block_size) plain.valid;
-              unnumbered = are_unnumbered ts;
-            }
+        valid_then m k e ts valid = search (rules, valid_alike, are_unnumbered)
 
         pub move : IsCommit (IsHeld disk s) disk grown made c sound tracks writes edit_history clip track_then
         move = record {

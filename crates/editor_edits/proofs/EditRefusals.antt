@@ -1,21 +1,13 @@
 -- An edit that makes blocks, refused before the first of them.
-use Rattle.std.proofs.Common.{◌≡◌, inl, inr, ⊎_elim, refl, sym, subst, ℕ, suc, ◌+◌, ◌≤◌, None, List, length, Err, ◌∙◌}
-use Rattle.std.proofs.Common.{true, false, arith}
-use Rattle.std.proofs.lemmas.Bool.{true≢false}
-use Rattle.pcm_base.specs.{declared.command.Call.Call, declared.entry.SoundMove.SoundMove}
-use Rattle.pcm_base.specs.{declared.refusal.Refusal.Refusal, declared.limits.TheConstants.LONGEST_BODY, Counters.Needs}
-use Rattle.pcm_base.specs.{History.History, History.recorded, Run.outside}
-use Rattle.disk_model.specs.declared.store.Store.{Ghosts}
-use Rattle.disk_model.proofs.Frames.{Fewer}
-use Rattle.record_body.specs.declared.body.Body.TheVariants.{Edit}
-use Rattle.project_state.specs.declared.track.Track.{Track}
-use Rattle.editor_state.specs.Bodies.{IsLength, Writing, all_len, whole_len}
-use Rattle.editor_state.specs.Edits.{IsEdit, IsPlanned, NotPrepared, TaggedEdit}
-use Rattle.editor_state.specs.{Adding.Outgrows, Core.Core, Exchanges.may_begin, Spent.WouldMake, Studios.IsStudio}
-use Rattle.editor_state.specs.{Studios.studio_of, Took.Took, Took.with_sound}
+use Rattle.editor_edits.proofs.Common.{◌≡◌, inl, inr, ⊎_elim, refl, sym, subst, ℕ, suc, ◌+◌, ◌≤◌, None, List, length}
+use Rattle.editor_edits.proofs.Common.{Err, ◌∙◌, true, false, arith, true≢false, Call, SoundMove, Refusal, Needs}
+use Rattle.editor_edits.proofs.Common.{History, recorded, outside, Ghosts, Fewer, Edit, Track, IsLength, Writing}
+use Rattle.editor_edits.proofs.Common.{all_len, whole_len, IsEdit, IsPlanned, TaggedEdit, Core, may_begin, IsStudio}
+use Rattle.editor_edits.proofs.Common.{studio_of, Took, with_sound, unprepared_plain, commit_frees, commit_removes_none}
+use Rattle.pcm_base.specs.{declared.limits.TheConstants.LONGEST_BODY}
+use Rattle.editor_state.specs.Edits.{NotPrepared}
+use Rattle.editor_state.specs.{Adding.Outgrows, Spent.WouldMake}
 use Rattle.editor_state.proofs.Refusals.VaultRefusals.{inside_begins_none, unprepared_asks}
-use Rattle.editor_state.proofs.Refusals.CallTests.{unprepared_plain}
-use Rattle.editor_state.proofs.Calls.FileRemovals.{commit_frees, commit_removes_none}
 use Rattle.editor_state.proofs.Refusals.CommitTests.{counter_spent, exceeded}
 use Rattle.editor_state.proofs.Refusals.CounterNumbers.{outgrowing_needed, spent_needed}
 use Rattle.editor_state.proofs.Refusals.EarlyRefusals.{refuses, wants}

@@ -1,21 +1,17 @@
 -- An edit whose commit was carried out, as the code takes its point, and then its clipboard.
-use Rattle.std.proofs.Common.{◌≡◌, ◌∙◌, sym, ap, subst, ℕ, suc, ◌+◌, List, Option, Ok, ◌≤◌, ◌<◌, ◌^◌, None}
-use Rattle.pcm_base.specs.{declared.answer.Reply.TheVariants.Done, declared.command.Call.Call}
-use Rattle.pcm_base.specs.{declared.entry.SoundMove.SoundMove, Counters.commits_of, History.History, History.recorded}
-use Rattle.disk_model.specs.declared.store.Store.{Ghosts}
-use Rattle.disk_model.proofs.Frames.{Fewer}
-use Rattle.block_ledger.specs.{Counts.Counts, Counts.occurrences, Entries.count_of}
-use Rattle.layout_uses.specs.{declared.tally.Tally.Tally, Layouts.history_tracks, Tallies.Becomes, Tallies.MayBecome}
-use Rattle.clip_track.specs.declared.items.Item.{Item}
-use Rattle.project_state.specs.{declared.track.Track.Track, Meaning.point_blocks}
-use Rattle.editor_state.specs.Edits.{Committed, IsEdit, IsPlanned, TaggedEdit, clip_behind, clip_then, history_behind}
-use Rattle.editor_state.specs.{Applied.Lasts, Core.Core, Occurrences.HasAll, Occurrences.HasIds, Occurrences.Moves}
-use Rattle.editor_state.specs.{Studios.IsStudio, Studios.MayPaste, Studios.clip_blocks, Took.Took, Took.with_sound}
+use Rattle.editor_edits.proofs.Common.{◌≡◌, ◌∙◌, sym, ap, subst, ℕ, suc, ◌+◌, List, Option, Ok, ◌≤◌, ◌<◌, ◌^◌, None}
+use Rattle.editor_edits.proofs.Common.{rules, Done, Call, SoundMove, commits_of, History, recorded, Ghosts, Fewer}
+use Rattle.editor_edits.proofs.Common.{Counts, occurrences, count_of, Tally, history_tracks, Becomes, Item, Track}
+use Rattle.editor_edits.proofs.Common.{point_blocks, Committed, IsEdit, IsPlanned, TaggedEdit, clip_behind}
+use Rattle.editor_edits.proofs.Common.{history_behind, Lasts, Core, HasAll, HasIds, Moves, IsStudio, clip_blocks, Took}
+use Rattle.editor_edits.proofs.Common.{with_sound, CountsAfter, Few}
+use Rattle.layout_uses.specs.{Tallies.MayBecome}
+use Rattle.editor_state.specs.Edits.{clip_then}
+use Rattle.editor_state.specs.{Studios.MayPaste}
 use Rattle.editor_edits.proofs.EditPlans.{point_few, point_there}
 use Rattle.editor_edits.proofs.EditClipboard.{counted_mid, taken_counted, taken_named, taken_room, taken_there}
 use Rattle.editor_edits.proofs.{EditBodies.commit_of, EditSteps.edit_ok, EditLasts.lasts_ok}
-use Rattle.editor_commits.proofs.{CurrentProject.may_become, CommitStudios.CountsAfter}
-use Rattle.layout_uses.proofs.Times.{Few}
+use Rattle.editor_commits.proofs.{CurrentProject.may_become}
 
 -- the commit of an edit carried out, and the point that came back from its body recorded
 pub record IsPointed {D : Type 0} (disk : Ghosts D) (s : Core D) (e : TaggedEdit) (now : Core D) : Type 0 where
@@ -79,12 +75,7 @@ module _ {D : Type 0} (disk : Ghosts D) (s : Core D) (is : IsStudio disk s) (goi
     counts_was = at.counts_before ∙ sym (counts_are new k)
 
     becomes : Becomes e.plan.point (history_tracks s.history) (history_tracks (history_behind s e)) at.before at.after
-    becomes = subst (λ (q : List Track).
-        Becomes q (history_tracks s.history) (history_tracks (recorded s.history q e.tag)) at.before at.after)
-        (sym at.point_is)
-        (subst (λ (h : History (List Track)).
-        Becomes at.point (history_tracks h) (history_tracks (recorded h at.point e.tag)) at.before at.after) at.history
-        at.counted)
+    becomes = search rules
 
     clip_was : now.clipboard ≡ s.clipboard
     clip_was = ap (λ (z : Core D). z.clipboard) at.fields ∙ ap (λ (z : Core D). z.clipboard) k.adds.fields.0
@@ -106,9 +97,7 @@ module _ {D : Type 0} (disk : Ghosts D) (s : Core D) (is : IsStudio disk s) (goi
         (taken_room disk s is going e plan k.mid k.making at.layouts at.before at.after uses_was counts_was becomes id)
 
     pub out_fits : MayPaste now.block_size (clip_behind now e.plan)
-    out_fits = subst (λ (m : ℕ). MayPaste m (clip_behind now e.plan)) (sym size_was)
-        (subst (λ (z : Option (List (List Item))). MayPaste s.block_size (clip_then e.plan.clip z)) (sym clip_was)
-        plan.clip_fits)
+    out_fits = search (rules, size_was, clip_was)
 
     pub out_named : HasAll now.counts (clip_blocks now.clipboard)
     out_named = subst (λ (z : Option (List (List Item))). HasAll now.counts (clip_blocks z)) (sym clip_was)

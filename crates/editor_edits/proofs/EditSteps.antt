@@ -1,37 +1,26 @@
 -- An edit that makes blocks, as one step: its record was added, or was not, or nothing was prepared.
-use Rattle.std.proofs.Common.{◌≡◌, inl, inr, ⊎_elim, refl, sym, ap, ◌∙◌, subst, ℕ, suc, ◌+◌, Option, None, List, length}
-use Rattle.std.proofs.Common.{Ok, Err, arith, ◌≤◌, [], Result, IfErr}
-use Rattle.std.specs.Prelude.{IfOk}
-use Rattle.pcm_base.specs.Run.{followed, outside, Answers, CarriesOut, refusal_of}
-use Rattle.pcm_base.specs.{declared.answer.Reply.Reply, declared.answer.Reply.TheVariants.Done}
-use Rattle.pcm_base.specs.{declared.command.Call.Call, declared.entry.SoundMove.SoundMove}
-use Rattle.pcm_base.specs.{declared.refusal.Refusal.Refusal, Counters.Needs, Counters.RecordsNeed, Counters.layouts_of}
-use Rattle.pcm_base.specs.{declared.wav.WavFault.TheVariants.Truncated, History.History, Refusals.call_tests}
-use Rattle.disk_model.specs.declared.store.Store.{Ghosts}
-use Rattle.disk_model.proofs.Frames.{Fewer}
-use Rattle.block_ledger.specs.Counts.{Counts}
-use Rattle.clip_track.specs.declared.items.Item.{Item}
-use Rattle.record_body.specs.{declared.body.Body.TheVariants.Edit, Saved.current_tracks}
-use Rattle.project_state.specs.declared.track.Track.{Track}
-use Rattle.editor_state.specs.Bodies.{Writing, all_bytes, all_len, whole_len}
-use Rattle.editor_state.specs.Edits.{Carried, Committed, IsEdit, IsPlanned, IsPrepared, TaggedEdit, clip_behind, Serves}
-use Rattle.editor_state.specs.Edits.{history_behind}
-use Rattle.editor_state.specs.Left.{CountsIds, Left, Stops, Untouched}
-use Rattle.editor_state.specs.{Adding.Adds, Adding.AddsBody, Adding.stopped_by, Core.Core, Made.batch_of, Made.ids_from}
-use Rattle.editor_state.specs.{Makes.AreSynced, Makes.Making, Makes.OrCut, Spent.NamesGiven, Spent.Needed}
-use Rattle.editor_state.specs.{Studios.IsHeld, Studios.IsStudio, Studios.studio_of, Took.Took, Took.with_sound}
+use Rattle.editor_edits.proofs.Common.{◌≡◌, inl, inr, ⊎_elim, refl, sym, ap, ◌∙◌, subst, ℕ, suc, ◌+◌, Option, None}
+use Rattle.editor_edits.proofs.Common.{List, length, Ok, Err, arith, ◌≤◌, [], Result, IfErr, rules, IfOk, outside}
+use Rattle.editor_edits.proofs.Common.{Reply, Done, Call, SoundMove, Refusal, Needs, layouts_of, Truncated, History}
+use Rattle.editor_edits.proofs.Common.{call_tests, Ghosts, Fewer, Counts, Item, Edit, current_tracks, Track, Writing}
+use Rattle.editor_edits.proofs.Common.{all_bytes, all_len, whole_len, Carried, Committed, IsEdit, IsPlanned, IsPrepared}
+use Rattle.editor_edits.proofs.Common.{TaggedEdit, clip_behind, Serves, history_behind, CountsIds, Left, Stops}
+use Rattle.editor_edits.proofs.Common.{Untouched, Adds, AddsBody, stopped_by, Core, batch_of, ids_from, AreSynced}
+use Rattle.editor_edits.proofs.Common.{Making, OrCut, NamesGiven, IsHeld, IsStudio, studio_of, Took, with_sound}
+use Rattle.editor_edits.proofs.Common.{IsCommit, CountsAfter, recorded_current, all_failed, all_ids, all_left, refs}
+use Rattle.editor_edits.proofs.Common.{commit_removes_none, ids_made, begun_untouched, broken_begins, HasMade}
+use Rattle.pcm_base.specs.Run.{followed, Answers, CarriesOut, refusal_of}
+use Rattle.pcm_base.specs.{Counters.RecordsNeed}
+use Rattle.editor_state.specs.{Spent.Needed}
 use Rattle.editor_edits.proofs.EditPlans.{edit_draws, pieces_there, edit_needs, edit_own, grown_draws, grown_held}
 use Rattle.editor_edits.proofs.EditPlans.{grown_is, grown_made, grown_own, move}
-use Rattle.editor_edits.proofs.{EditBodies.commit_of, EditRefusals.not_prepared, GivenIds.names_given}
+use Rattle.editor_edits.proofs.{EditBodies.added_to, EditBodies.commit_of, EditBodies.edited_with}
+use Rattle.editor_edits.proofs.{EditRefusals.not_prepared, GivenIds.names_given}
 use Rattle.editor_commits.proofs.{CommitFailures.failed, CommitFailures.failed_state, CommitImages.IsTested}
-use Rattle.editor_commits.proofs.{CommitImages.IsCommit, CommitStudios.CountsAfter, CommitSteps.grown_state}
-use Rattle.editor_commits.proofs.{CommitSteps.grows, PointTags.recorded_current}
-use Rattle.editor_blocks.proofs.{BlockCommits.composed, BlockFaults.not_made, BlocksLeft.all_failed, BlocksLeft.all_ids}
-use Rattle.editor_blocks.proofs.{BlocksLeft.all_left, StudioBlocks.refs, StudioBlocks.made_state}
-use Rattle.editor_state.proofs.Calls.FileRemovals.{commit_removes_none, ids_made, begun_untouched, broken_begins}
+use Rattle.editor_commits.proofs.{CommitSteps.grown_state, CommitSteps.grows}
+use Rattle.editor_blocks.proofs.{BlockCommits.composed, BlockFaults.not_made, StudioBlocks.made_state}
 use Rattle.editor_state.proofs.Calls.FileRemovals.{commit_leaves_journal}
 use Rattle.editor_state.proofs.{Calls.CallPremises.TookWhere, Refusals.CommitTests.nothing}
-use Rattle.editor_state.proofs.{Refusals.EarlyRefusals.HasMade}
 use Rattle.pcm_base.specs.declared.refusal.Refusal.TheVariants as refusal
 use Rattle.pcm_base.specs.Studio as model
 
@@ -93,17 +82,7 @@ module _ {D : Type 0} (disk : Ghosts D) (s : Core D) (is : IsStudio disk s) (goi
 
     -- the commit that is left, where the disk held the studio before the first block
     mid_tested : IsTested (IsHeld disk s) disk mid (refs makes) c sound tracks writes h clip track_then
-    mid_tested = record {
-      is = mid_is;
-      holds = grown_held disk s is going e plan c sound edit store counts making prepared.blocks prepared.ids;
-      has_made = mid_made;
-      move = mid_move;
-      going = going;
-      own = mid_own;
-      ids = prepared.ids;
-      number = omega (arith, prepared.number);
-      layouts = omega (arith, prepared.numbers, mid_draws);
-    }
+    mid_tested = search (rules, mid_is, grown_held, mid_made, move, mid_move, mid_own, mid_draws)
 
     mid_state : IsHeld disk s
         → studio_of disk mid ≡ record t { next_block = s.next_block + n; read_faults = disk.read_fault_count store }
@@ -128,17 +107,7 @@ module _ {D : Type 0} (disk : Ghosts D) (s : Core D) (is : IsStudio disk s) (goi
         (omega (arith, prepared.numbers, edit_draws disk s is going e plan c sound edit)) prepared.place prepared.short
 
     carried_out : CarriesOut t c sound Done (followed (outside t sound) t c n len t.next_layout)
-    carried_out = record {
-      blocks = n;
-      len = len;
-      layout = t.next_layout;
-      needs = need n (omega arith);
-      passed = passes;
-      draws = (omega arith, omega arith);
-      answers = edit.call.commit.done t.rate t.state;
-      is = refl;
-      heard = edit.call.commit.heard t.rate t.state;
-    }
+    carried_out = search (rules, need, passes)
 
     -- the call from the studio that has the blocks is the call from the start
     from_start : (told_as : Result Reply Refusal) (new : Core D)
@@ -148,11 +117,7 @@ module _ {D : Type 0} (disk : Ghosts D) (s : Core D) (is : IsStudio disk s) (goi
         → Untouched disk s c told_as new → Stops disk s told_as new
         → IfErr told_as (Left disk s new) → Took disk s (with_sound c sound told_as) new
     from_start told_as new took next step ids named needed untouched stops left =
-        composed disk s is given makes going plan.new prepared.blocks
-        (pieces_there disk s is going e plan) c sound mid making
-        told_as new took next back (λ held. (len, carried_out)) step
-        (commit_removes_none c edit.call.commit.many) (commit_leaves_journal c edit.call.commit.many) ids named needed
-        untouched stops left
+        search (rules, composed, pieces_there, back, carried_out, commit_removes_none, commit_leaves_journal)
 
     -- the records were not added
     edit_failed : (new : Core D) → AddsBody {R = Unit {0}} disk mid writes (Err refusal.DiskFault) new
@@ -204,17 +169,7 @@ module _ {D : Type 0} (disk : Ghosts D) (s : Core D) (is : IsStudio disk s) (goi
         (after : CountsAfter s.pins h clip next_layout counts uses' counts')
         (drawn : next_layout ≡ s.next_layout + e.plan.layouts) where
       abbrev done : Core D
-      done = record mid {
-        store = new.store;
-        journal_end = s.journal_end + 5 + len;
-        commit_number = s.commit_number + suc e.more;
-        history = h';
-        clipboard = clip;
-        uses = uses';
-        counts = counts';
-        next_track = next_track;
-        next_layout = next_layout;
-      }
+      done = edited_with (added_to mid new.store len (suc e.more)) h' clip uses' counts' next_track next_layout
 
       done_took : TookWhere (IsHeld disk s) disk mid c sound (Ok Done) done
       done_took =
@@ -236,24 +191,10 @@ module _ {D : Type 0} (disk : Ghosts D) (s : Core D) (is : IsStudio disk s) (goi
           })
 
       edit_done : Took disk s (with_sound c sound (Ok Done))
-          (record new {
-            history = h';
-            clipboard = clip;
-            uses = uses';
-            counts = counts';
-            next_track = next_track;
-            next_layout = next_layout;
-          })
+          (edited_with new h' clip uses' counts' next_track next_layout)
       edit_done =
           subst (λ (z : Core D). Took disk s (with_sound c sound (Ok Done))
-          (record z {
-            history = h';
-            clipboard = clip;
-            uses = uses';
-            counts = counts';
-            next_track = next_track;
-            next_layout = next_layout;
-          })) (sym adds.fields.0)
+          (edited_with z h' clip uses' counts' next_track next_layout)) (sym adds.fields.0)
           (from_start (Ok Done) done done_took refl (λ held. record {
             blocks = n;
             len = len;
@@ -310,14 +251,7 @@ module _ {D : Type 0} (disk : Ghosts D) (s : Core D) (is : IsStudio disk s) (goi
       → CountsAfter s.pins h clip next_layout it.mid.counts uses' counts'
       → next_layout ≡ s.next_layout + e.plan.layouts
       → Took disk s (with_sound c sound (Ok Done))
-      (record new {
-        history = h';
-        clipboard = clip;
-        uses = uses';
-        counts = counts';
-        next_track = next_track;
-        next_layout = next_layout;
-      })
+      (edited_with new h' clip uses' counts' next_track next_layout)
   edit_ok done new it h' uses' counts' next_track next_layout moved tracked after drawn =
       edit_done it.prepared it.mid.store it.mid.counts (made_so it.mid it.making) it.reads it.synced done new
       (subst (λ (z : Core D). Adds disk z bodies (suc e.more) (whole_len s writes) (Ok done) new) it.making.is it.adds)

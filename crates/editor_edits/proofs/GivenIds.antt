@@ -1,18 +1,13 @@
 -- The studio that a plan leads to names each new block.
-use Rattle.std.proofs.Common.{◌≡◌, ⊎_elim, refl, ap, ◌∙◌, subst, ℕ, ◌+◌, ◌≤◌, ◌<◌, if◌then◌else◌, List, [], ◌∷◌, length}
-use Rattle.std.proofs.Common.{arith}
+use Rattle.editor_edits.proofs.Common.{◌≡◌, ⊎_elim, refl, ap, ◌∙◌, subst, ℕ, ◌+◌, ◌≤◌, ◌<◌, List, [], ◌∷◌, length}
+use Rattle.editor_edits.proofs.Common.{arith, AllByRecursion, BlockRef, Ghosts, NewBlock, Track, point_blocks}
+use Rattle.editor_edits.proofs.Common.{current_tracks, Core, IsPlanned, TaggedEdit, NamesGiven, IsStudio, named_blocks}
+use Rattle.editor_edits.proofs.Common.{among_all, refs}
+use Rattle.std.proofs.Common.{if◌then◌else◌}
 use Rattle.std.proofs.{lemmas.Bool.cases_lt, lemmas.Bool.Decides.eqb_tells}
-use Rattle.std.specs.List.{AllByRecursion}
-use Rattle.pcm_base.specs.declared.block.BlockRef.{BlockRef}
-use Rattle.disk_model.specs.declared.store.Store.{Ghosts}
-use Rattle.edit_ops.specs.{declared.types.NewBlock.NewBlock, Plans.AreNew}
-use Rattle.project_state.specs.{declared.track.Track.Track, Meaning.point_blocks}
-use Rattle.record_body.specs.Saved.{current_tracks}
-use Rattle.editor_state.specs.{Core.Core, Edits.IsPlanned, Edits.TaggedEdit, Occurrences.times_named, Spent.NamesGiven}
-use Rattle.editor_state.specs.{Studios.IsStudio, Studios.named_blocks}
-use Rattle.editor_state.proofs.Blocks.BlockLists.{among_all}
+use Rattle.edit_ops.specs.{Plans.AreNew}
+use Rattle.editor_state.specs.{Occurrences.times_named}
 use Rattle.editor_commits.proofs.CurrentProject.{old_names}
-use Rattle.editor_blocks.proofs.StudioBlocks.{refs}
 
 -- each of some blocks comes among them
 named_among : (every bs : List BlockRef) → ((id : ℕ) → times_named id bs ≤ times_named id every)

@@ -1,32 +1,16 @@
 -- An edit whose samples are known before it is carried out.
-use Rattle.std.proofs.Common.{◌⊎◌, ⊎_elim, ℕ, ℤ, sym, subst, refl, Result, Ok, Err, IfErr}
-use Rattle.std.proofs.lemmas.Bool.{true≢false}
-use Rattle.pcm_base.specs.{declared.command.Call.Call, declared.entry.SoundMove.SoundMove}
-use Rattle.pcm_base.specs.{declared.refusal.Refusal.Refusal, declared.wav.WavFault.TheVariants.Truncated}
-use Rattle.disk_model.specs.declared.store.Store.{Ghosts}
-use Rattle.block_writer.specs.{declared.given.Given.Given, Bringing.brought, Bringing.brought_by, Brought.Brought}
-use Rattle.block_writer.specs.{Brought.MayBring}
-use Rattle.editor_state.specs.Edits.{IsEdit, IsPlanned, MayServe, tagged_by}
-use Rattle.editor_state.specs.{Core.Core, declared.planned.Planned.Planned, Vaults.IfCutShort, Vaults.IsInsideOr}
+use Rattle.editor_edits.proofs.Common.{◌⊎◌, ℕ, ℤ, sym, Result, Ok, Err, IfErr, rules, true≢false, Call, SoundMove}
+use Rattle.editor_edits.proofs.Common.{Refusal, Truncated, Ghosts, Brought, IsEdit, IsPlanned, MayServe, Core}
+use Rattle.editor_edits.proofs.Common.{IsInsideOr}
+use Rattle.block_writer.specs.{declared.given.Given.Given, Bringing.brought, Bringing.brought_by, Brought.MayBring}
+use Rattle.editor_state.specs.Edits.{tagged_by}
+use Rattle.editor_state.specs.{declared.planned.Planned.Planned, Vaults.IfCutShort}
 use Rattle.pcm_base.specs.declared.refusal.Refusal.TheVariants as refusal
 
 -- what is planned does not depend on which samples come
 pub planned_any : {D : Type 0} (s : Core D) (p : Planned) (tag more : ℕ) (b : Brought) (f g : ℕ → ℤ)
     → IsPlanned s (tagged_by p tag more b f) → IsPlanned s (tagged_by p tag more b g)
-planned_any s p tag more b f g is = record {
-  new = is.new;
-  readable = is.readable;
-  origin = is.origin;
-  tag_given = is.tag_given;
-  tag_counts = is.tag_counts;
-  layouts = is.layouts;
-  valid = is.valid;
-  names = is.names;
-  used = is.used;
-  clip_names = is.clip_names;
-  clip_few = is.clip_few;
-  clip_fits = is.clip_fits;
-}
+planned_any s p tag more b f g is = search rules
 
 never_cut : (given : Given) (result : Result ℕ Refusal) → IfErr result (IsInsideOr (brought_by given))
     → IfCutShort result → ⊥
@@ -44,9 +28,4 @@ pub known_took : {D : Type 0} (disk : Ghosts D) (s : Core D) (p : Planned) (tag 
     → IfCutShort result ⊎ T c sound)
     → IfErr result (IsInsideOr (brought_by given)) → (c : Call) (sound : SoundMove)
     → IsEdit disk s c sound (tagged_by p tag more (brought_by given) (brought given)) → T c sound
-known_took disk s p tag more given result T by inside c sound edit = ⊎_elim
-    (λ cut. absurd (never_cut given result inside cut))
-    (λ took. took)
-    (by.2 c sound (never_serves given c)
-    (subst (λ (f : ℕ → ℤ). IsEdit disk s c sound (tagged_by p tag more (brought_by given) f))
-    (sym (by.1.known refl)) edit))
+known_took disk s p tag more given result T by inside c sound edit = search (rules, never_cut, never_serves)

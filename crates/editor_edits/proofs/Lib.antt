@@ -1,3 +1,4 @@
+mod Common
 -- The plan, and the commit once its blocks are made.
 pub mod EditPlans
 pub mod EditBodies

@@ -1,10 +1,7 @@
 -- A vault cuts off none but a call that reads a sound, and refuses only where it may fail.
-use Rattle.std.proofs.Common.{◌⊎◌, inl, inr}
-use Rattle.pcm_base.specs.{declared.command.Call.Call, declared.refusal.Refusal.Refusal}
-use Rattle.pcm_base.specs.{declared.wav.WavFault.TheVariants.Truncated}
-use Rattle.block_writer.specs.Brought.{Brought}
-use Rattle.editor_state.specs.{Edits.MayServe, Edits.Serves, Vaults.IsCutShort, Vaults.IsInsideOr}
-use Rattle.editor_state.specs.{Makes.IsBroughtRefusal, Makes.OrCut}
+use Rattle.editor_edits.proofs.Common.{◌⊎◌, inl, inr, Call, Refusal, Truncated, Brought, MayServe, Serves, IsInsideOr}
+use Rattle.editor_edits.proofs.Common.{OrCut}
+use Rattle.editor_state.specs.{Vaults.IsCutShort, Makes.IsBroughtRefusal}
 use Rattle.pcm_base.specs.declared.refusal.Refusal.TheVariants as refusal
 
 pub serves_so : (b : Brought) (c : Call) (why : Refusal) → IsInsideOr b why → MayServe b c → Serves c why

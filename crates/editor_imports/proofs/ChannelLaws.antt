@@ -1,8 +1,8 @@
 -- Tracks for the channels of a sound, as an edit that makes blocks.
-use Rattle.std.proofs.Common.{◌≡◌, refl, sym, ap, ap₂, ◌∙◌, subst, ℕ, zero, suc, ◌+◌, ◌*◌, ◌^◌, ◌≤◌, nat_lt, not, ℤ}
-use Rattle.std.proofs.Common.{Bool, true, false, Option, Some, None, List, [], ◌∷◌, ◌++◌, length, map, replicate, arith}
+use Rattle.std.proofs.Common.{◌≡◌, refl, ap, ap₂, ◌∙◌, ℕ, zero, suc, ◌+◌, ◌*◌, ◌≤◌, nat_lt, ℤ, rules}
+use Rattle.std.proofs.Common.{Option, Some, None, List, [], ◌∷◌, ◌++◌, length, map, replicate, arith}
 use Rattle.std.proofs.{lemmas.Bool.eq-eqb, lemmas.List.length-map}
-use Rattle.pcm_base.specs.Refusals.{◌otherwise◌, file_tests, import_tests, length_limit, refused_if, track_limit}
+use Rattle.pcm_base.specs.Refusals.{import_tests, length_limit, refused_if}
 use Rattle.pcm_base.specs.{declared.refusal.Refusal.Refusal, Sizes.lists_length, State.State, State.current}
 use Rattle.pcm_base.specs.{Step.channels_in, Step.channels_of}
 use Rattle.pcm_base.proofs.Pieces.{length-stretch}
@@ -11,8 +11,8 @@ use Rattle.project_state.specs.{declared.track.Track.Track, Tracks.AllBelow, Tra
 use Rattle.record_body.specs.Valid.{AllValidTracks}
 use Rattle.editor_state.specs.Vaults.{HasChannels, IsInside}
 use Rattle.editor_imports.specs.Imports.{channels_refusal, parts_from, total_of}
-use Rattle.editor_state.proofs.Refusals.RefusalEffects.{IsPlain, own_plain}
-use Rattle.editor_state.proofs.Refusals.CallTests.{either, lengths, one, own_by}
+use Rattle.editor_state.proofs.Refusals.RefusalEffects.{IsPlain}
+use Rattle.editor_state.proofs.Refusals.Tests as tests
 use Rattle.editor_commits.proofs.TrackLists.{above_less}
 use Rattle.pcm_base.specs.declared.refusal.Refusal.TheVariants as refusal
 
@@ -27,12 +27,7 @@ pub tests_are : (sound : Option (List ℕ)) (rate : ℕ) (channels : List (List 
     → HasChannels sound rate channels
     → import_tests rate st sound ≡ channels_refusal (length (current st)) (map length channels)
 tests_are None rate channels st has = absurd has
-tests_are (Some bytes) rate channels st has =
-    let limits : Option Refusal = (track_limit st (length channels)) otherwise (length_limit (map length channels)) in
-    ap (file_tests rate st) has
-    ∙ ap (λ (b : Bool). (refused_if (not b) (refusal.RateDiffers rate rate)) otherwise limits) (eq-eqb rate rate refl)
-    ∙ ap (λ (n : ℕ). (refused_if (nat_lt 64 (length (current st) + n)) refusal.TrackLimit) otherwise
-    (length_limit (map length channels))) (sym (length-map channels length))
+tests_are (Some bytes) rate channels st has = search (rules, eq-eqb, nat_lt, length-map)
 
 pub total_lists : (channels : List (List ℤ)) → total_of (map length channels) ≡ lists_length channels
 total_lists [] = refl
@@ -53,42 +48,21 @@ total_alike (suc n) frames =
 
 -- ---- what refuses them tells of no damaged file and of no vault
 
-abbrev TellsBoth : Option Refusal → Type 0
-TellsBoth None = Unit {0}
-TellsBoth (Some why) = IsUndamaged why × IsInside why
-
-both_tell : (a b : Option Refusal) → TellsBoth a → TellsBoth b → TellsBoth (a otherwise b)
-both_tell None b x y = y
-both_tell (Some why) b x y = x
-
-many_tell : (b : Bool) → TellsBoth (refused_if b refusal.TrackLimit)
-many_tell true = (tt, tt)
-many_tell false = tt
-
-long_tells : (b : Bool) (n : ℕ) → TellsBoth (refused_if b (refusal.LengthLimit n))
-long_tells true n = (tt, tt)
-long_tells false n = tt
-
-lengths_tell : (counts : List ℕ) → TellsBoth (length_limit counts)
-lengths_tell [] = tt
-lengths_tell (n ∷ ns) =
-    both_tell (refused_if (nat_lt (2 ^ 32) n) (refusal.LengthLimit n)) (length_limit ns)
-    (long_tells (nat_lt (2 ^ 32) n) n) (lengths_tell ns)
+channels_have : (P : Refusal → Type 0) → P refusal.TrackLimit → ((len : ℕ) → P (refusal.LengthLimit len))
+    → (tracks : ℕ) (counts : List ℕ) (why : Refusal) → channels_refusal tracks counts ≡ Some why → P why
+channels_have P many over tracks counts why is =
+    let wide = nat_lt 64 (tracks + length counts) in
+    tests.told P (channels_refusal tracks counts) why
+    (tests.either P (refused_if wide refusal.TrackLimit) (length_limit counts)
+    (tests.one P wide refusal.TrackLimit many) (tests.lengths P over counts)) is
 
 pub channels_tell : (tracks : ℕ) (counts : List ℕ) (why : Refusal) → channels_refusal tracks counts ≡ Some why
     → IsUndamaged why × IsInside why
-channels_tell tracks counts why is =
-    let many = nat_lt 64 (tracks + length counts) in
-    subst TellsBoth is
-    (both_tell (refused_if many refusal.TrackLimit) (length_limit counts) (many_tell many) (lengths_tell counts))
+channels_tell = channels_have (λ why. IsUndamaged why × IsInside why) (tt, tt) (λ len. (tt, tt))
 
 pub channels_plain : (tracks : ℕ) (counts : List ℕ) (why : Refusal) → channels_refusal tracks counts ≡ Some why
     → IsPlain why
-channels_plain tracks counts why is =
-    let many = nat_lt 64 (tracks + length counts) in
-    own_plain why (own_by (channels_refusal tracks counts) why
-    (either (refused_if many refusal.TrackLimit) (length_limit counts) (one many refusal.TrackLimit tt)
-    (lengths counts)) is)
+channels_plain = channels_have IsPlain tt (λ len. tt)
 
 -- ---- tracks after others
 

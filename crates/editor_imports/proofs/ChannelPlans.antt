@@ -1,6 +1,6 @@
 -- The plan of a new track of this many of the samples that a command brings, from a place among them on.
 use Rattle.std.proofs.Common.{◌≡◌, ⊎_elim, inl, inr, refl, sym, ap, ◌∙◌, subst, ℕ, zero, suc, ◌+◌, ◌-◌, ◌/◌, ◌^◌, ◌≤◌}
-use Rattle.std.proofs.Common.{ℤ, List, [], ◌∷◌, ◌++◌, length, map, arith}
+use Rattle.std.proofs.Common.{ℤ, List, [], ◌∷◌, ◌++◌, length, map, arith, rules}
 use Rattle.std.proofs.lemmas.List.{append-nil, length-map}
 use Rattle.std.specs.List.{AllByRecursion}
 use Rattle.pcm_base.specs.declared.piece.Piece.TheVariants.{Old, Scaled, Zero, Given}
@@ -111,9 +111,7 @@ samples_behind : (block : ℕ → ℕ → ℤ) (given : ℕ → ℤ) (skip : ℕ
 samples_behind block given skip (Old b from to) = refl
 samples_behind block given skip (Scaled b from to gain) = refl
 samples_behind block given skip (Zero len) = refl
-samples_behind block given skip (Given from to) =
-    let len : to + skip - (from + skip) ≡ to - from = omega arith in
-    ap (stretch given (from + skip)) len ∙ stretch_behind given skip from (to - from)
+samples_behind block given skip (Given from to) = search (rules, stretch_behind)
 
 all_behind : (block : ℕ → ℕ → ℤ) (given : ℕ → ℤ) (skip : ℕ) (ps : List Piece)
     → all_samples (beside block given) (map (piece_behind skip) ps)

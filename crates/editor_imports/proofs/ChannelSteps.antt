@@ -1,10 +1,10 @@
 -- Tracks for channels, as a step of the studio.
-use Rattle.std.proofs.Common.{◌≡◌, refl, sym, ap, ◌∙◌, subst, ℕ, ◌+◌, ◌/◌, ◌≤◌, ℤ, Option, Some, None, List, [], ◌++◌}
+use Rattle.std.proofs.Common.{◌≡◌, sym, ap, ◌∙◌, subst, ℕ, ◌+◌, ◌≤◌, ℤ, Option, Some, None, List, [], ◌++◌, rules}
 use Rattle.std.proofs.Common.{length, length-append, map, Contains, Err, arith}
 use Rattle.std.proofs.{lemmas.Grind.flat_map-append, lemmas.List.length-map, lemmas.List.map-append}
 use Rattle.std.specs.List.{AllByRecursion}
 use Rattle.pcm_base.specs.{declared.block.BlockRef.BlockRef, declared.command.Call.Call}
-use Rattle.pcm_base.specs.{declared.command.Call.TheVariants.Line, declared.refusal.Refusal.Refusal, Cells.Project}
+use Rattle.pcm_base.specs.{declared.command.Call.TheVariants.Line, declared.refusal.Refusal.Refusal}
 use Rattle.pcm_base.specs.{History.recorded, Pieces.Sources, Refusals.call_tests, Run.outside, Sizes.blocks_of_channels}
 use Rattle.pcm_base.specs.{State.State, State.current, Step.channel_tracks, Step.channels_of, Step.with_channels}
 use Rattle.disk_model.specs.declared.store.Store.{Ghosts}
@@ -13,13 +13,13 @@ use Rattle.sample_block.specs.Sources.{sources_of}
 use Rattle.clip_track.specs.Clips.{layout_blocks}
 use Rattle.edit_ops.specs.{declared.types.NewBlock.NewBlock, Plans.AllNewFrom, Plans.AreWritten}
 use Rattle.project_state.specs.declared.track.Track.{Track}
-use Rattle.project_state.specs.Meaning.{history_blocks, meant, meant_history, meant_track, point_blocks}
+use Rattle.project_state.specs.Meaning.{meant, meant_history, meant_track, point_blocks}
 use Rattle.record_body.specs.{Saved.current_tracks, SavedValid.IsValidPoint}
 use Rattle.record_body.proofs.SavedBounds.{all_append}
 use Rattle.project_state.proofs.MeantHistories.{meant_recorded}
 use Rattle.layout_uses.specs.Drawing.{HasNumbers}
 use Rattle.editor_state.specs.Edits.{AreAmong, IsEdit, IsPlanned, alone, beside, blocks_with, tagged}
-use Rattle.editor_state.specs.Studios.{IsStudio, clip_blocks, named_blocks, pin_blocks, studio_by}
+use Rattle.editor_state.specs.Studios.{IsStudio, clip_blocks, named_blocks, studio_by}
 use Rattle.editor_state.specs.{declared.planned.Planned.Planned, Commits.IsCommitCall, Core.Core, Vaults.HasChannels}
 use Rattle.editor_state.specs.{Vaults.left_as, Took.Took, Took.with_sound}
 use Rattle.editor_imports.specs.declared.growing.Growing.{Growing}
@@ -59,17 +59,7 @@ module _ {D : Type 0} (disk : Ghosts D) (s : Core D) (is : IsStudio disk s) (cha
         tests_are sound s.rate channels st has ∙ ap (λ (k : ℕ). channels_refusal k counts) many
 
     commit : IsCommitCall call (left_as sound) (length counts) 0
-    commit = record {
-      many = refl;
-      no_pin = refl;
-      tracks_is = λ rate. ap length (channels_are sound s.rate channels has) ∙ sym (length-map channels length);
-      stops = λ o. refl;
-      changes = refl;
-      leaves = λ t. refl;
-      heard = λ rate st. refl;
-      quiet = refl;
-      done = λ rate st. refl;
-    }
+    commit = search (rules, channels_are, length-map)
 
     blocks_few : (k : ℕ) → k ≤ blocks_of_channels m channels → k ≤ blocks_of_channels m (channels_of sound)
     blocks_few k le =
@@ -139,18 +129,10 @@ module _ {D : Type 0} (disk : Ghosts D) (s : Core D) (is : IsStudio disk s) (cha
           (among_all C (refs makes) (point_blocks are.news) are.names mine))
 
       point_used : AreAmong (point_blocks point) (refs makes)
-      point_used =
-          let C : BlockRef → Type 0 = Contains (point_blocks point) in
-          let both = subst (AllByRecursion C) (flat_map-append (λ (t : Track). layout_blocks t.layout) old are.news)
-          (among_itself (point_blocks point)) in
-          among_all C (point_blocks are.news) (refs makes) are.used
-          (all_right C (point_blocks old) (point_blocks are.news) both)
+      point_used = search (rules, flat_map-append, among_itself, among_all, refs, all_right)
 
       clip_names : AreAmong every (clip_blocks s.clipboard)
-      clip_names =
-          all_right (Contains every) (pin_blocks s.pins) (clip_blocks s.clipboard)
-          (all_right (Contains every) (history_blocks s.history)
-          (pin_blocks s.pins ++ clip_blocks s.clipboard) was_named)
+      clip_names = search (rules, all_right, was_named)
 
       grown_planned : (count : ℕ) (given : ℕ → ℤ) → count ≡ total_of counts
           → IsPlanned s (tagged plan_then 0 0 count given)
@@ -187,10 +169,7 @@ module _ {D : Type 0} (disk : Ghosts D) (s : Core D) (is : IsStudio disk s) (cha
             are.means block given written ∙ ap (channel_tracks s.next_track) bring
 
         point_means : current st ++ channel_tracks s.next_track channels ≡ meant src point
-        point_means =
-            ap (λ (q : Project). q ++ channel_tracks s.next_track channels) (current_is src s.history)
-            ∙ ap (λ (q : Project). meant src old ++ q) (sym news_mean)
-            ∙ sym (map-append (meant_track src) old are.news)
+        point_means = search (rules, current_is, news_mean, map-append)
 
         state_then : with_channels st channels ≡ record st {
           history = meant_history src (recorded s.history point 0);
@@ -213,12 +192,7 @@ module _ {D : Type 0} (disk : Ghosts D) (s : Core D) (is : IsStudio disk s) (cha
       module _ (name : List ℕ) (sound : Option (List ℕ)) (has : HasChannels sound s.rate channels)
           (count : ℕ) (given : ℕ → ℤ) (bring : parts_from given 0 counts ≡ channels) where
         few_blocks : n ≤ blocks_of_channels m channels
-        few_blocks = omega (
-          arith,
-          are.few,
-          length-map channels length,
-          ap (λ (k : ℕ). k / m) (are.brought ∙ total_lists channels),
-        )
+        few_blocks = search (rules, length-map, total_lists)
 
         grown_edit : IsEdit disk s (Line (command.Import name)) (left_as sound) (tagged plan_then 0 0 count given)
         grown_edit = record {
@@ -240,14 +214,7 @@ module _ {D : Type 0} (disk : Ghosts D) (s : Core D) (is : IsStudio disk s) (cha
 
     module _ (p : Planned) (plan : IsChannelsPlan s counts p) (keeps : p.clip ≡ None) (count : ℕ) (given : ℕ → ℤ) where
       same : plan_then plan.grown plan.are ≡ p
-      same = λ i. record {
-        point = sym (plan.point_is ∙ plan.are.point) i;
-        makes = sym plan.makes_is i;
-        next = sym plan.next_is i;
-        tracks = sym plan.tracks_is i;
-        layouts = sym plan.layouts_is i;
-        clip = sym keeps i;
-      }
+      same = search rules
 
       pub channels_planned : count ≡ total_of counts → IsPlanned s (tagged p 0 0 count given)
       channels_planned all = subst (λ (q : Planned). IsPlanned s (tagged q 0 0 count given)) same
@@ -256,6 +223,4 @@ module _ {D : Type 0} (disk : Ghosts D) (s : Core D) (is : IsStudio disk s) (cha
       pub channels_edit : (name : List ℕ) (sound : Option (List ℕ)) → HasChannels sound s.rate channels
           → parts_from given 0 counts ≡ channels
           → IsEdit disk s (Line (command.Import name)) (left_as sound) (tagged p 0 0 count given)
-      channels_edit name sound has bring =
-          subst (λ (q : Planned). IsEdit disk s (Line (command.Import name)) (left_as sound) (tagged q 0 0 count given)) same
-          (grown_edit plan.grown plan.are name sound has count given bring)
+      channels_edit name sound has bring = search (rules, same, grown_edit)

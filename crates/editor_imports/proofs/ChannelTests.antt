@@ -1,6 +1,6 @@
 -- What is known of the numbers of samples of channels that no test refuses.
-use Rattle.std.proofs.Common.{◌≡◌, ⊎_elim, refl, sym, ap, ◌∙◌, subst, ℕ, zero, suc, ◌+◌, ◌*◌, ◌^◌, ◌≤◌, ◌<◌, nat_lt}
-use Rattle.std.proofs.Common.{Option, None, List, [], ◌∷◌, ◌++◌, length, take, length-append, slice_index_or, arith}
+use Rattle.std.proofs.Common.{◌≡◌, refl, ap, ◌∙◌, subst, ℕ, zero, suc, ◌+◌, ◌*◌, ◌^◌, ◌≤◌, ◌<◌, nat_lt, rules}
+use Rattle.std.proofs.Common.{None, List, [], ◌∷◌, ◌++◌, length, take, length-append, slice_index_or, arith}
 use Rattle.std.proofs.lemmas.Bool.{cases_lt, lt-ltb}
 use Rattle.std.proofs.{lemmas.Option.none-some, lemmas.List.length-take, Math.Nat.div-le_self}
 use Rattle.pcm_base.specs.declared.refusal.Refusal.{Refusal}
@@ -17,23 +17,16 @@ use Rattle.pcm_base.specs.declared.refusal.Refusal.TheVariants as refusal
 -- ---- tests
 
 not_refused : (m n : ℕ) (why : Refusal) → refused_if (nat_lt m n) why ≡ None → n ≤ m
-not_refused m n why e = ⊎_elim
-    (λ more. absurd (none-some why (sym (ap (λ b. refused_if b why) (sym (lt-ltb m n more)) ∙ e))))
-    (λ few. few)
-    (cases_lt m n)
+not_refused m n why e = search (rules, none-some, lt-ltb, cases_lt)
 
 pub channels_pass : (tracks : ℕ) (counts : List ℕ) → channels_refusal tracks counts ≡ None
     → (tracks + length counts ≤ 64) × (length_limit counts ≡ None)
-channels_pass tracks counts e =
-    let both = both_passed (refused_if (nat_lt 64 (tracks + length counts)) refusal.TrackLimit) (length_limit counts) e in
-    (not_refused 64 (tracks + length counts) refusal.TrackLimit both.0, both.1)
+channels_pass tracks counts e = search (rules, both_passed, not_refused)
 
 pub short_at : (counts : List ℕ) (i : ℕ) → length_limit counts ≡ None → i < length counts
     → length_limit (slice_index_or counts i 0 ∷ []) ≡ None
 short_at [] i e less = absurd (omega (arith, less))
-short_at (n ∷ ns) zero e less =
-    let first = (both_passed (refused_if (nat_lt (2 ^ 32) n) (refusal.LengthLimit n)) (length_limit ns) e).0 in
-    ap (λ (z : Option Refusal). z otherwise None) first
+short_at (n ∷ ns) zero e less = search (rules, both_passed)
 short_at (n ∷ ns) (suc i) e less =
     short_at ns i (both_passed (refused_if (nat_lt (2 ^ 32) n) (refusal.LengthLimit n)) (length_limit ns) e).1
     (omega (arith, less))
@@ -88,12 +81,7 @@ module _ {D : Type 0} (s : Core D) (counts : List ℕ) (i : ℕ) (g : Growing) (
   )
 
   pub grown_below : (n : ℕ) → n ≡ id + i → i ≤ length counts → AllBelow id old → AllBelow n g.point
-  grown_below n same less below =
-      let len = length-take i counts in
-      let news = below_later (id + length (take i counts)) n was.news (omega (arith, same, len, less))
-      (given_below m (next + length g.makes.items) (id + length (take i counts)) was.news was.valid) in
-      subst (AllBelow n) (sym was.point)
-      (below_append n old was.news (below_later id n old (omega (arith, same)) below) news)
+  grown_below n same less below = search (rules, length-take, below_later, given_below, below_append)
 
   -- the next number is no greater than it may be
   pub number_few : s.next_layout ≤ 2 ^ 62 → i ≤ length counts → length counts ≤ 64 → g.number < 2 ^ 63
@@ -101,29 +89,11 @@ module _ {D : Type 0} (s : Core D) (counts : List ℕ) (i : ℕ) (g : Growing) (
 
   -- there is a place for a track more
   pub place_left : i < length counts → length old + length counts ≤ 64 → length g.point < 64
-  place_left less few = omega (
-    arith,
-    less,
-    few,
-    was.many,
-    length-take i counts,
-    ap (λ (q : List Track). length q) was.point,
-    length-append old was.news,
-  )
+  place_left less few = search (rules, length-take, length-append)
 
   -- the next id is no greater than it may be, and a plan of all channels needs
   pub ids_count : next ≤ 2 ^ 62 → length counts ≤ 64 → g.next < 2 ^ 63
-  ids_count most few = omega (
-    arith,
-    most,
-    few,
-    was.few,
-    was.next_is,
-    was.brought,
-    length-take i counts,
-    div-le_self g.brought m,
-    total_short counts i pass,
-  )
+  ids_count most few = search (rules, length-take, div-le_self, total_short)
 
 pub all_grown : {D : Type 0} (s : Core D) (counts : List ℕ) (i : ℕ) (g : Growing) (p : Planned)
     → AreGrown s (take i counts) g → take i counts ≡ counts

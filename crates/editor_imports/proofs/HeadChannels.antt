@@ -1,6 +1,6 @@
 -- The channels of a sound whose frames are where a head says, as new tracks.
 use Rattle.std.proofs.Common.{◌≡◌, ◌<◌, ◌+◌, ◌*◌, ◌^◌, ℕ, zero, suc, ℤ, Option, Some, None, List, ◌∷◌, Ok, Bool, true}
-use Rattle.std.proofs.Common.{false, IsTrue, FitsSigned, length, map, replicate, refl, sym, ap, ap₂, subst, ◌∙◌, arith}
+use Rattle.std.proofs.Common.{false, IsTrue, FitsSigned, length, map, replicate, refl, sym, ap, ap₂, subst, ◌∙◌, rules}
 use Rattle.std.proofs.Math.Nat.{mul-add, mul_comm}
 use Rattle.std.proofs.lemmas.Bool.{and_from, and_left, le-leb, true≢false}
 use Rattle.std.specs.{Int.w16, List.range_with_len}
@@ -14,7 +14,7 @@ use Rattle.sound_import.proofs.{PartsLaws.channels_brought, SomeLaws.some_file}
 use Rattle.record_body.specs.Saved.{current_tracks}
 use Rattle.editor_state.specs.{declared.planned.Planned.Planned, Core.Core, Edits.IsEdit, Edits.IsPlanned}
 use Rattle.editor_state.specs.{Edits.tagged_by, Vaults.HasChannels, Vaults.left_as, Studios.IsStudio}
-use Rattle.editor_imports.specs.Imports.{IsChannelsPlan, channels_refusal, parts_from, total_of}
+use Rattle.editor_imports.specs.Imports.{IsChannelsPlan, channels_refusal, parts_from}
 use Rattle.editor_imports.proofs.ChannelLaws.{parts_counts, total_alike}
 use Rattle.editor_imports.proofs.ChannelSteps.{channels_edit, channels_planned}
 use Rattle.pcm_base.specs.declared.command.Command.TheVariants as command
@@ -23,9 +23,7 @@ abbrev one_part : (ℕ → ℤ) → ℕ → ℕ → List ℤ
 one_part f frames c = stretch f (c * frames) frames
 
 next_part : (c frames : ℕ) → c * frames + frames ≡ (c + 1) * frames
-next_part c frames =
-    let one : frames * c + frames ≡ frames * c + frames * 1 = omega arith in
-    ap (λ (k : ℕ). k + frames) (mul_comm c frames) ∙ one ∙ sym (mul-add frames c 1) ∙ mul_comm frames (c + 1)
+next_part c frames = search (rules, mul_comm, mul-add)
 
 -- parts of one length are one stretch after another
 parts_later : (f : ℕ → ℤ) (frames c n : ℕ)
@@ -37,16 +35,11 @@ parts_later f frames c (suc n) =
 
 pub parts_alike : (f : ℕ → ℤ) (n frames : ℕ)
     → parts_from f 0 (replicate n frames) ≡ map (one_part f frames) (range_with_len 0 n)
-parts_alike f n frames =
-    let none : 0 * frames ≡ 0 = omega arith in
-    ap (λ (k : ℕ). parts_from f k (replicate n frames)) (sym none) ∙ parts_later f frames 0 n
+parts_alike f n frames = search (rules, parts_later)
 
 found_has : (bytes : List ℕ) (head : WavHead) (rate : ℕ) → Finds head bytes (wav_of bytes) → head.rate ≡ rate
     → HasChannels (Some bytes) rate (parts_from (sample_at head bytes) 0 (replicate head.channels head.frames))
-found_has bytes head rate finds same =
-    finds.says
-    ∙ ap₂ (λ (r : ℕ) (cs : List (List ℤ)). Ok (record { rate = r; channels = cs })) same
-    (sym (parts_alike (sample_at head bytes) head.channels head.frames ∙ channels_brought head bytes finds.within))
+found_has bytes head rate finds same = search (rules, parts_alike, channels_brought)
 
 -- a sound that is there has the channels that its head says
 pub head_has : (sound : Option (List ℕ)) (head : WavHead) (rate : ℕ) → IsHeadOf sound head → head.rate ≡ rate
@@ -86,16 +79,11 @@ module _ {D : Type 0} (disk : Ghosts D) (s : Core D) (is : IsStudio disk s) (hea
   plans = subst (λ (ns : List ℕ). IsChannelsPlan s ns p) lengths plan
 
   pub sound_planned : b.count ≡ head.channels * head.frames → IsPlanned s (tagged_by p 0 0 b samples)
-  sound_planned count =
-      channels_planned disk s is parts passes p plans keeps b.count samples
-      (count ∙ sym (total_alike head.channels head.frames)
-      ∙ ap total_of (sym (parts_counts samples 0 (replicate head.channels head.frames))))
+  sound_planned count = search (rules, channels_planned, passes, plans, total_alike, parts_counts)
 
   pub sound_edit : (name : List ℕ) (sound : Option (List ℕ)) → HasChannels sound s.rate parts
       → IsEdit disk s (Line (command.Import name)) (left_as sound) (tagged_by p 0 0 b samples)
-  sound_edit name sound has =
-      channels_edit disk s is parts passes p plans keeps b.count samples name sound has
-      (ap (parts_from samples 0) (parts_counts samples 0 (replicate head.channels head.frames)))
+  sound_edit name sound has = search (rules, channels_edit, passes, plans, parts_counts)
 
 -- ---- over a vault
 
@@ -122,9 +110,7 @@ module _ (tells : Bool) (sounds : Sounds) (name : List ℕ) (head : WavHead) (ra
   -- and then the sound has the channels of the samples that came
   pub told_has : IsTrue tells → (samples : ℕ → ℤ) → MayBring brings samples
       → HasChannels (sounds name) rate (parts_from samples 0 (replicate head.channels head.frames))
-  told_has told samples may =
-      subst (λ (f : ℕ → ℤ). HasChannels (sounds name) rate (parts_from f 0 (replicate head.channels head.frames)))
-      (sym (may.known (all_told told))) (head_has (sounds name) head rate (found told) same)
+  told_has told samples may = search (rules, all_told, head_has)
 
   -- whatever the vault tells, some bytes have them
   module _ (shape : HasShape head) (some : 0 < head.rate) (lt : head.rate < 2 ^ 32) (samples : ℕ → ℤ)

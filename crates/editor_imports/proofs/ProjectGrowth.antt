@@ -1,6 +1,6 @@
 -- A project that grows by a track for each channel.
 use Rattle.std.proofs.Common.{◌≡◌, inr, refl, sym, ap, ◌∙◌, subst, ℕ, suc, ◌+◌, ◌/◌, ◌≤◌, ◌<◌, ℤ, List, [], ◌∷◌, ◌++◌}
-use Rattle.std.proofs.Common.{append_assoc, length, Contains, length-append, arith}
+use Rattle.std.proofs.Common.{append_assoc, length, Contains, length-append, arith, rules}
 use Rattle.std.proofs.lemmas.List.Elements.{Contains-append_left, Contains-append_right}
 use Rattle.std.proofs.Math.Nat.{add-mul, div-mul-le_self}
 use Rattle.std.proofs.{lemmas.List.append-nil, lemmas.Grind.flat_map-append, lemmas.Nat.le-div}
@@ -22,7 +22,7 @@ use Rattle.editor_imports.specs.declared.growing.Growing.{Growing}
 use Rattle.editor_imports.specs.Imports.{AddsChannel, AreGrown, parts_from, total_of, track_with}
 use Rattle.editor_state.proofs.Blocks.BlockLists.{among_all, among_itself}
 use Rattle.editor_state.proofs.Lists.{all_left, all_right, all_so}
-use Rattle.editor_blocks.proofs.{StudioBlocks.IsNewId, StudioBlocks.refs, StudioBlocks.refs_ids, PlanBlocks.ids_clips}
+use Rattle.editor_blocks.proofs.{StudioBlocks.refs, StudioBlocks.refs_ids, PlanBlocks.ids_clips}
 use Rattle.editor_blocks.proofs.{PlanBlocks.old_or_new, LayoutBlocks.layout_given, LayoutBlocks.new_in}
 use Rattle.editor_commits.proofs.TrackLists.{above_less, given_below, more_rising, more_valid}
 
@@ -39,9 +39,7 @@ parts_length given from (n ∷ ns) = omega (arith, parts_length given (from + n)
 parts_more : (given : ℕ → ℤ) (from : ℕ) (counts : List ℕ) (count : ℕ)
     → parts_from given from (counts ++ count ∷ []) ≡ parts_from given from counts
     ++ stretch given (from + total_of counts) count ∷ []
-parts_more given from [] count =
-    let same : from ≡ from + 0 = omega arith in
-    ap (λ (k : ℕ). stretch given k count ∷ []) same
+parts_more given from [] count = search (rules, given)
 parts_more given from (n ∷ ns) count =
     let same : from + n + total_of ns ≡ from + (n + total_of ns) = omega arith in
     ap (λ (z : List (List ℤ)). stretch given from n ∷ z)
@@ -51,9 +49,7 @@ parts_more given from (n ∷ ns) count =
 tracks_more : (id : ℕ) (channels : List (List ℤ)) (channel : List ℤ)
     → channel_tracks id (channels ++ channel ∷ []) ≡ channel_tracks id channels
     ++ new_track (id + length channels) (as_cells channel) ∷ []
-tracks_more id [] channel =
-    let same : id ≡ id + 0 = omega arith in
-    ap (λ (k : ℕ). new_track k (as_cells channel) ∷ []) same
+tracks_more id [] channel = search rules
 tracks_more id (c ∷ cs) channel =
     let same : id + 1 + length cs ≡ id + suc (length cs) = omega arith in
     ap (λ (z : Project). new_track id (as_cells c) ∷ z)
@@ -165,20 +161,10 @@ module _ {D : Type 0} (s : Core D) (some : 0 < s.block_size) (least : 16 ≤ s.n
 
   -- the blocks of the new track
   given : AllByRecursion (λ (b : BlockRef). IsGiven next' b.id) (layout_blocks a.plan.layout)
-  given =
-      let n = next + length xs in
-      let ids = all_so (λ (b : BlockRef). IsNewId n (length ys) b.id) (λ (b : BlockRef). IsGiven next' b.id)
-      (λ b h. (omega (arith, h.0, least), omega (arith, h.1, long))) (refs ys) (refs_ids m n ys ys_new) in
-      old_or_new (λ (b : BlockRef). IsGiven next' b.id) [] (layout_blocks a.plan.layout) ys a.is.plan.blocks tt ids
+  given = search (rules, all_so, long, refs, refs_ids, ys_new, old_or_new)
 
   new_valid : IsValidTrack m next' track' t
-  new_valid = record {
-    given = omega (arith, more);
-    gain = omega arith;
-    layout = a.is.layout;
-    half_full = a.is.plan.half_full;
-    blocks = ids_clips next' a.plan.layout given;
-  }
+  new_valid = search (rules, given, more, ids_clips)
 
   old_valid : AllValidTracks m next' track' was.news
   old_valid =
@@ -230,17 +216,7 @@ module _ {D : Type 0} (s : Core D) (some : 0 < s.block_size) (least : 16 ≤ s.n
 
   -- each new block stands in a new track
   each_used : AreAmong (point_blocks (was.news ++ t ∷ [])) (refs xs ++ refs ys)
-  each_used =
-      let C : BlockRef → Type 0 = Contains (point_blocks (was.news ++ t ∷ [])) in
-      let all : AllByRecursion C (point_blocks was.news ++ point_blocks (t ∷ [])) =
-      subst (AllByRecursion C) (flat_map-append (λ (x : Track). layout_blocks x.layout) was.news (t ∷ []))
-      (among_itself (point_blocks (was.news ++ t ∷ []))) in
-      let last = all_left C (layout_blocks a.plan.layout) []
-      (all_right C (point_blocks was.news) (point_blocks (t ∷ [])) all) in
-      all_append C (refs xs) (refs ys)
-      (among_all C (point_blocks was.news) (refs xs) was.used (all_left C (point_blocks was.news)
-      (point_blocks (t ∷ [])) all))
-      (new_in C [] (layout_blocks a.plan.layout) ys a.is.plan.blocks last)
+  each_used = search (rules, flat_map-append, among_itself, all_left, all_right, all_append, refs, among_all, new_in)
 
   pub grown_more : AreGrown s (counts ++ count ∷ []) h
   grown_more = record {

@@ -2,7 +2,7 @@
 -- so it does for samples that are their own places.
 use Rattle.std.proofs.Common.{◌≡◌, ◌≤◌, ◌<◌, ℕ, zero, suc, ◌+◌, ◌-◌, ℤ, pos, Bool, List, [], ◌∷◌, ◌++◌, length, get_or}
 use Rattle.std.proofs.Common.{map, replicate, nat_eq, if◌then◌else◌, refl, sym, ap, ap₂, subst, ◌∙◌, arith, ⊎_elim}
-use Rattle.std.proofs.Common.{append_assoc, length-append, drop}
+use Rattle.std.proofs.Common.{append_assoc, length-append, drop, rules}
 use Rattle.std.proofs.{lemmas.Bool.eq-eqb, lemmas.Bool.ne_eqb, lemmas.List.append-nil, Math.Seq.drop-append_seam}
 use Rattle.std.specs.Prelude.{Contains}
 use Rattle.pcm_base.specs.declared.piece.Piece.TheVariants.{Old, Scaled, Zero, Given}
@@ -224,8 +224,4 @@ channel_order from count m next p is =
 
 pub order_more : (m id count : ℕ) (old new : Growing) → AddsChannel m id count old new
     → AllInOrder 0 old.brought old.makes.items → AllInOrder 0 new.brought new.makes.items
-order_more m id count old new adds before =
-    subst (λ (bs : List NewBlock). AllInOrder 0 new.brought bs) (sym adds.makes)
-    (subst (λ (k : ℕ). AllInOrder 0 k (old.makes.items ++ adds.plan.makes)) (sym adds.brought)
-    (order_append 0 old.brought (old.brought + count) old.makes.items adds.plan.makes before
-    (channel_order old.brought count m old.next adds.plan adds.is)))
+order_more m id count old new adds before = search (rules, order_append, channel_order)

@@ -1,11 +1,9 @@
 -- Whether a project is there.
-use Rattle.std.proofs.Common.{◌≡◌, inl, inr, ⊎_elim, ◌∙◌, ℕ, Bool, true, false, refl, sym, subst}
-use Rattle.std.specs.Prelude.{◌≤◌, ◌||◌, ◌↔◌, IsTrue}
-use Rattle.disk_model.specs.Disk.{Files, bytes_of}
-use Rattle.project_journal.specs.{declared.fault.Damaged.Damaged, Choice.IsPicked, Header.Form, Header.IsForm}
-use Rattle.project_journal.specs.{Header.IsProject, Journal.Log, Journal.HasLog, Start.NoProject}
-use Rattle.project_journal.proofs.{Chosen.journal_project, Picked.zero_or_one}
-use Rattle.editor_recovery.specs.{Opening.HeaderFault, Standing.HasNone, Standing.HasSome}
+use Rattle.editor_recovery.proofs.Common.{◌≡◌, inl, inr, ⊎_elim, ◌∙◌, ℕ, Bool, true, false, refl, sym, subst, ◌||◌, ◌↔◌}
+use Rattle.editor_recovery.proofs.Common.{IsTrue, Files, bytes_of, Damaged, IsPicked, Form, IsForm, IsProject, Log}
+use Rattle.editor_recovery.proofs.Common.{HasLog, NoProject, zero_or_one, HeaderFault, HasNone, HasSome}
+use Rattle.std.specs.Prelude.{◌≤◌}
+use Rattle.project_journal.proofs.{Chosen.journal_project}
 
 -- in one of both files
 pub some_in : (files : Files) (file : ℕ) → file ≤ 1 → IsProject (bytes_of (files file)) → HasSome files
@@ -32,8 +30,8 @@ none_log files form log known few has none =
     none_some files none (some_in files form.file few (journal_project form log files known has))
 
 -- neither file has one, and the second after calls that read
-pub none_after : (old new : Files) → new ≡ old → HasNone old → NoProject 1 new
-none_after old new same none = subst (λ (f : Files). NoProject 1 f) (sym same) none.1
+pub none_after : {old new : Files} → new ≡ old → HasNone old → NoProject 1 new
+none_after same none = subst (λ (f : Files). NoProject 1 f) (sym same) none.1
 
 -- by a look at each
 pub either_there : (files : Files) (a b : Bool) → IsTrue a ↔ IsProject (bytes_of (files 0))

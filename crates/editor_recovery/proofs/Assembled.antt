@@ -1,17 +1,11 @@
 -- What opening answers with the studio of the parts that were found, or with the store where there was no memory.
-use Rattle.std.proofs.Common.{◌≡◌, Result, Ok, Err, refl, sym, ap, ◌∙◌, subst}
-use Rattle.std.specs.Prelude.{IfErr, IfOk}
-use Rattle.disk_model.specs.{Disk.Files, declared.store.Store.Ghosts}
-use Rattle.project_journal.specs.{Header.Form, Journal.Log}
-use Rattle.record_body.specs.Saved.{Saved, opened}
+use Rattle.editor_recovery.proofs.Common.{◌≡◌, Result, Ok, Err, refl, sym, ap, ◌∙◌, subst, IfErr, IfOk, Files, Ghosts}
+use Rattle.editor_recovery.proofs.Common.{Form, Log, Saved, opened, sources_of, Core, shown, studio_of, core_of}
+use Rattle.editor_recovery.proofs.Common.{assembled, Parts, OpenFault, Found, IsNew, found_in, IsFound, answer_of}
 use Rattle.project_state.specs.Meaning.{meant_history}
 use Rattle.record_body.proofs.Unnumbered.{history_meant_alike}
-use Rattle.sample_block.specs.Sources.{sources_of}
-use Rattle.editor_state.specs.{Core.Core, Studios.shown, Studios.studio_of}
-use Rattle.editor_core.specs.{Core.core_of, Parts.assembled, declared.assembly.Parts.Parts}
 use Rattle.editor_core.specs.{declared.studio.Studio.Studio}
-use Rattle.editor_recovery.specs.{declared.fault.OpenFault.OpenFault, Found.Found, Found.IsNew, Found.found_by}
-use Rattle.editor_recovery.specs.{Found.found_in, Opening.IsFound, Stores.answer_of, Stores.store_of}
+use Rattle.editor_recovery.specs.{Found.found_by, Stores.store_of}
 use Rattle.editor_recovery.specs.declared.fault.OpenFault.TheVariants as fault
 
 module _ {D : Type 0} (store : D) (p : Parts) where

@@ -1,14 +1,12 @@
 -- An answer of blocks, as one of a check.
-use Rattle.std.proofs.Common.{◌≡◌, refl, sym, ap, subst, ℕ, zero, suc, ◌<◌, inl, List, [], ◌∷◌, length, take, get_or}
-use Rattle.std.proofs.Common.{Some, Result, Ok, Err, arith}
-use Rattle.std.specs.{Prelude.Contains, Prelude.IfErr, Prelude.IsOkUnless, List.AllByRecursion}
-use Rattle.pcm_base.specs.declared.block.BlockRef.{BlockRef}
-use Rattle.disk_model.specs.{Frames.Kept, declared.store.Store.Ghosts}
-use Rattle.block_store.specs.{declared.fault.BlockFault.BlockFault, Reads.Counted}
-use Rattle.editor_state.specs.Studios.{ids_of}
+use Rattle.editor_recovery.proofs.Common.{◌≡◌, refl, sym, ap, subst, ℕ, zero, suc, ◌<◌, inl, List, [], ◌∷◌, length}
+use Rattle.editor_recovery.proofs.Common.{take, get_or, Result, Ok, Err, arith, Contains, IfErr, AllByRecursion}
+use Rattle.editor_recovery.proofs.Common.{BlockRef, Kept, Ghosts, BlockFault, ids_of, OpenFault, Causes}
+use Rattle.std.specs.{Prelude.IsOkUnless}
+use Rattle.block_store.specs.{Reads.Counted}
 use Rattle.editor_recovery.specs.Checking.{IsCheckFault, IsNotDamage}
-use Rattle.editor_recovery.specs.{declared.fault.OpenFault.OpenFault, Blocks.fault_of, Causes.Causes}
-use Rattle.editor_recovery.proofs.Listed.{contains_there}
+use Rattle.editor_recovery.specs.{Blocks.fault_of}
+use Rattle.editor_recovery.proofs.Listed.{contains_none, contains_there}
 use Rattle.block_store.specs.declared.fault.BlockFault.TheVariants as block
 
 -- ---- an answer of blocks as one of a check
@@ -20,22 +18,18 @@ Tells (Err why) n told = told ≡ Err (fault_of why)
 
 pub known : {T : Type 0} (r : Result T BlockFault) (told : Result ℕ OpenFault) (n : ℕ) → Tells r n told
     → IfErr told IsCheckFault
-known (Ok done) told n is = subst (λ x. IfErr x IsCheckFault) (sym is) tt
 known (Err block.DiskFault) told n is = subst (λ x. IfErr x IsCheckFault) (sym is) tt
-known (Err (block.Damaged file found)) told n is = subst (λ x. IfErr x IsCheckFault) (sym is) tt
+known _ told n is = subst (λ x. IfErr x IsCheckFault) (sym is) tt
 
 pub valid_told : {T : Type 0} (r : Result T BlockFault) (told : Result ℕ OpenFault) (n : ℕ) → Tells r n told
     → IsOkUnless r block.DiskFault
     → IfErr told IsNotDamage
-valid_told (Ok done) told n is valid = subst (λ x. IfErr x IsNotDamage) (sym is) tt
-valid_told (Err block.DiskFault) told n is valid = subst (λ x. IfErr x IsNotDamage) (sym is) tt
 valid_told (Err (block.Damaged file found)) told n is valid = absurd cc
+valid_told _ told n is valid = subst (λ x. IfErr x IsNotDamage) (sym is) tt
 
 pub cause_told : {D T : Type 0} (disk : Ghosts D) (old new : D) (r : Result T BlockFault) (told : Result ℕ OpenFault)
     (n : ℕ) → Tells r n told
     → Kept disk old new → Counted r (disk.read_fault_count old) (disk.read_fault_count new) → Causes disk old new told
-cause_told disk old new (Ok done) told n is kept counted =
-    subst (Causes disk old new) (sym is) (record { same_read_faults = counted; same_change_faults = kept.same_faults })
 cause_told disk old new (Err block.DiskFault) told n is kept counted =
     let same = kept.same_faults in
     subst (Causes disk old new) (sym is) (record {
@@ -43,21 +37,18 @@ cause_told disk old new (Err block.DiskFault) told n is kept counted =
       later_reads = counted.1;
       later_changes = omega (arith, same);
     })
-cause_told disk old new (Err (block.Damaged file found)) told n is kept counted =
+cause_told disk old new _ told n is kept counted =
     subst (Causes disk old new) (sym is) (record { same_read_faults = counted; same_change_faults = kept.same_faults })
 
-pub some_is : {X : Type 0} {x y : X} → Some x ≡ Some y → x ≡ y
-some_is e = cc
-
 pub of_id : (bs : List BlockRef) (id : ℕ) → Contains (ids_of bs) id → (b : BlockRef) × Contains bs b × (b.id ≡ id)
-of_id [] id (k, lt, e) = absurd (omega (arith, lt))
+of_id [] id has = absurd (contains_none id has)
 of_id (b ∷ bs) id (zero, lt, e) = (b, (0, omega arith, refl), e)
 of_id (b ∷ bs) id (suc k, lt, e) =
     let found = of_id bs id (k, omega (arith, lt), e) in
     (found.0, contains_there b bs found.0 found.1, found.2)
 
 pub id_there : (bs : List BlockRef) (b : BlockRef) → Contains bs b → Contains (ids_of bs) b.id
-id_there [] b (k, lt, e) = absurd (omega (arith, lt))
+id_there [] b has = absurd (contains_none b has)
 id_there (x ∷ bs) b (zero, lt, e) = (0, omega arith, ap (λ (r : BlockRef). r.id) e)
 id_there (x ∷ bs) b (suc k, lt, e) = contains_there x.id (ids_of bs) b.id (id_there bs b (k, omega (arith, lt), e))
 

@@ -1,23 +1,21 @@
 -- Blocks of a studio that are read one after another.
-use Rattle.std.proofs.Common.{◌≡◌, ◌∙◌, refl, sym, ap, subst, ℕ, zero, suc, ◌+◌, ◌≤◌, ◌<◌, ℤ, inl, inr, List, [], ◌∷◌}
-use Rattle.std.proofs.Common.{length, take, get_or, Some, None, Result, Ok, Err, IsTrue, arith}
-use Rattle.std.proofs.lemmas.List.Elements.{All-contains, All-contains_itself, All-from_recursion, All-get_or}
-use Rattle.std.proofs.lemmas.List.Elements.{recursion_from_All}
-use Rattle.std.proofs.{lemmas.Bool.cases_Bool, lemmas.Bool.ltb-false, lemmas.Bool.ltb-true, lemmas.List.length-map}
-use Rattle.std.specs.{Prelude.Contains, Prelude.IfOk, Prelude.nat_lt, List.All, List.AllByRecursion}
-use Rattle.pcm_base.specs.{declared.block.BlockRef.BlockRef, History.History}
-use Rattle.disk_model.specs.{Disk.Files, Frames.Kept, declared.store.Store.Ghosts}
-use Rattle.disk_model.proofs.Frames.{tells_on, Fewer, kept_none, kept_turn}
-use Rattle.sample_block.specs.{Blocks.blocks, Sources.AllWhole, Sources.IsWhole}
-use Rattle.block_store.specs.{declared.fault.BlockFault.BlockFault, Reads.CountedBy}
-use Rattle.project_state.specs.{declared.track.Track.Track, Meaning.history_blocks}
-use Rattle.editor_state.specs.{Core.Core, Studios.IsHeld, Studios.IsStudio, Studios.ids_of}
-use Rattle.editor_views.specs.Scans.{AreListed, BlockScanned, HaveOneLength, ScansBlock}
+use Rattle.editor_recovery.proofs.Common.{◌≡◌, ◌∙◌, refl, sym, ap, subst, ℕ, zero, suc, ◌+◌, ◌≤◌, ◌<◌, ℤ, inl, inr}
+use Rattle.editor_recovery.proofs.Common.{List, [], ◌∷◌, length, take, get_or, Some, None, Result, Ok, Err, arith}
+use Rattle.editor_recovery.proofs.Common.{All-contains, All-contains_itself, All-from_recursion, All-get_or}
+use Rattle.editor_recovery.proofs.Common.{recursion_from_All, cases_Bool, ltb-false, ltb-true, length-map, Contains}
+use Rattle.editor_recovery.proofs.Common.{IfOk, nat_lt, All, AllByRecursion, BlockRef, History, Files, Kept, Ghosts}
+use Rattle.editor_recovery.proofs.Common.{kept_none, kept_turn, blocks, IsWhole, BlockFault, Track, history_blocks}
+use Rattle.editor_recovery.proofs.Common.{some_is, Core, IsHeld, IsStudio, ids_of, AreListed, HaveOneLength, OpenFault}
+use Rattle.editor_recovery.proofs.Common.{ChecksStudio}
+use Rattle.std.proofs.Common.{IsTrue}
+use Rattle.disk_model.proofs.Frames.{tells_on, Fewer}
+use Rattle.sample_block.specs.{Sources.AllWhole}
+use Rattle.block_store.specs.{Reads.CountedBy}
+use Rattle.editor_views.specs.Scans.{BlockScanned, ScansBlock}
 use Rattle.editor_state.proofs.Calls.SameStores.{rests_held, rests_keeps, rests_studio}
-use Rattle.editor_recovery.specs.declared.fault.OpenFault.{OpenFault}
-use Rattle.editor_recovery.specs.Checking.{AllScanned, ChecksAll, ChecksStudio, IsCountOf, ScansAll}
+use Rattle.editor_recovery.specs.Checking.{AllScanned, ChecksAll, IsCountOf, ScansAll}
 use Rattle.editor_recovery.proofs.Counted.{no_fault}
-use Rattle.editor_recovery.proofs.CheckAnswers.{Tells, before, cause_told, id_there, known, of_id, some_is, valid_told}
+use Rattle.editor_recovery.proofs.CheckAnswers.{Tells, before, cause_told, id_there, known, of_id, valid_told}
 use Rattle.block_store.specs.declared.fault.BlockFault.TheVariants as block
 use Rattle.editor_recovery.specs.declared.fault.OpenFault.TheVariants as fault
 
@@ -150,7 +148,7 @@ module _ {D : Type 0} (disk : Ghosts D) (old : Core D) (listed : List BlockRef)
       let wa = at a ha in
       let wb = at b hb in
       let e : Some wa.0 ≡ Some wb.0 = sym wa.1 ∙ ap (blocks files) same ∙ wb.1 in
-      sym wa.2 ∙ ap (λ (xs : List ℤ). length xs) (some_is e) ∙ wb.2
+      sym wa.2 ∙ ap (λ (xs : List ℤ). length xs) (some_is wa.0 wb.0 e) ∙ wb.2
 
   whole_all : (files : Files) → AllWhole files listed → AllWhole files bs
   whole_all files whole = recursion_from_All (IsWhole files) bs (λ k d lt.

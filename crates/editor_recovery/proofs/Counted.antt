@@ -1,10 +1,9 @@
 -- Calls in turn, by the faults that the disk counts in them.
-use Rattle.std.proofs.Common.{◌≡◌, ℕ, inl, inr, ⊎_elim, Result, Ok, Err, refl, subst, ◌∙◌, arith}
-use Rattle.std.specs.Prelude.{IfErr, IsErrOf}
+use Rattle.editor_recovery.proofs.Common.{◌≡◌, ℕ, inl, inr, ⊎_elim, Result, Err, refl, subst, ◌∙◌, arith, IfErr, Ghosts}
+use Rattle.editor_recovery.proofs.Common.{NoFault, JournalFault, OpenFault, Causes}
+use Rattle.std.specs.Prelude.{IsErrOf}
 use Rattle.pcm_base.specs.Causes.{Rose}
-use Rattle.disk_model.specs.declared.store.Store.{Ghosts}
-use Rattle.project_journal.specs.{Answer.NoFault, Answer.HasFault, declared.fault.JournalFault.JournalFault}
-use Rattle.editor_recovery.specs.{declared.fault.OpenFault.OpenFault, Causes.Causes}
+use Rattle.project_journal.specs.{Answer.HasFault}
 use Rattle.project_journal.specs.Answer as journal
 use Rattle.project_journal.specs.declared.fault.JournalFault.TheVariants as fault_of
 use Rattle.editor_recovery.specs.declared.fault.OpenFault.TheVariants as fault
@@ -27,13 +26,8 @@ module _ {D : Type 0} (disk : Ghosts D) where
   -- what a call answers after calls that counted no fault
   pub causes_turn : {T : Type 0} (old mid new : D) (r : Result T OpenFault) → NoFault disk old mid
       → Causes disk mid new r → Causes disk old new r
-  causes_turn old mid new (Ok x) f g = none_turn old mid new f g
   causes_turn old mid new (Err fault.DiskFault) f g = fault_after old mid new f g
-  causes_turn old mid new (Err fault.Absent) f g = none_turn old mid new f g
-  causes_turn old mid new (Err fault.Exists) f g = none_turn old mid new f g
-  causes_turn old mid new (Err fault.NoMemory) f g = none_turn old mid new f g
-  causes_turn old mid new (Err (fault.Foreign file)) f g = none_turn old mid new f g
-  causes_turn old mid new (Err (fault.Damaged file at want have)) f g = none_turn old mid new f g
+  causes_turn old mid new _ f g = none_turn old mid new f g
 
   -- the same of a refusal that another call hands on
   pub causes_handed : (T U : Type 0) (old mid new : D) (e : OpenFault) → NoFault disk old mid
@@ -44,13 +38,8 @@ module _ {D : Type 0} (disk : Ghosts D) where
   -- what is worked out after them without the disk
   pub causes_none : {T : Type 0} (old new : D) (r : Result T OpenFault) → NoFault disk old new
       → (IsErrOf r fault.DiskFault → ⊥) → Causes disk old new r
-  causes_none old new (Ok x) f not = f
   causes_none old new (Err fault.DiskFault) f not = absurd (not refl)
-  causes_none old new (Err fault.Absent) f not = f
-  causes_none old new (Err fault.Exists) f not = f
-  causes_none old new (Err fault.NoMemory) f not = f
-  causes_none old new (Err (fault.Foreign file)) f not = f
-  causes_none old new (Err (fault.Damaged file at want have)) f not = f
+  causes_none old new _ f not = f
 
   -- a refusal of the journal that is not the disk's
   pub journal_none : (T : Type 0) (old new : D) (e : JournalFault) → (e ≡ fault_of.DiskFault → ⊥)
@@ -65,10 +54,5 @@ module _ {D : Type 0} (disk : Ghosts D) where
 -- want of memory is no fault of the disk
 pub memory_none : {T : Type 0} (r : Result T OpenFault) → IfErr r (λ e. e ≡ fault.NoMemory)
     → IsErrOf r fault.DiskFault → ⊥
-memory_none (Ok x) memory e = absurd cc
 memory_none (Err fault.DiskFault) memory e = absurd cc
-memory_none (Err fault.Absent) memory e = absurd cc
-memory_none (Err fault.Exists) memory e = absurd cc
-memory_none (Err fault.NoMemory) memory e = absurd cc
-memory_none (Err (fault.Foreign file)) memory e = absurd cc
-memory_none (Err (fault.Damaged file at want have)) memory e = absurd cc
+memory_none _ memory e = absurd cc

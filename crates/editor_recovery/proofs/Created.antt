@@ -1,20 +1,16 @@
 -- A project is made, and an honest disk stays honest.
-use Rattle.std.proofs.Common.{◌≡◌, ◌≢◌, ℕ, zero, suc, ◌≤◌, true, false, inl, inr, ⊎_elim, ◌⊎◌, List, [], Option, Result}
-use Rattle.std.proofs.Common.{Ok, Err, refl, sym, subst, arith}
-use Rattle.std.specs.Prelude.{Contains, IsSome, IsTrue, OnOk}
-use Rattle.disk_model.specs.Disk.{Files, Follows, StaysStep, SameElsewhere}
-use Rattle.disk_model.specs.{MomentLaws.upto_refl, Frames.Kept, declared.store.Store.Ghosts}
-use Rattle.disk_model.proofs.Frames.{kept_turn}
-use Rattle.project_journal.specs.Journal.{HasLog, IsAt, fresh}
-use Rattle.project_journal.specs.{Header.form_3, Gate.EachNow, Start.NoProject}
-use Rattle.project_journal.proofs.Kept.{each_has}
+use Rattle.editor_recovery.proofs.Common.{◌≡◌, ◌≢◌, ℕ, zero, suc, ◌≤◌, true, false, inl, inr, ⊎_elim, ◌⊎◌, List, Option}
+use Rattle.editor_recovery.proofs.Common.{Result, Ok, Err, refl, sym, subst, arith, Contains, IsSome, IsTrue, OnOk}
+use Rattle.editor_recovery.proofs.Common.{Files, Follows, StaysStep, upto_refl, Kept, Ghosts, kept_turn, HasLog, IsAt}
+use Rattle.editor_recovery.proofs.Common.{EachNow, NoProject, each_has, Keeps, history_blocks, HasNoForeign, OpenFault}
+use Rattle.editor_recovery.proofs.Common.{is_foreign, Names, IsHonest, HasNone, Stands}
+use Rattle.disk_model.specs.Disk.{SameElsewhere}
+use Rattle.project_journal.specs.Journal.{fresh}
+use Rattle.project_journal.specs.{Header.form_3}
 use Rattle.record_body.proofs.NewProjects.{fresh_begins}
-use Rattle.record_body.specs.Saved.{new_project, Keeps}
-use Rattle.project_state.specs.Meaning.{history_blocks}
-use Rattle.editor_recovery.specs.Creating.{new_opened, HasNoForeign, Creates, LeavesRefused}
-use Rattle.editor_recovery.specs.{declared.fault.OpenFault.OpenFault, Files.is_foreign, Honest.Names, Honest.IsHonest}
-use Rattle.editor_recovery.specs.{Standing.HasNone, Standing.Stands}
-use Rattle.editor_recovery.proofs.{Alone.none_log, Honest.same_saved}
+use Rattle.record_body.specs.Saved.{new_project}
+use Rattle.editor_recovery.specs.Creating.{new_opened, Creates, LeavesRefused}
+use Rattle.editor_recovery.proofs.{Alone.none_log, Honest.same_saved, Listed.contains_none}
 use Rattle.record_body.specs.Saved as saved
 use Rattle.editor_recovery.specs.declared.fault.OpenFault.TheVariants as fault
 
@@ -56,10 +52,8 @@ no_names rate block_size depth c id has names =
     let kept : names.kept ≡ new_project depth =
     same_saved c names.form (form_3 0) names.log (fresh rate block_size depth) names.kept (new_project depth)
     names.stands (new_stands rate block_size depth c has) in
-    nothing (subst (λ (k : saved.Saved). Contains (history_blocks k.history) names.block) kept names.named)
-  where
-    nothing : Contains [] names.block → ⊥
-    nothing (k, lt, e) = omega (arith, lt)
+    contains_none names.block
+    (subst (λ (k : saved.Saved). Contains (history_blocks k.history) names.block) kept names.named)
 
 no_project_names : (c : Files) (id : ℕ) → HasNone c → Names c id → ⊥
 no_project_names c id none names =
@@ -132,15 +126,6 @@ module _ {D : Type 0} (disk : Ghosts D) (old new : D) where
             (λ other. absurd (none c id p other)) (any c (since c nc));
       }
 
--- what the creation of a journal says of both files
-pub any_or_none : {D : Type 0} (disk : Ghosts D) (rate block_size depth : ℕ) (mid new : D)
-    → ((c : Files) → disk.may_leave new (disk.clock mid) c → disk.may_leave mid (disk.clock mid) c
-    ⊎ (NoProject 0 c ⊎ HasLog (form_3 0) (fresh rate block_size depth) c))
-    → ((c : Files) → disk.may_leave new (disk.clock mid) c → disk.may_leave mid (disk.clock mid) c ⊎ NoProject 1 c)
-    → (c : Files) → disk.may_leave new (disk.clock mid) c → disk.may_leave mid (disk.clock mid) c
-    ⊎ (HasNone c ⊎ HasLog (form_3 0) (fresh rate block_size depth) c)
-any_or_none disk rate block_size depth mid new any other c since = either_none c (any c since) (other c since)
-
 -- calls that write nothing, and then a creation
 pub any_moment_both : {D : Type 0} (disk : Ghosts D) (rate block_size depth : ℕ) (old mid new : D)
     → Follows StaysStep (disk.clock old) (disk.clock mid) (disk.may_leave old) (disk.may_leave mid)
@@ -177,18 +162,12 @@ pub left_turn : {D T : Type 0} (disk : Ghosts D) (old mid new : D) (r : Result T
     → LeavesRefused disk mid new r → LeavesRefused disk old new r
 left_turn disk old mid new (Ok x) kept left = tt
 left_turn disk old mid new (Err fault.DiskFault) kept left = tt
-left_turn disk old mid new (Err fault.Absent) kept left = kept_turn kept left
-left_turn disk old mid new (Err fault.Exists) kept left = kept_turn kept left
-left_turn disk old mid new (Err fault.NoMemory) kept left = kept_turn kept left
-left_turn disk old mid new (Err (fault.Foreign file)) kept left = kept_turn kept left
-left_turn disk old mid new (Err (fault.Damaged file at want have)) kept left = kept_turn kept left
+left_turn disk old mid new _ kept left = kept_turn kept left
 
 pub none_there : {T : Type 0} (files : Files) (r : Result T OpenFault) → HasNone files → HasNoForeign files r
     → Creates files r
 none_there files (Ok x) none has = (none, has)
-none_there files (Err fault.Absent) none has = absurd has
-none_there files (Err fault.Exists) none has = absurd has
 none_there files (Err fault.DiskFault) none has = tt
 none_there files (Err fault.NoMemory) none has = tt
 none_there files (Err (fault.Foreign file)) none has = (none, has)
-none_there files (Err (fault.Damaged file at want have)) none has = absurd has
+none_there files _ none has = absurd has

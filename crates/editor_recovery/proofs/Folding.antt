@@ -1,23 +1,19 @@
 -- From the fold of a journal to what opening makes of it.
-use Rattle.std.proofs.Common.{◌≡◌, ◌≤◌, ◌+◌, ◌^◌, ℕ, ⊎_elim, List, [], ◌∷◌, map, length, Ok, Err, sym, ap, subst, ◌∙◌}
-use Rattle.std.proofs.Common.{arith}
-use Rattle.std.proofs.lemmas.List.{length-map}
-use Rattle.disk_model.specs.declared.store.Store.{Ghosts}
-use Rattle.project_journal.specs.Journal.{Contents, IsHeader, IsJournal, body_at, log_of}
-use Rattle.project_journal.specs.{declared.base.Base.Base, declared.fault.JournalFault.JournalFault}
-use Rattle.project_journal.specs.{declared.reader.Reader.Reader, Header.Form, Header.IsForm, Header.form_of}
-use Rattle.project_journal.specs.{Readable.IsReadable, Reader.IsLater, Reader.reader_form}
-use Rattle.project_journal.proofs.AnyFormats.{HasBase, base_valid}
-use Rattle.project_journal.proofs.{Bases.plain, Found.read_whole, Parses.form_least, Readables.readable}
-use Rattle.record_body.specs.Saved.{Saved, Begins, LeadIn, version_of}
+use Rattle.editor_recovery.proofs.Common.{◌≡◌, ◌≤◌, ◌+◌, ◌^◌, ℕ, ⊎_elim, List, [], ◌∷◌, map, length, Ok, Err, sym, ap}
+use Rattle.editor_recovery.proofs.Common.{subst, ◌∙◌, arith, length-map, Ghosts, Contents, body_at, log_of, Base}
+use Rattle.editor_recovery.proofs.Common.{JournalFault, Reader, Form, IsForm, form_of, reader_form, HasBase, read_whole}
+use Rattle.editor_recovery.proofs.Common.{Saved, Begins, LeadIn, version_of, base_of, saved_of, IsValid, Project}
+use Rattle.editor_recovery.proofs.Common.{Folded, FoldsDisk, IsValidFolded}
+use Rattle.project_journal.specs.Journal.{IsHeader, IsJournal}
+use Rattle.project_journal.specs.{Readable.IsReadable, Reader.IsLater}
+use Rattle.project_journal.proofs.AnyFormats.{base_valid}
+use Rattle.project_journal.proofs.{Bases.plain, Parses.form_least, Readables.readable}
 use Rattle.record_body.proofs.SavedBounds.{lead_valid}
-use Rattle.journal_replay.specs.{Bases.base_by, Bases.base_of, Folds.saved_of, Folds.FoldsStored, Folds.IsValid}
-use Rattle.journal_replay.specs.{Folds.Leads, Heads.HasFault, Heads.ReadsOn, declared.project.Project.Project}
+use Rattle.journal_replay.specs.{Bases.base_by, Folds.FoldsStored, Folds.Leads, Heads.HasFault, Heads.ReadsOn}
 use Rattle.journal_replay.proofs.{Based.begun_depth, Based.begun_valid, Commits.lead_commits, Commits.told_few}
 use Rattle.journal_replay.proofs.{Stepping.valid_by}
 use Rattle.editor_state.specs.Studios.{AreJournalNumbers}
-use Rattle.editor_recovery.specs.declared.disk.Folded.{Folded}
-use Rattle.editor_recovery.specs.Finding.{FoldsDisk, IsValidFolded, records_fault}
+use Rattle.editor_recovery.specs.Finding.{records_fault}
 use Rattle.editor_recovery.proofs.ValidParts.{format_of}
 use Rattle.project_journal.specs.declared.fault.JournalFault.TheVariants as journal
 
@@ -35,9 +31,7 @@ unfolded_as disk store old new (journal.Damaged file at want have) later folds =
     (later_form old new later) folds
 unfolded_as disk store old new journal.DiskFault later folds = tt
 unfolded_as disk store old new journal.NoMemory later folds = tt
-unfolded_as disk store old new journal.Absent later folds = absurd folds
-unfolded_as disk store old new journal.Exists later folds = absurd folds
-unfolded_as disk store old new (journal.SpaceSpent have need) later folds = absurd folds
+unfolded_as disk store old new _ later folds = absurd folds
 
 -- the numbers that a studio keeps of a journal
 numbers : (form : Form) (head : List ℕ) (j : Contents) (file version generation : ℕ) → IsForm form → form.file ≤ 1

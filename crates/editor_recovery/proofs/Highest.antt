@@ -1,13 +1,11 @@
 -- The highest of the files that were listed.
-use Rattle.std.proofs.Common.{◌≡◌, ℕ, ◌+◌, ◌-◌, ◌<◌, ◌≤◌, max, Bool, true, false, inl, inr, ⊎_elim, ◌⊎◌, List, length}
-use Rattle.std.proofs.Common.{get_or, Some, None, refl, ap, ◌∙◌, arith}
-use Rattle.std.proofs.lemmas.Bool.{cases_Bool, leb-true, leb-false, ltb-true, ltb-false}
-use Rattle.std.proofs.lemmas.List.Kept.{AllPairs-from_increasing}
-use Rattle.std.proofs.lemmas.Option.{slice_get_within, get_or_from_slice_get, slice_get-get_or}
-use Rattle.std.specs.Prelude.{Contains, find, slice_get, nat_le, nat_lt, ◌||◌}
-use Rattle.std.specs.List.Sorted.{IsStrictlyIncreasing}
-use Rattle.pcm_base.specs.declared.limits.TheConstants.{COUNTER_LIMIT, FIRST_BLOCK}
-use Rattle.editor_recovery.specs.Files.{is_foreign, IsAbove}
+use Rattle.editor_recovery.proofs.Common.{◌≡◌, ℕ, ◌+◌, ◌-◌, ◌<◌, ◌≤◌, Bool, true, false, inl, inr, ⊎_elim, ◌⊎◌, List}
+use Rattle.editor_recovery.proofs.Common.{length, get_or, Some, None, refl, ap, ◌∙◌, arith, cases_Bool, leb-true}
+use Rattle.editor_recovery.proofs.Common.{leb-false, ltb-true, ltb-false, AllPairs-from_increasing, slice_get_within}
+use Rattle.editor_recovery.proofs.Common.{slice_get-get_or, Contains, find, slice_get, nat_le, nat_lt, ◌||◌}
+use Rattle.editor_recovery.proofs.Common.{IsStrictlyIncreasing, COUNTER_LIMIT, FIRST_BLOCK, is_foreign, IsAbove}
+use Rattle.std.proofs.Common.{max}
+use Rattle.std.proofs.lemmas.Option.{get_or_from_slice_get}
 use Rattle.editor_recovery.proofs.Listed.{find_none}
 
 -- no file that was listed is foreign

@@ -1,32 +1,30 @@
 -- What opening an honest disk finds.
-use Rattle.std.proofs.Common.{◌≡◌, ℕ, ◌≤◌, ◌<◌, ◌^◌, ℤ, ⊎_elim, List, [], ◌∷◌, length, map, Option, Some, None, Result}
-use Rattle.std.proofs.Common.{Ok, Err, refl, sym, ap, subst, ◌∙◌, arith}
-use Rattle.std.proofs.lemmas.List.Elements.{All-from_recursion, recursion_from_All, All-contains, All-contains_itself}
-use Rattle.std.specs.Prelude.{slice_index_or, unwrap_or, pos, Contains, IsSome, IsTrue}
-use Rattle.std.specs.{Option.option_or, List.AllByRecursion}
-use Rattle.pcm_base.specs.declared.block.BlockRef.{BlockRef}
-use Rattle.disk_model.specs.Disk.{Files, bytes_of, Follows, StaysStep}
-use Rattle.disk_model.specs.{MomentLaws.upto_refl, declared.store.Store.Ghosts}
-use Rattle.sample_block.specs.{Blocks.blocks, Spelling.size_of, Sources.sources_of, Sources.IsWhole}
+use Rattle.editor_recovery.proofs.Common.{◌≡◌, ℕ, ◌≤◌, ◌<◌, ◌^◌, ℤ, ⊎_elim, List, [], ◌∷◌, length, map, Option, Some}
+use Rattle.editor_recovery.proofs.Common.{None, Result, Ok, Err, refl, sym, ap, subst, ◌∙◌, arith, All-from_recursion}
+use Rattle.editor_recovery.proofs.Common.{recursion_from_All, All-contains, All-contains_itself, Contains, IsSome}
+use Rattle.editor_recovery.proofs.Common.{IsTrue, AllByRecursion, BlockRef, Files, bytes_of, Follows, StaysStep}
+use Rattle.editor_recovery.proofs.Common.{upto_refl, Ghosts, blocks, size_of, sources_of, IsWhole, Form, IsForm}
+use Rattle.editor_recovery.proofs.Common.{form_of, Log, HasLog, IsAt, IsRead, Contents, log_of, body_at, Base, Damaged}
+use Rattle.editor_recovery.proofs.Common.{field, HasBase, whole_log, each_has, picked_once, read_form, Begins, Saved}
+use Rattle.editor_recovery.proofs.Common.{LeadIn, Keeps, opened, version_of, history_blocks, all_append}
+use Rattle.editor_recovery.proofs.Common.{history_blocks_alike, base_of, journal_fault, assembled, Parts, HeaderFault}
+use Rattle.editor_recovery.proofs.Common.{RecordFault, SizeFault, IsFound, Opens, OpenFault, Found, found_in}
+use Rattle.editor_recovery.proofs.Common.{AllHaveSize, Names, IsHonest, OpensHonest, Stands}
+use Rattle.std.specs.Prelude.{slice_index_or, unwrap_or, pos}
+use Rattle.std.specs.{Option.option_or}
 use Rattle.sample_block.proofs.{BlockLaws.blocks_have, Spellings.spelled_size}
-use Rattle.project_journal.specs.Header.{Form, IsForm, form_of}
-use Rattle.project_journal.specs.Journal.{Log, HasLog, IsAt, IsRead, Contents, log_of, body_at}
-use Rattle.project_journal.specs.{declared.base.Base.Base, declared.fault.Damaged.Damaged, Fields.field, Gate.Each}
-use Rattle.project_journal.proofs.AnyFormats.{HasBase, any_base, any_format}
-use Rattle.project_journal.proofs.Found.{form_told, found_header, log_picked, whole_log}
-use Rattle.project_journal.proofs.{Chosen.one_journal, Kept.each_has, Picked.picked_once, ReadOnce.read_form}
-use Rattle.record_body.specs.Saved.{Begins, Saved, LeadIn, Keeps, opened, version_of}
-use Rattle.project_state.specs.Meaning.{history_blocks}
-use Rattle.record_body.proofs.{SavedBounds.all_append, SavedOnce.begins_once, Leading.lead_once_in}
-use Rattle.record_body.proofs.{Unnumbered.history_blocks_alike}
+use Rattle.project_journal.specs.{Gate.Each}
+use Rattle.project_journal.proofs.AnyFormats.{any_base, any_format}
+use Rattle.project_journal.proofs.Found.{form_told, found_header, log_picked}
+use Rattle.project_journal.proofs.{Chosen.one_journal}
+use Rattle.record_body.proofs.{SavedOnce.begins_once, Leading.lead_once_in}
 use Rattle.project_state.proofs.Meanings.{same_meaning, IsSame}
-use Rattle.journal_replay.specs.{Bases.base_of, Faults.first_fault_in, Faults.journal_fault}
+use Rattle.journal_replay.specs.{Faults.first_fault_in}
 use Rattle.journal_replay.proofs.{HeaderValid.points_valid, Valid.leading_valid_in}
-use Rattle.editor_core.specs.{Parts.HasParts, Parts.assembled, declared.assembly.Parts.Parts}
+use Rattle.editor_core.specs.{Parts.HasParts}
 use Rattle.editor_state.specs.Studios.{SameBlocks, named_blocks}
-use Rattle.editor_recovery.specs.Opening.{HeaderFault, RecordFault, SizeFault, FirstFault, Finds, IsFound, Opens}
-use Rattle.editor_recovery.specs.{declared.fault.OpenFault.OpenFault, Found.Found, Found.found_in, Sizes.HasSize}
-use Rattle.editor_recovery.specs.{Sizes.AllHaveSize, Honest.Names, Honest.IsHonest, Honest.OpensHonest, Standing.Stands}
+use Rattle.editor_recovery.specs.Opening.{FirstFault, Finds}
+use Rattle.editor_recovery.specs.{Sizes.HasSize}
 use Rattle.editor_recovery.proofs.Alone.{none_log, none_some}
 use Rattle.project_journal.specs.declared.fault.JournalFault.TheVariants as journal
 use Rattle.record_body.specs.Saved as saved
@@ -302,8 +300,6 @@ module _ {D : Type 0} (disk : Ghosts D) (old new : D) (honest : IsHonest disk ol
             (rest form log stands.known stands.few stands.there f refl c now);
         found = opens.found;
       }
-  found_saved (Err fault.Absent) opens rest = opens
-  found_saved (Err fault.Exists) opens rest = opens
   found_saved (Err fault.DiskFault) opens rest = tt
   found_saved (Err fault.NoMemory) opens rest = tt
   found_saved (Err (fault.Foreign file)) opens rest =
@@ -314,6 +310,7 @@ module _ {D : Type 0} (disk : Ghosts D) (old new : D) (honest : IsHonest disk ol
         want = want;
         have = have;
       }) found.1 opens.2) (honest.whole (disk.reads old) here)
+  found_saved _ opens rest = opens
 
   -- what a studio of the parts asks of the disk
   module _ (p : Parts) (opens : Finds (disk.reads old) (found_in p)) (same : disk.reads new ≡ disk.reads old)

@@ -1,21 +1,18 @@
 -- The counts of files, and of the layouts of a history.
-use Rattle.std.proofs.Common.{◌≡◌, ◌⊎◌, ℕ, ◌+◌, ◌≤◌, ◌<◌, ◌^◌, ⊎_elim, List, [], ◌∷◌, length, if◌then◌else◌, Option}
-use Rattle.std.proofs.Common.{Some, None, refl, sym, ap, subst, arith, ◌-◌}
+use Rattle.editor_recovery.proofs.Common.{◌≡◌, ◌⊎◌, ℕ, ◌+◌, ◌≤◌, ◌<◌, ◌^◌, ⊎_elim, List, [], ◌∷◌, length, Option, Some}
+use Rattle.editor_recovery.proofs.Common.{None, refl, sym, ap, subst, arith, ◌-◌, Contains, IsSome, find, if◌then◌else◌}
+use Rattle.editor_recovery.proofs.Common.{AllByRecursion, BlockRef, History, Files, count_of, Track, history_blocks}
+use Rattle.editor_recovery.proofs.Common.{point_blocks, IsValidTagged, history_tracks, times_named, is_foreign, IsAbove}
+use Rattle.editor_recovery.proofs.Common.{AreFiles}
+use Rattle.std.proofs.Common.{if◌then◌else◌}
 use Rattle.std.proofs.{lemmas.Bool.Decides.eqb_tells, lemmas.List.append-nil}
-use Rattle.std.specs.{Prelude.Contains, Prelude.IsSome, Prelude.find, Prelude.if◌then◌else◌, List.AllByRecursion}
-use Rattle.pcm_base.specs.{declared.block.BlockRef.BlockRef, History.History}
-use Rattle.disk_model.specs.Disk.{Files}
-use Rattle.block_ledger.specs.{Counts.Counts, Counts.occurrences, Entries.count_of}
-use Rattle.project_state.specs.{declared.track.Track.Track, Meaning.history_blocks, Meaning.point_blocks}
-use Rattle.record_body.specs.SavedValid.{IsValidTagged}
+use Rattle.block_ledger.specs.{Counts.Counts, Counts.occurrences}
 use Rattle.layout_uses.specs.Tallies.{AreCounts, Comes, IsTally}
-use Rattle.layout_uses.specs.{declared.tally.Tally.Tally, Layouts.history_tracks, Layouts.track_blocks}
-use Rattle.layout_uses.specs.{Occurrences.HasIds, Occurrences.times_named}
+use Rattle.layout_uses.specs.{declared.tally.Tally.Tally, Layouts.track_blocks, Occurrences.HasIds}
 use Rattle.editor_state.specs.Studios.{IsGiven}
 use Rattle.editor_state.proofs.Blocks.BlockNumbers.{named_most, point_few}
 use Rattle.editor_state.proofs.Blocks.NamedBlocks.{points_few as points_short, history_named}
 use Rattle.editor_recovery.specs.Ledgers.{AreCounted, AreNoted, IsLedgerOf}
-use Rattle.editor_recovery.specs.{Files.is_foreign, Files.IsAbove, Listing.AreFiles}
 use Rattle.editor_recovery.proofs.Highest.{listed_high}
 use Rattle.editor_edits.proofs.EditClipboard.{points_few as parts_few}
 
@@ -116,26 +113,22 @@ each_few m block track commit [] all = tt
 each_few m block track commit (p ∷ ps) all =
     (point_few m block track p.0 all.0.0, each_few m block track commit ps all.1)
 
--- no id is named more often than a count can say
-pub times_few : (m block track commit : ℕ) (h : History (List Track))
-    → AllByRecursion (IsValidTagged m block track commit) h.points → length h.points ≤ 65536 → (id : ℕ)
-    → times_named id (history_blocks h) < 2 ^ 128
-times_few m block track commit h all few id = omega (
-  arith,
-  few,
-  named_most id (history_blocks h),
-  parts_few h.points (each_few m block track commit h.points all),
-)
-
 each_short : (m block track commit : ℕ) (ps : List (List Track × ℕ))
     → AllByRecursion (IsValidTagged m block track commit) ps
     → AllByRecursion (λ (p : List Track × ℕ). length p.0 ≤ 64) ps
 each_short m block track commit [] all = tt
 each_short m block track commit (p ∷ ps) all = (all.0.0.few, each_short m block track commit ps all.1)
 
--- and no more tracks are there
-pub tracks_few : (m block track commit : ℕ) (h : History (List Track))
+-- no id is named more often than a count can say, and no more tracks are there
+pub counts_fit : (m block track commit : ℕ) (h : History (List Track))
     → AllByRecursion (IsValidTagged m block track commit) h.points → length h.points ≤ 65536
-    → length (history_tracks h) < 2 ^ 128
-tracks_few m block track commit h all few =
-    omega (arith, few, points_short h.points (each_short m block track commit h.points all))
+    → ((id : ℕ) → times_named id (history_blocks h) < 2 ^ 128) × (length (history_tracks h) < 2 ^ 128)
+counts_fit m block track commit h all few = (
+  λ id. omega (
+    arith,
+    few,
+    named_most id (history_blocks h),
+    parts_few h.points (each_few m block track commit h.points all),
+  ),
+  omega (arith, few, points_short h.points (each_short m block track commit h.points all)),
+)

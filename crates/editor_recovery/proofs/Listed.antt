@@ -1,13 +1,14 @@
 -- The first of rising numbers that passes a test.
-use Rattle.std.proofs.Common.{◌≡◌, ℕ, zero, suc, ◌≤◌, ◌<◌, Bool, true, false, cond, inl, inr, ⊎_elim, ◌⊎◌, List, []}
-use Rattle.std.proofs.Common.{◌∷◌, Option, Some, None, refl, sym, ap, subst, ◌∙◌, arith}
-use Rattle.std.proofs.lemmas.List.Kept.{AllPairs-from_increasing}
-use Rattle.std.proofs.lemmas.List.Elements.{All-from_recursion, recursion_from_All, All-contains}
-use Rattle.std.specs.{Prelude.Contains, Prelude.find, List.AllByRecursion, List.AllPairs}
-use Rattle.std.specs.{List.Sorted.IsStrictlyIncreasing}
-use Rattle.disk_model.specs.Disk.{Files}
-use Rattle.editor_recovery.specs.Listing.{AreFiles}
-use Rattle.editor_recovery.specs.Files.{is_foreign, IsFirstForeign, NoForeign, IsAbove, IsNextBlock}
+use Rattle.editor_recovery.proofs.Common.{◌≡◌, ℕ, zero, suc, ◌≤◌, ◌<◌, Bool, true, false, cond, inl, inr, ⊎_elim, ◌⊎◌}
+use Rattle.editor_recovery.proofs.Common.{List, [], ◌∷◌, Option, Some, None, refl, sym, ap, subst, ◌∙◌, arith}
+use Rattle.editor_recovery.proofs.Common.{AllPairs-from_increasing, All-from_recursion, recursion_from_All}
+use Rattle.editor_recovery.proofs.Common.{All-contains, Contains, find, AllByRecursion, IsStrictlyIncreasing, Files}
+use Rattle.editor_recovery.proofs.Common.{AreFiles, is_foreign, NoForeign, IsAbove}
+use Rattle.std.specs.{List.AllPairs}
+use Rattle.editor_recovery.specs.Files.{IsFirstForeign, IsNextBlock}
+
+pub contains_none : {X : Type 0} (x : X) → Contains [] x → ⊥
+contains_none x (k, lt, e) = omega (arith, lt)
 
 pub contains_cons : {X : Type 0} (x : X) (xs : List X) (o : X) → Contains (x ∷ xs) o → (x ≡ o) ⊎ Contains xs o
 contains_cons x xs o (zero, lt, e) = inl e
@@ -74,7 +75,7 @@ none_step true x rest e = absurd cc
 none_step false x rest e = (refl, e)
 
 pub find_none : (p : ℕ → Bool) (xs : List ℕ) → find p xs ≡ None → (o : ℕ) → Contains xs o → p o ≡ true → ⊥
-find_none p [] e o (k, lt, same) po = omega (arith, lt)
+find_none p [] e o has po = contains_none o has
 find_none p (x ∷ xs) e o has po =
     let parts = none_step (p x) x (find p xs) e in
     ⊎_elim (λ same. let f : false ≡ true = sym parts.0 ∙ ap p same ∙ po in absurd cc)

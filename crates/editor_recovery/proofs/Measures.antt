@@ -1,18 +1,11 @@
 -- Sizes that were measured, file by file.
-use Rattle.std.proofs.Common.{◌≡◌, ◌==◌, ℕ, ◌<◌, ◌≤◌, Bool, true, false, inl, inr, ⊎_elim, ◌⊎◌, List, length, get_or}
-use Rattle.std.proofs.Common.{Option, Some, None, Result, Ok, Err, refl, sym, ap, subst, ◌∙◌, arith}
-use Rattle.std.proofs.lemmas.Bool.{cases_Bool, eqb-true, eqb-false, ltb-true, ltb-false}
-use Rattle.std.proofs.lemmas.Option.{slice_get-get_or}
-use Rattle.std.proofs.lemmas.List.Elements.{All-from_recursion, All-contains}
-use Rattle.std.specs.{Prelude.OnOk, Prelude.IsSome, Prelude.Contains, Prelude.if◌then◌else◌, Prelude.nat_lt, List.All}
-use Rattle.pcm_base.specs.declared.block.BlockRef.{BlockRef}
-use Rattle.disk_model.specs.Disk.{Files, bytes_of}
-use Rattle.sample_block.specs.Spelling.{IsBlock, size_of}
-use Rattle.project_state.specs.{declared.track.Track.Track, Meaning.point_blocks}
-use Rattle.record_body.proofs.SavedBounds.{IsBlockRef}
-use Rattle.editor_recovery.specs.{declared.fault.OpenFault.OpenFault, Listing.AreFiles, Finding.TestsMeasured}
-use Rattle.editor_recovery.specs.{Sizes.file_size}
-use Rattle.editor_views.specs.Scans.{HaveOneLength}
+use Rattle.editor_recovery.proofs.Common.{◌≡◌, ◌==◌, ℕ, ◌<◌, ◌≤◌, Bool, true, false, inl, inr, ⊎_elim, ◌⊎◌, List}
+use Rattle.editor_recovery.proofs.Common.{length, get_or, Option, Some, None, Result, Ok, Err, refl, sym, ap, subst}
+use Rattle.editor_recovery.proofs.Common.{◌∙◌, arith, cases_Bool, eqb-true, eqb-false, ltb-true, ltb-false}
+use Rattle.editor_recovery.proofs.Common.{slice_get-get_or, All-from_recursion, All-contains, OnOk, IsSome, Contains}
+use Rattle.editor_recovery.proofs.Common.{if◌then◌else◌, nat_lt, All, BlockRef, Files, bytes_of, IsBlock, size_of}
+use Rattle.editor_recovery.proofs.Common.{Track, point_blocks, IsBlockRef, OpenFault, AreFiles, TestsMeasured}
+use Rattle.editor_recovery.proofs.Common.{file_size, HaveOneLength}
 use Rattle.editor_recovery.proofs.Points.{all_blocks, all_flat, all_points, both_all}
 use Rattle.editor_recovery.proofs.{Highest.contains_get, Highest.at_default, Wrong.right_there, Wrong.IsRight}
 

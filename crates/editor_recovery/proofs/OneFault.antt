@@ -1,21 +1,14 @@
 -- The first fault of a disk is one.
-use Rattle.std.proofs.Common.{◌≡◌, ℕ, List, inl, inr, Option, Some, None, sym, ap, subst, ◌∙◌, arith}
-use Rattle.pcm_base.specs.declared.block.BlockRef.{BlockRef}
-use Rattle.disk_model.specs.Disk.{Files, bytes_of}
-use Rattle.sample_block.specs.Spelling.{size_of}
-use Rattle.project_journal.specs.Header.{Form, first_failed, form_of}
-use Rattle.project_journal.specs.{declared.fault.Damaged.Damaged, Choice.FailsIn, Fields.field, Journal.IsRead}
-use Rattle.project_journal.proofs.Picked.{no_choice_fault, picked_once}
-use Rattle.project_journal.proofs.ReadOnce.{read_form, read_once, read_valid}
-use Rattle.record_body.specs.Saved.{Saved}
-use Rattle.project_state.specs.Meaning.{history_blocks}
-use Rattle.journal_replay.specs.Faults.{journal_fault}
-use Rattle.editor_recovery.specs.{Laws.HasOneFault, Opening.HeaderFault, Opening.RecordFault, Opening.SizeFault}
-use Rattle.editor_recovery.specs.{Sizes.IsUpTo, Sizes.IsFirstWrong, Sizes.file_size}
+use Rattle.editor_recovery.proofs.Common.{◌≡◌, ℕ, List, inl, inr, Option, Some, None, sym, ap, subst, ◌∙◌, arith}
+use Rattle.editor_recovery.proofs.Common.{BlockRef, Files, bytes_of, size_of, Form, form_of, Damaged, field, IsRead}
+use Rattle.editor_recovery.proofs.Common.{picked_once, read_form, Saved, history_blocks, some_is, journal_fault}
+use Rattle.editor_recovery.proofs.Common.{HeaderFault, RecordFault, SizeFault, IsUpTo, IsFirstWrong, file_size}
+use Rattle.project_journal.specs.Header.{first_failed}
+use Rattle.project_journal.specs.{Choice.FailsIn}
+use Rattle.project_journal.proofs.Picked.{no_choice_fault}
+use Rattle.project_journal.proofs.ReadOnce.{read_once, read_valid}
+use Rattle.editor_recovery.specs.{Laws.HasOneFault}
 use Rattle.editor_recovery.proofs.Honest.{no_header_fault, no_record_fault, same_saved}
-
-some_is : (d e : Damaged) → Some d ≡ Some e → d ≡ e
-some_is d e same = cc
 
 same_block : (a b : BlockRef) → IsUpTo a b → IsUpTo b a → a ≡ b
 same_block a b (inl p) (inl q) = absurd (omega (arith, p, q))

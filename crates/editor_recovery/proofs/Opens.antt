@@ -1,22 +1,17 @@
 -- From what the steps of opening answer to what opening answers.
-use Rattle.std.proofs.Common.{◌≡◌, ℕ, inl, inr, List, None, Result, Ok, Err, sym, ap, subst, ◌∙◌, arith}
-use Rattle.std.specs.Prelude.{⊤, IfErr, IfOk, IsTrue}
-use Rattle.pcm_base.specs.declared.block.BlockRef.{BlockRef}
-use Rattle.disk_model.specs.{Disk.Files, Disk.bytes_of, declared.store.Store.Ghosts}
-use Rattle.project_journal.specs.Journal.{Contents, HasLog, log_of}
-use Rattle.project_journal.specs.{Choice.IsNewest, Choice.IsPicked, Header.Form, Opening.IsOpened, Reader.IsStored}
-use Rattle.project_journal.specs.{declared.fault.Damaged.Damaged, declared.reader.Reader.Reader}
-use Rattle.project_journal.proofs.Found.{journal_generation, log_there, read_whole, stored_here}
-use Rattle.project_state.specs.{Meaning.history_blocks, Numbers.unnumbered_history}
-use Rattle.record_body.proofs.Unnumbered.{history_blocks_alike}
-use Rattle.journal_replay.specs.{Bases.base_of, Folds.saved_of}
-use Rattle.editor_recovery.specs.Finding.{ArePartsOf, FoldsDisk, IsFoldOf, IsValidFolded, TestsMeasured, TestsSizes}
-use Rattle.editor_recovery.specs.Reading.{IsRead, ReadsDisk, Refuses}
-use Rattle.editor_recovery.specs.Sizes.{AllHaveSize, IsFirstWrong, file_size}
-use Rattle.editor_recovery.specs.{declared.disk.Disk.Disk, declared.disk.Folded.Folded}
-use Rattle.editor_recovery.specs.{declared.fault.OpenFault.OpenFault, Listing.AreFiles, Listing.Lists, Files.NoForeign}
-use Rattle.editor_recovery.specs.{Found.answer_in, Found.found_in, Opening.HeaderFault, Opening.Opens, Standing.Stands}
-use Rattle.editor_core.specs.declared.assembly.Parts.{Parts}
+use Rattle.editor_recovery.proofs.Common.{◌≡◌, ℕ, inl, inr, List, None, Result, Ok, Err, sym, ap, subst, ◌∙◌, arith}
+use Rattle.editor_recovery.proofs.Common.{IfErr, IfOk, IsTrue, BlockRef, Files, bytes_of, Ghosts, Contents, HasLog}
+use Rattle.editor_recovery.proofs.Common.{log_of, IsNewest, IsPicked, Form, IsOpened, Damaged, Reader, read_whole}
+use Rattle.editor_recovery.proofs.Common.{stored_here, history_blocks, history_blocks_alike, base_of, saved_of}
+use Rattle.editor_recovery.proofs.Common.{ArePartsOf, FoldsDisk, IsValidFolded, TestsMeasured, Refuses, AllHaveSize}
+use Rattle.editor_recovery.proofs.Common.{IsFirstWrong, file_size, Disk, Folded, OpenFault, AreFiles, Lists, NoForeign}
+use Rattle.editor_recovery.proofs.Common.{answer_in, found_in, HeaderFault, Opens, Stands, Parts}
+use Rattle.std.specs.Prelude.{⊤}
+use Rattle.project_journal.specs.{Reader.IsStored}
+use Rattle.project_journal.proofs.Found.{journal_generation, log_there}
+use Rattle.project_state.specs.{Numbers.unnumbered_history}
+use Rattle.editor_recovery.specs.Finding.{IsFoldOf, TestsSizes}
+use Rattle.editor_recovery.specs.Reading.{IsRead, ReadsDisk}
 use Rattle.editor_recovery.proofs.{Alone.some_picked, Alone.some_refused, Ledgers.ledger_of, Listed.next_block}
 use Rattle.editor_recovery.proofs.{ValidParts.parts_numbered, Wrong.all_right, Wrong.one_wrong}
 use Rattle.project_journal.specs.Journal as journal
@@ -43,11 +38,8 @@ stored_read disk store files form j listed same tells stored picked are foreign 
 pub not_folded : {D : Type 0} (disk : Ghosts D) (store : D) (files : Files) (form : Form) (e : OpenFault)
     → disk.reads store ≡ files → IsTrue (disk.tells store) → IsPicked form.file files → NoForeign files
     → FoldsDisk disk store form (Err e) → Opens files (Err e)
-not_folded disk store files form fault.Absent same tells picked foreign folds = absurd folds
-not_folded disk store files form fault.Exists same tells picked foreign folds = absurd folds
 not_folded disk store files form fault.DiskFault same tells picked foreign folds = tt
 not_folded disk store files form fault.NoMemory same tells picked foreign folds = tt
-not_folded disk store files form (fault.Foreign file) same tells picked foreign folds = absurd folds
 not_folded disk store files form (fault.Damaged file at want have) same tells picked foreign folds = (
   some_picked files form.file picked,
   foreign,
@@ -62,6 +54,7 @@ not_folded disk store files form (fault.Damaged file at want have) same tells pi
     first = folds.3;
   })),
 )
+not_folded disk store files form _ same tells picked foreign folds = absurd folds
 
 -- the journal that was read to a gate that is 0 is the disk's
 log_of_read : (files : Files) (form : Form) (j : Contents) (listed : List ℕ) → IsRead files form j listed
@@ -87,23 +80,18 @@ stands_read files form j listed f is fold = record {
 pub measured : {T : Type 0} (files : Files) (sizes : ℕ → ℕ) (bs : List BlockRef) (r : Result T OpenFault)
     → ((file : ℕ) → sizes file ≡ file_size files file) → TestsMeasured sizes bs r → TestsSizes files bs r
 measured files sizes bs (Ok x) same tests = all_right files sizes bs same tests
-measured files sizes bs (Err fault.Absent) same tests = tests
-measured files sizes bs (Err fault.Exists) same tests = tests
 measured files sizes bs (Err fault.DiskFault) same tests = absurd tests
 measured files sizes bs (Err fault.NoMemory) same tests = tt
-measured files sizes bs (Err (fault.Foreign file)) same tests = tests
 measured files sizes bs (Err (fault.Damaged file at want have)) same tests =
     (tests.0, one_wrong files sizes bs tests.0 same tests.1, tests.2, tests.3, tests.4, tests.5 ∙ same tests.0.id)
+measured files sizes bs _ same tests = tests
 
 -- a block's file that has not its size
 pub unsized : (files : Files) (form : Form) (j : Contents) (listed : List ℕ) (f : Folded) (e : OpenFault)
     → IsRead files form j listed → IsFoldOf form j f
     → TestsSizes {T = ⊤} files (history_blocks f.project.numbered.history.history) (Err e) → Opens files (Err e)
-unsized files form j listed f fault.Absent is fold tests = absurd tests
-unsized files form j listed f fault.Exists is fold tests = absurd tests
 unsized files form j listed f fault.DiskFault is fold tests = tt
 unsized files form j listed f fault.NoMemory is fold tests = tt
-unsized files form j listed f (fault.Foreign file) is fold tests = absurd tests
 unsized files form j listed f (fault.Damaged file at want have) is fold tests = (
   some_picked files form.file is.picked,
   is.foreign,
@@ -118,6 +106,7 @@ unsized files form j listed f (fault.Damaged file at want have) is fold tests = 
     tells = (tests.2, λ i. record { at = tests.3 i; want = tests.4 i; have = tests.5 i });
   })),
 )
+unsized files form j listed f _ is fold tests = absurd tests
 
 -- and none
 parts_open : (files : Files) (form : Form) (j : Contents) (listed : List ℕ) (f : Folded) (p : Parts)
@@ -168,20 +157,15 @@ parts_result files form j listed f (Err e) is fold valid sizes parts memory =
 pub with_listing : (files : Files) (reader : Reader) (r : Result Disk OpenFault) → IsOpened files reader
     → IfOk r (λ d. d.reader ≡ reader) → Lists files (λ d. d.files.items) r → ReadsDisk files r
 with_listing files reader (Ok d) opened same lists = (subst (IsOpened files) (sym same) opened, lists.0, lists.1)
-with_listing files reader (Err fault.Absent) opened same lists = absurd lists
-with_listing files reader (Err fault.Exists) opened same lists = absurd lists
 with_listing files reader (Err fault.DiskFault) opened same lists = tt
 with_listing files reader (Err fault.NoMemory) opened same lists = tt
 with_listing files reader (Err (fault.Foreign file)) opened same lists =
     (some_picked files reader.window.file opened.picked, lists)
-with_listing files reader (Err (fault.Damaged file at want have)) opened same lists = absurd lists
+with_listing files reader _ opened same lists = absurd lists
 
 -- a listing beside a header that has a fault
 pub with_fault : (files : Files) (file at want have : ℕ) (r : Result Disk OpenFault)
     → HeaderFault files file (damaged at want have) → Refuses files file at want have r → ReadsDisk files r
-with_fault files file at want have (Ok d) read refuses = absurd refuses
-with_fault files file at want have (Err fault.Absent) read refuses = absurd refuses
-with_fault files file at want have (Err fault.Exists) read refuses = absurd refuses
 with_fault files file at want have (Err fault.DiskFault) read refuses = tt
 with_fault files file at want have (Err fault.NoMemory) read refuses = tt
 with_fault files file at want have (Err (fault.Foreign other)) read refuses =
@@ -196,3 +180,4 @@ with_fault files file at want have (Err (fault.Damaged file' at' want' have')) r
         have = sym refuses.4 i;
       }) read),
 )
+with_fault files file at want have _ read refuses = absurd refuses

@@ -1,11 +1,8 @@
 -- A project whose layouts have numbers is as valid as the same one without them.
-use Rattle.std.proofs.Common.{ℕ, List, [], ◌∷◌, map, refl}
-use Rattle.std.proofs.lemmas.List.Elements.{All-from_recursion, recursion_from_All}
-use Rattle.std.specs.List.{AllByRecursion}
-use Rattle.project_state.specs.{declared.track.Track.Track, Numbers.unnumbered}
-use Rattle.record_body.specs.{Saved.Saved, SavedValid.IsValidTagged}
+use Rattle.editor_recovery.proofs.Common.{ℕ, List, [], ◌∷◌, map, refl, All-from_recursion, recursion_from_All}
+use Rattle.editor_recovery.proofs.Common.{AllByRecursion, Track, Saved, IsValidTagged, Project, IsValid, saved_of}
+use Rattle.project_state.specs.{Numbers.unnumbered}
 use Rattle.record_body.proofs.Unnumbered.{sound_back}
-use Rattle.journal_replay.specs.{declared.project.Project.Project, Folds.IsValid, Folds.saved_of}
 
 -- a point with its tag
 abbrev pub Tagged : Type 0

@@ -1,25 +1,18 @@
 -- The points of a history, one by one.
-use Rattle.std.proofs.Common.{◌≡◌, ℕ, ◌+◌, ◌<◌, ◌≤◌, List, [], ◌∷◌, ◌++◌, length, map, drop, get_or, Some, None, refl}
-use Rattle.std.proofs.Common.{sym, ap, subst, ◌∙◌, arith, ⊎_elim}
-use Rattle.std.proofs.lemmas.List.{length-map}
-use Rattle.std.proofs.lemmas.Option.{slice_get_within, slice_get-get_or, slice_get-map}
-use Rattle.std.proofs.lemmas.List.Elements.{All-from_recursion, recursion_from_All, All-get_or, All-contains}
-use Rattle.std.specs.List.{All, AllByRecursion, flat_map}
-use Rattle.std.specs.{Prelude.slice_get, Prelude.Contains, Option.option_map}
-use Rattle.project_state.proofs.Points.{drop_some}
-use Rattle.pcm_base.specs.{declared.block.BlockRef.BlockRef, History.point_of}
-use Rattle.sample_block.specs.Spelling.{IsBlock}
-use Rattle.project_state.specs.{declared.track.Track.Track, Meaning.point_blocks}
-use Rattle.record_body.proofs.SavedBounds.{all_append, IsBlockRef}
-use Rattle.editor_recovery.specs.Sizes.{first_wrong}
+use Rattle.editor_recovery.proofs.Common.{◌≡◌, ℕ, ◌+◌, ◌<◌, ◌≤◌, List, [], ◌∷◌, ◌++◌, length, map, drop, get_or, Some}
+use Rattle.editor_recovery.proofs.Common.{None, refl, sym, ap, subst, ◌∙◌, arith, ⊎_elim, length-map, none-some}
+use Rattle.editor_recovery.proofs.Common.{slice_get_within, slice_get-get_or, All-from_recursion, recursion_from_All}
+use Rattle.editor_recovery.proofs.Common.{All-get_or, All-contains, All, AllByRecursion, flat_map, slice_get, Contains}
+use Rattle.editor_recovery.proofs.Common.{all_parts, drop_some, some_is, BlockRef, IsBlock, Track, point_blocks}
+use Rattle.editor_recovery.proofs.Common.{all_append, IsBlockRef, first_wrong}
+use Rattle.std.proofs.lemmas.Option.{slice_get-map}
+use Rattle.std.specs.{Option.option_map}
+use Rattle.pcm_base.specs.{History.point_of}
 use Rattle.editor_recovery.proofs.Wrong.{found_wrong, FoundOne, Found}
 
 -- the blocks of points
 abbrev pub all_blocks : List (List Track × ℕ) → List BlockRef
 all_blocks ps = flat_map (λ p. point_blocks p.0) ps
-
-pub some_is : {X : Type 0} (x y : X) → Some x ≡ Some y → x ≡ y
-some_is x y e = cc
 
 -- the point at a place
 pub record PointAt (ps : List (List Track × ℕ)) (i : ℕ) (ts : List Track) : Type 0 where
@@ -66,16 +59,11 @@ pub all_points : (Q : BlockRef → Type 0) (ps : List (List Track × ℕ)) → A
     → All (λ p. All Q (point_blocks p.0)) ps
 all_points Q ps all = All-from_recursion (λ p. All Q (point_blocks p.0)) ps (parts Q ps all)
   where
-    split : (Q : BlockRef → Type 0) (xs ys : List BlockRef) → AllByRecursion Q (xs ++ ys)
-        → AllByRecursion Q xs × AllByRecursion Q ys
-    split Q [] ys all = (tt, all)
-    split Q (x ∷ xs) ys all = let rest = split Q xs ys all.1 in ((all.0, rest.0), rest.1)
-
     parts : (Q : BlockRef → Type 0) (ps : List (List Track × ℕ)) → AllByRecursion Q (all_blocks ps)
         → AllByRecursion (λ p. All Q (point_blocks p.0)) ps
     parts Q [] all = tt
     parts Q (p ∷ ps) all =
-        let both = split Q (point_blocks p.0) (all_blocks ps) all in
+        let both = all_parts Q (point_blocks p.0) (all_blocks ps) all in
         (All-from_recursion Q (point_blocks p.0) both.0, parts Q ps both.1)
 
 pub both_all : {X : Type 0} (P Q R : X → Type 0) (xs : List X) → ((x : X) → P x → Q x → R x) → AllByRecursion P xs
@@ -88,10 +76,7 @@ pub wrong_named : (sizes : ℕ → ℕ) (bs : List BlockRef) (b : BlockRef) → 
     → Contains bs b
 wrong_named sizes bs b some =
     let found : FoundOne sizes None bs b = subst (Found sizes None bs) some (found_wrong sizes None bs) in
-    ⊎_elim (λ o. absurd (none_some o)) (λ n. n.0) found.origin
-  where
-    none_some : None ≡ Some b → ⊥
-    none_some e = cc
+    ⊎_elim (λ o. absurd (none-some b o)) (λ n. n.0) found.origin
 
 pub wrong_few : (sizes : ℕ → ℕ) (ps : List (List Track × ℕ)) (b : BlockRef)
     → All (λ p. All (λ b. IsBlock b.id b.len) (point_blocks p.0)) ps → first_wrong sizes None (all_blocks ps) ≡ Some b

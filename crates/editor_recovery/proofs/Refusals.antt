@@ -1,10 +1,8 @@
 -- What may refuse an opening, by what its steps tell.
-use Rattle.std.proofs.Common.{◌≡◌, ◌∙◌, refl, sym, ap, subst, ℕ, Bool, true, false, cond, List, [], ◌∷◌, Option, Some}
-use Rattle.std.proofs.Common.{Result, Err, IfErr, Ok}
-use Rattle.std.specs.Prelude.{find}
-use Rattle.pcm_base.specs.declared.block.BlockRef.{BlockRef}
+use Rattle.editor_recovery.proofs.Common.{◌≡◌, ◌∙◌, refl, sym, ap, subst, ℕ, Bool, true, false, cond, List, [], ◌∷◌}
+use Rattle.editor_recovery.proofs.Common.{Option, Some, Result, Err, Ok, find, BlockRef, OpenFault, TestsMeasured}
+use Rattle.std.proofs.Common.{IfErr}
 use Rattle.editor_recovery.specs.Listing.{IsOpenRefusal, IsRefusal}
-use Rattle.editor_recovery.specs.{declared.fault.OpenFault.OpenFault, Finding.TestsMeasured}
 use Rattle.editor_recovery.specs.declared.fault.OpenFault.TheVariants as fault
 
 pub refusal_opens : (e : OpenFault) → IsRefusal e → IsOpenRefusal e

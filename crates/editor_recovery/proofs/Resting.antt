@@ -1,15 +1,14 @@
 -- A journal that is at rest stays so while nothing is written.
-use Rattle.std.proofs.Common.{◌≡◌, ◌≤◌, ⊎_elim, ℕ, [], Result, Ok, Err, sym, ap, subst, ◌∙◌, arith}
-use Rattle.std.specs.Prelude.{IfOk, OnOk, IsTrue}
-use Rattle.disk_model.specs.{Disk.Files, Frames.Kept, declared.store.Store.Ghosts}
-use Rattle.project_journal.specs.Journal.{Log, HasLog, IsAt, log_of}
-use Rattle.project_journal.specs.{Choice.IsNewest, Choice.other_file, Gate.IsDurable, Header.Form, Header.IsForm}
-use Rattle.project_journal.specs.{Opening.IsOpened, Reader.IsHeading, Reader.reader_form, declared.reader.Reader.Reader}
-use Rattle.project_journal.proofs.Found.{found_form, whole_log, stored_here, stored_rest}
-use Rattle.project_journal.proofs.{FirstReadings.heading_kept, Kept.is_at_still, Picked.zero_or_one}
-use Rattle.editor_recovery.specs.{declared.disk.Disk.Disk, declared.disk.Folded.Folded}
-use Rattle.editor_recovery.specs.{declared.fault.OpenFault.OpenFault, Finding.FoldsDisk}
-use Rattle.editor_core.specs.declared.assembly.Parts.{Parts}
+use Rattle.editor_recovery.proofs.Common.{◌≡◌, ◌≤◌, ⊎_elim, ℕ, [], Result, Ok, Err, refl, sym, ap, subst, ◌∙◌, arith}
+use Rattle.editor_recovery.proofs.Common.{IfOk, OnOk, IsTrue, Files, StaysStep, Changed, Kept, Ghosts, changed_kept}
+use Rattle.editor_recovery.proofs.Common.{Log, HasLog, IsAt, log_of, IsNewest, IsDurable, Form, IsForm, IsOpened}
+use Rattle.editor_recovery.proofs.Common.{reader_form, Reader, whole_log, stored_here, zero_or_one, Disk, Folded}
+use Rattle.editor_recovery.proofs.Common.{OpenFault, FoldsDisk, Parts}
+use Rattle.disk_model.specs.{Room.Room}
+use Rattle.disk_model.proofs.Frames.{changed_then_stays}
+use Rattle.project_journal.specs.{Choice.other_file, Reader.IsHeading}
+use Rattle.project_journal.proofs.Found.{found_form, stored_rest}
+use Rattle.project_journal.proofs.{FirstReadings.heading_kept, Kept.is_at_still}
 use Rattle.editor_state.proofs.Calls.LookCalls.{same_journals}
 
 one_durable : {D : Type 0} (disk : Ghosts D) (store : D) (file : ℕ) → file ≤ 1 → IsDurable disk store 0
@@ -36,6 +35,14 @@ module _ {D : Type 0} {disk : Ghosts D} where
       → IsDurable disk mid file → OnOk r (IsDurable disk new file)
   durable_after mid new file (Ok x) kept here = still_durable mid new file kept here
   durable_after mid new file (Err e) kept here = tt
+
+  -- and reads ask for no more room
+  pub changed_after : {much : Room} {old mid new : D} → Changed disk StaysStep much old mid → Kept disk mid new
+      → Changed disk StaysStep much old new
+  changed_after changed kept =
+      changed_then_stays {two = record { files = 0; bytes = 0; calls = 0 }}
+      (record { files = omega arith; bytes = omega arith; calls = omega arith }) changed
+      (changed_kept (λ d. refl) kept)
 
   -- and so does a reader of the journal
   pub still_heading : (mid new : D) (reader : Reader) (r : Result Disk OpenFault) → IsHeading disk mid reader []

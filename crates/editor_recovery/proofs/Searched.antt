@@ -1,18 +1,14 @@
 -- Blocks that were searched bring nothing new, and so do layouts whose numbers the point before has.
-use Rattle.std.proofs.Common.{◌≡◌, ◌==◌, ℕ, zero, suc, ◌+◌, Bool, true, false, inl, inr, ◌⊎◌, ⊎_elim, List, [], ◌∷◌}
-use Rattle.std.proofs.Common.{◌++◌, Option, Some, None, refl, sym, ap, subst, ◌∙◌, arith}
-use Rattle.std.proofs.lemmas.Bool.{and_from, or_left, or_right, eq-eqb, eqb-true, lt-ltb, le-leb}
-use Rattle.std.specs.Prelude.{nat_lt, nat_le, ◌&&◌, if◌then◌else◌, slice_get}
-use Rattle.std.specs.List.{AllByRecursion}
-use Rattle.pcm_base.specs.declared.block.BlockRef.{BlockRef}
-use Rattle.sample_block.specs.Spelling.{size_of}
-use Rattle.clip_track.specs.{declared.clips.Clip.Clip, Clips.layout_blocks}
-use Rattle.project_state.specs.{declared.track.Track.Track, Meaning.point_blocks}
-use Rattle.layout_uses.specs.{Laws.AreAmong, Laws.IsAmong, Layouts.AgreesWith, Layouts.AreNumbered}
+use Rattle.editor_recovery.proofs.Common.{◌≡◌, ◌==◌, ℕ, zero, suc, ◌+◌, Bool, true, false, inl, inr, ◌⊎◌, ⊎_elim, List}
+use Rattle.editor_recovery.proofs.Common.{[], ◌∷◌, Option, Some, None, refl, sym, ap, subst, ◌∙◌, arith, eqb-true}
+use Rattle.editor_recovery.proofs.Common.{nat_lt, nat_le, ◌&&◌, if◌then◌else◌, slice_get, AllByRecursion, BlockRef}
+use Rattle.editor_recovery.proofs.Common.{size_of, Clip, layout_blocks, Track, point_blocks, all_parts, some_is}
+use Rattle.editor_recovery.proofs.Common.{AgreesWith, IsUpTo, is_up_to, earlier, one_more, first_wrong, AreSearched}
+use Rattle.std.proofs.lemmas.Bool.{and_from, or_left, or_right, eq-eqb, lt-ltb, le-leb}
+use Rattle.layout_uses.specs.{Laws.AreAmong, Laws.IsAmong, Layouts.AreNumbered}
 use Rattle.layout_uses.proofs.Numbers.{among_agrees, agrees_one}
-use Rattle.editor_recovery.specs.Sizes.{IsUpTo, is_up_to, earlier, one_more, first_wrong, IsSearched, AreSearched}
+use Rattle.editor_recovery.specs.Sizes.{IsSearched}
 use Rattle.editor_recovery.proofs.Wrong.{IsRight, order_trans, earlier_new, earlier_old}
-use Rattle.editor_recovery.proofs.Points.{some_is}
 
 -- ---- one block
 
@@ -100,18 +96,13 @@ nothing_new sizes found (b ∷ bs) all =
 
 -- ---- blocks of clips and of tracks
 
-all_split : (Q : BlockRef → Type 0) (xs ys : List BlockRef) → AllByRecursion Q (xs ++ ys)
-    → AllByRecursion Q xs × AllByRecursion Q ys
-all_split Q [] ys all = (tt, all)
-all_split Q (x ∷ xs) ys all = let rest = all_split Q xs ys all.1 in ((all.0, rest.0), rest.1)
-
 pub clip_part : (Q : BlockRef → Type 0) (cs : List Clip) (i : ℕ) (c : Clip) → slice_get cs i ≡ Some c
     → AllByRecursion Q (layout_blocks cs) → AllByRecursion Q c.blocks
 clip_part Q [] i c here all = absurd cc
 clip_part Q (d ∷ ds) zero c here all =
     let same : d ≡ c = cc in
-    subst (λ (x : Clip). AllByRecursion Q x.blocks) same (all_split Q d.blocks (layout_blocks ds) all).0
-clip_part Q (d ∷ ds) (suc i) c here all = clip_part Q ds i c here (all_split Q d.blocks (layout_blocks ds) all).1
+    subst (λ (x : Clip). AllByRecursion Q x.blocks) same (all_parts Q d.blocks (layout_blocks ds) all).0
+clip_part Q (d ∷ ds) (suc i) c here all = clip_part Q ds i c here (all_parts Q d.blocks (layout_blocks ds) all).1
 
 pub track_part : (Q : BlockRef → Type 0) (ts : List Track) (i : ℕ) (t : Track) → slice_get ts i ≡ Some t
     → AllByRecursion Q (point_blocks ts) → AllByRecursion Q (layout_blocks t.layout)
@@ -119,9 +110,9 @@ track_part Q [] i t here all = absurd cc
 track_part Q (u ∷ us) zero t here all =
     let same : u ≡ t = cc in
     subst (λ (x : Track). AllByRecursion Q (layout_blocks x.layout)) same
-    (all_split Q (layout_blocks u.layout) (point_blocks us) all).0
+    (all_parts Q (layout_blocks u.layout) (point_blocks us) all).0
 track_part Q (u ∷ us) (suc i) t here all =
-    track_part Q us i t here (all_split Q (layout_blocks u.layout) (point_blocks us) all).1
+    track_part Q us i t here (all_parts Q (layout_blocks u.layout) (point_blocks us) all).1
 
 pub track_holds : (P : Track → Type 0) (ts : List Track) (i : ℕ) (t : Track) → slice_get ts i ≡ Some t
     → AllByRecursion P ts → P t
@@ -154,7 +145,7 @@ pub layout_searched : (sizes : ℕ → ℕ) (found : Option BlockRef) (before : 
     → first_wrong sizes found (layout_blocks t.layout) ≡ found
 layout_searched sizes found [] t u agree searched among same = absurd among
 layout_searched sizes found (v ∷ vs) t u agree searched among same =
-    let parts = all_split (IsSearched sizes found) (layout_blocks v.layout) (point_blocks vs) searched in
+    let parts = all_parts (IsSearched sizes found) (layout_blocks v.layout) (point_blocks vs) searched in
     ⊎_elim
     (λ is.
     let number : t.number ≡ v.number = sym same ∙ ap (λ (x : Track). x.number) (sym is) in

@@ -1,23 +1,17 @@
 -- The calls of a studio leave an honest disk honest.
-use Rattle.std.proofs.Common.{◌≡◌, ◌⊎◌, ◌∙◌, inl, inr, ⊎_elim, sym, ap, subst, refl, ℕ, ◌++◌, ◌≤◌, ◌<◌, Bool, true}
-use Rattle.std.proofs.Common.{false, Option, Some, None, List, [], ◌∷◌, arith}
-use Rattle.std.proofs.lemmas.Bool.{leb-true, ltb-true}
-use Rattle.std.proofs.lemmas.List.Elements.{All-contains, All-from_recursion}
-use Rattle.std.specs.Prelude.{Contains, IsSome, IsTrue, if◌then◌else◌, nat_le, nat_lt, ◌&&◌, ◌||◌}
-use Rattle.std.specs.{List.AllByRecursion, Option.option_and_then}
-use Rattle.pcm_base.specs.declared.limits.TheConstants.{COUNTER_LIMIT, FIRST_BLOCK}
-use Rattle.pcm_base.specs.declared.block.BlockRef.{BlockRef}
-use Rattle.disk_model.specs.{Disk.Files, MomentLaws.upto_refl, declared.store.Store.Ghosts}
-use Rattle.sample_block.specs.Blocks.{block_in, blocks}
-use Rattle.project_journal.specs.Gate.{EachNow}
-use Rattle.project_journal.proofs.{Kept.each_has, Parses.form_known}
-use Rattle.project_state.specs.Meaning.{history_blocks}
-use Rattle.record_body.proofs.Unnumbered.{history_blocks_alike}
-use Rattle.editor_state.specs.Studios.{IsDurable, IsHeld, IsStudio, clip_blocks, pin_blocks, shown, studio_of}
-use Rattle.editor_state.specs.{Core.Core, Core.form_at, Left.LeavesOthers, Left.MayRemove, Took.Exchange, Took.Took}
-use Rattle.editor_recovery.specs.{Files.NoForeign, Files.is_foreign, Honest.IsHonest, Honest.Names}
-use Rattle.editor_recovery.specs.{StayingHonest.IsHonestImage, StayingHonest.StaysHonest, Standing.HasNone}
-use Rattle.editor_recovery.specs.{Standing.Stands}
+use Rattle.editor_recovery.proofs.Common.{◌≡◌, ◌⊎◌, ◌∙◌, inl, inr, ⊎_elim, sym, ap, subst, refl, ℕ, ◌++◌, ◌≤◌, ◌<◌}
+use Rattle.editor_recovery.proofs.Common.{Bool, true, false, Option, Some, None, List, arith, leb-true, ltb-true}
+use Rattle.editor_recovery.proofs.Common.{All-contains, All-from_recursion, Contains, IsSome, IsTrue, if◌then◌else◌}
+use Rattle.editor_recovery.proofs.Common.{nat_le, nat_lt, ◌&&◌, ◌||◌, COUNTER_LIMIT, FIRST_BLOCK, BlockRef, Files}
+use Rattle.editor_recovery.proofs.Common.{upto_refl, Ghosts, blocks, EachNow, each_has, history_blocks, all_parts}
+use Rattle.editor_recovery.proofs.Common.{history_blocks_alike, IsHeld, IsStudio, shown, studio_of, Core, NoForeign}
+use Rattle.editor_recovery.proofs.Common.{is_foreign, IsHonest, Names, HasNone, Stands}
+use Rattle.std.specs.Option.{option_and_then}
+use Rattle.sample_block.specs.Blocks.{block_in}
+use Rattle.project_journal.proofs.{Parses.form_known}
+use Rattle.editor_state.specs.Studios.{IsDurable, clip_blocks, pin_blocks}
+use Rattle.editor_state.specs.{Core.form_at, Left.LeavesOthers, Left.MayRemove, Took.Exchange, Took.Took}
+use Rattle.editor_recovery.specs.{StayingHonest.IsHonestImage, StayingHonest.StaysHonest}
 use Rattle.editor_recovery.proofs.{Created.not_journal, Honest.same_saved}
 use Rattle.record_body.specs.Saved as saved
 
@@ -50,10 +44,6 @@ no_foreign first last MayGo d c least step before file some foreign = ⊎_elim
 
 -- ---- blocks that images name
 
-front_of : (P : BlockRef → Type 0) (xs ys : List BlockRef) → AllByRecursion P (xs ++ ys) → AllByRecursion P xs
-front_of P [] ys all = tt
-front_of P (x ∷ xs) ys all = (all.0, front_of P xs ys all.1)
-
 same_block : (c d : Files) (id : ℕ) → c id ≡ d id → blocks c id ≡ blocks d id
 same_block c d id same =
     let is_block = nat_le FIRST_BLOCK id && nat_lt id COUNTER_LIMIT in
@@ -80,8 +70,8 @@ module _ {D : Type 0} (disk : Ghosts D) (s : Core D) (few : s.file ≤ 1) (durab
       subst (λ (bs : List BlockRef). Contains bs names.block) blocks_are
       (subst (λ (k : saved.Saved). Contains (history_blocks k.history) names.block) kept names.named) in
       let Same : BlockRef → Type 0 = λ b. c b.id ≡ disk.reads s.store b.id in
-      let all = front_of Same (history_blocks s.history) (pin_blocks s.pins ++ clip_blocks s.clipboard)
-      (durable.blocks c now) in
+      let all = (all_parts Same (history_blocks s.history) (pin_blocks s.pins ++ clip_blocks s.clipboard)
+      (durable.blocks c now)).0 in
       subst (λ (n : ℕ). c n ≡ disk.reads s.store n) names.is (All-contains Same (history_blocks s.history) names.block
       (All-from_recursion Same (history_blocks s.history) all) there)
 

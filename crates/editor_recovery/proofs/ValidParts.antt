@@ -1,19 +1,15 @@
 -- The parts of a valid project are valid.
-use Rattle.std.proofs.Common.{◌≡◌, ℕ, ◌≤◌, List, Result, Ok, Err, sym, ap, subst, ◌∙◌, arith}
-use Rattle.std.proofs.lemmas.List.Elements.{All-weaker, recursion_from_All}
-use Rattle.std.specs.{Prelude.None, Prelude.IfOk, Prelude.find, List.All, List.AllByRecursion}
-use Rattle.block_ledger.specs.Entries.{count_of}
-use Rattle.project_state.specs.{Meaning.history_blocks, declared.track.Track.Track}
-use Rattle.editor_views.specs.Scans.{HaveOneLength}
-use Rattle.editor_recovery.specs.{Files.is_foreign, declared.disk.Folded.Folded, declared.fault.OpenFault.OpenFault}
-use Rattle.editor_recovery.specs.{Bounds.IsValidParts, Finding.ArePartsOf, Finding.IsValidFolded}
+use Rattle.editor_recovery.proofs.Common.{◌≡◌, ℕ, ◌≤◌, List, Result, Ok, Err, sym, ap, subst, ◌∙◌, arith}
+use Rattle.editor_recovery.proofs.Common.{recursion_from_All, IfOk, find, All, AllByRecursion, count_of, history_blocks}
+use Rattle.editor_recovery.proofs.Common.{Track, HaveOneLength, is_foreign, Folded, OpenFault, ArePartsOf}
+use Rattle.editor_recovery.proofs.Common.{IsValidFolded, History, IsValidTagged, Parts}
+use Rattle.std.proofs.lemmas.List.Elements.{All-weaker}
+use Rattle.std.specs.{Prelude.None}
+use Rattle.editor_recovery.specs.{Bounds.IsValidParts}
 use Rattle.editor_recovery.proofs.{Ledgers.given, Plain.valid_back}
-use Rattle.pcm_base.specs.History.{History}
 use Rattle.project_journal.specs.Header.{IsFormat}
 use Rattle.layout_uses.specs.Drawing.{IsNumbered}
-use Rattle.record_body.specs.SavedValid.{IsValidTagged}
 use Rattle.record_body.proofs.SavedBounds.{tagged_more}
-use Rattle.editor_core.specs.declared.assembly.Parts.{Parts}
 
 pub format_of : (rate rate' size size' depth depth' : ℕ) → rate ≡ rate' → size ≡ size' → depth ≡ depth'
     → IsFormat rate' size' depth' → IsFormat rate size depth

@@ -1,3 +1,4 @@
+mod Common
 -- What holds of each element of a list, and of a studio over another store.
 pub mod Lists
 pub mod SameStudios

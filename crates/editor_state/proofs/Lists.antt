@@ -1,7 +1,6 @@
 -- Facts on each element of a list.
-use Rattle.std.proofs.Common.{List, [], ◌∷◌, ◌++◌, take, drop, ℕ, zero, suc, flat_map}
-use Rattle.std.specs.List.{AllByRecursion}
-use Rattle.record_body.proofs.SavedBounds.{all_append}
+use Rattle.editor_state.proofs.Common.{List, [], ◌∷◌, ◌++◌, take, drop, ℕ, zero, suc, flat_map, AllByRecursion}
+use Rattle.editor_state.proofs.Common.{all_append}
 use Rattle.project_state.proofs.Meanings.{all_parts}
 
 module _ {X : Type 0} (P : X → Type 0) where

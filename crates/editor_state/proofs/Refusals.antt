@@ -1,4 +1,5 @@
 -- What refuses a call, which numbers it says, and what a refusal leaves.
+pub mod Tests
 pub mod CommitTests
 pub mod CallTests
 pub mod DamageTests

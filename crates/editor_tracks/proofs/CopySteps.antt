@@ -1,55 +1,38 @@
 -- A copy is a step: other strips come into the clipboard.
-use Rattle.std.proofs.Common.{◌≡◌, ◌⊎◌, inl, inr, ⊎_elim, refl, sym, ap, ◌∙◌, subst, ℕ, ◌^◌, ◌≤◌, ◌<◌, Bool, true}
-use Rattle.std.proofs.Common.{false, not, nat_lt, nat_le, ◌&&◌, List, ◌++◌, length, map, take, Option, Some, None, Ok}
-use Rattle.std.proofs.Common.{Err, arith}
-use Rattle.std.proofs.{lemmas.Bool.Decides.leb_tells, lemmas.List.length-map, lemmas.Option.none-some}
-use Rattle.std.specs.List.{AllByRecursion}
-use Rattle.pcm_base.specs.Cells.{Project, tracks_from, longest}
-use Rattle.pcm_base.specs.Refusals.{◌otherwise◌, call_tests, refused_if, too_narrow, bad_range}
-use Rattle.pcm_base.specs.{declared.answer.Reply.TheVariants.Copied, declared.block.BlockRef.BlockRef}
-use Rattle.pcm_base.specs.{declared.command.Call.Call, declared.command.Call.TheVariants.Line}
-use Rattle.pcm_base.specs.{declared.refusal.Refusal.Refusal, Edits.range_of, Pieces.Sources, Run.outside, Run.stop_of}
-use Rattle.pcm_base.specs.{State.current, Step.after, Step.copied}
-use Rattle.disk_model.specs.declared.store.Store.{Ghosts}
-use Rattle.disk_model.proofs.Frames.{Fewer}
+use Rattle.editor_tracks.proofs.Common.{◌≡◌, ◌⊎◌, inl, inr, refl, sym, ap, ◌∙◌, subst, ℕ, ◌^◌, ◌≤◌, ◌<◌, Bool, rules}
+use Rattle.editor_tracks.proofs.Common.{not, nat_lt, nat_le, ◌&&◌, List, ◌++◌, length, map, take, Option, Some, None}
+use Rattle.editor_tracks.proofs.Common.{Ok, Err, arith, leb_tells, length-map, none-some, AllByRecursion, Project}
+use Rattle.editor_tracks.proofs.Common.{tracks_from, longest, ◌otherwise◌, call_tests, refused_if, too_narrow}
+use Rattle.editor_tracks.proofs.Common.{bad_range, BlockRef, Call, Line, Refusal, Sources, outside, stop_of, current}
+use Rattle.editor_tracks.proofs.Common.{after, copied, Ghosts, Fewer, Clip, Item, strip_cells, longest_of, copy_tests}
+use Rattle.editor_tracks.proofs.Common.{AreCopies, meant_track, history_blocks, Track, track_of, current_tracks}
+use Rattle.editor_tracks.proofs.Common.{AllValidTracks, all_append, RunRange, run_of, Copies, strips_blocks}
+use Rattle.editor_tracks.proofs.Common.{IsClipboard, IsStudio, clip_blocks, pin_blocks, named_blocks, studio_of, Took}
+use Rattle.editor_tracks.proofs.Common.{quietly, silent, Core, lacks, HasLayout, all_left, all_right, current_valid}
+use Rattle.editor_tracks.proofs.Common.{old_names}
+use Rattle.pcm_base.specs.{declared.answer.Reply.TheVariants.Copied}
 use Rattle.sample_block.specs.Sources.{sources_of}
 use Rattle.block_ledger.specs.Counts.{Counts, occurrences}
-use Rattle.clip_track.specs.{declared.clips.Clip.Clip, declared.items.Item.Item, Items.strip_cells}
-use Rattle.edit_ops.specs.Runs.{longest_of, copy_tests, AreCopies}
-use Rattle.project_state.specs.Meaning.{meant_track, history_blocks}
-use Rattle.project_state.specs.{declared.track.Track.Track, Tracks.track_of}
-use Rattle.record_body.specs.{Saved.current_tracks, Valid.AllValidTracks}
-use Rattle.record_body.proofs.SavedBounds.{all_append}
-use Rattle.editor_tracks.specs.declared.run_range.RunRange.{RunRange}
-use Rattle.editor_tracks.specs.Copies.{run_of, Copies, strips_blocks}
-use Rattle.editor_state.specs.Studios.{IsClipboard, IsStudio, clip_blocks, pin_blocks, named_blocks, studio_of}
 use Rattle.editor_state.specs.Studios.{studio_tracks}
-use Rattle.editor_state.specs.Took.{Took, quietly, silent}
-use Rattle.editor_state.specs.{Core.Core, Occurrences.HasAll, Occurrences.Moves, Points.lacks, Reads.HasLayout}
+use Rattle.editor_state.specs.{Occurrences.HasAll, Occurrences.Moves}
 use Rattle.editor_state.proofs.Blocks.NamedBlocks.{counted_most, others_counted, others_moved}
 use Rattle.editor_state.proofs.Calls.NameChanges.{renamed, Renames, renamed_took}
 use Rattle.editor_state.proofs.Calls.QuietCalls.{IsQuiet, quiet_passes, carried, room_of, refused_own, refused_stopped}
 use Rattle.editor_state.proofs.Calls.QuietCalls.{refused_wanting}
-use Rattle.editor_state.proofs.{Blocks.BlockNumbers.named_few, Blocks.BlockNumbers.named_most, Lists.all_left}
-use Rattle.editor_state.proofs.{Lists.all_right, Refusals.CommitTests.fits, Refusals.EarlyRefusals.stopped_not}
+use Rattle.editor_state.proofs.{Blocks.BlockNumbers.named_few, Blocks.BlockNumbers.named_most}
+use Rattle.editor_state.proofs.{Refusals.CommitTests.fits, Refusals.EarlyRefusals.stopped_not}
 use Rattle.editor_tracks.proofs.CopyStrips.{from_track, layout_of, run_meant, run_is, from_valid, from_few, from_blocks}
 use Rattle.editor_tracks.proofs.CopyStrips.{longest_is, longest_most, copies_mean, copies_few, copies_fit, copies_short}
 use Rattle.editor_tracks.proofs.CopyStrips.{copies_all}
 use Rattle.editor_commits.proofs.CursorTracks.{track_there}
-use Rattle.editor_commits.proofs.CurrentProject.{current_valid, current_meant, track_is, old_names}
+use Rattle.editor_commits.proofs.CurrentProject.{current_meant, track_is}
 use Rattle.pcm_base.specs.declared.command.Command.TheVariants as command
 use Rattle.pcm_base.specs.declared.refusal.Refusal.TheVariants as refusal
-use Rattle.pcm_base.specs.Cells as cells
 use Rattle.pcm_base.specs.Studio as model
 
 -- a range that is not refused ends by the end
 ends_by : (a : Bool) (to len : ℕ) → refused_if (not (a && nat_le to len)) refusal.BadRange ≡ None → to ≤ len
-ends_by a to len none = ⊎_elim (λ le. le.1) (λ lt. absurd (beyond a (nat_le to len) lt.0 none)) (leb_tells to len)
-  where
-    beyond : (a b : Bool) → b ≡ false → refused_if (not (a && b)) refusal.BadRange ≡ None → ⊥
-    beyond true true e f = absurd (cc e)
-    beyond true false e f = none-some refusal.BadRange (sym f)
-    beyond false b e f = none-some refusal.BadRange (sym f)
+ends_by a to len none = search (rules, nat_le, leb_tells, none-some)
 
 second : (a b : Option Refusal) → a otherwise b ≡ None → b ≡ None
 second None b e = e
@@ -81,13 +64,7 @@ module _ {D : Type 0} (disk : Ghosts D) (s : Core D) (is : IsStudio disk s) (ran
   line = Line (command.Copy id n from to)
 
   copy_quiet : IsQuiet line
-  copy_quiet = record {
-    needs = λ t. (refl, refl);
-    no_commit = refl;
-    no_track = λ t. refl;
-    no_layout = λ t. refl;
-    quiet = λ t. refl;
-  }
+  copy_quiet = search rules
 
   abbrev rest_tests : Project → Option Refusal
   rest_tests p =
@@ -146,29 +123,13 @@ module _ {D : Type 0} (disk : Ghosts D) (s : Core D) (is : IsStudio disk s) (ran
       strips_named P all = copies_all P from to n run v copies_of (from_blocks P id ts (old_names disk s is P all))
 
       range_most : to ≤ 2 ^ 32
-      range_most =
-          let len = longest_of (take n (run_of id ts)) in
-          let good = second (too_narrow (length (run_of id ts)) n) (bad_range from to len) copies.0 in
-          omega (
-            arith,
-            ends_by (nat_lt from to) to len good,
-            ap (λ (z : List (List Clip)). longest_of (take n z)) layouts,
-            longest_most s.block_size s.next_block s.next_track n run valid_run,
-          )
+      range_most = search (rules, second, ends_by, nat_lt, layouts, longest_most, valid_run)
 
       pub may_paste : IsClipboard s.block_size v
-      may_paste = record {
-        few = strips_few;
-        short = copies_short from to n run v range_most copies_of;
-        fits = copies_fit s.block_size s.next_block s.next_track from to n run v copies_of valid_run;
-      }
+      may_paste = search (rules, strips_few, copies_short, range_most, copies_of, fits, copies_fit, valid_run)
 
       meaning : map (strip_cells src) v ≡ copied id n from to (current t.state)
-      meaning =
-          copies_mean src from to n run v copies_of
-          ∙ ap (λ (p : Project). map (λ (t : cells.Track). range_of from to t.cells) (take n p))
-          (sym (run_meant src id ts))
-          ∙ ap (copied id n from to) (sym (current_meant disk s is))
+      meaning = search (rules, copies_mean, copies_of, run_meant, current_meant)
 
       module _ (counts : Counts) (moves : Moves s.counts counts (clip_blocks s.clipboard) (strips_blocks v))
           (most : length (strips_blocks v) ≤ 2 ^ 71) where

@@ -1,23 +1,15 @@
 -- What is copied is a range of each track of the run.
-use Rattle.std.proofs.Common.{◌≡◌, ⊎_elim, refl, sym, ap, ◌∙◌, subst, ℕ, zero, suc, ◌+◌, ◌^◌, ◌≤◌, ◌<◌, max, ◌==◌}
-use Rattle.std.proofs.Common.{if◌then◌else◌, List, [], ◌∷◌, ◌++◌, length, map, take, flat_map, Some, get_or, arith}
-use Rattle.std.proofs.lemmas.Bool.{ne_eqb, le-leb, lt-leb}
-use Rattle.std.proofs.{lemmas.Bool.Decides.eqb_tells, lemmas.Option.none-some}
-use Rattle.std.specs.List.{AllByRecursion}
-use Rattle.pcm_base.specs.declared.piece.Piece.TheVariants.{Old, Scaled, Zero, Given}
-use Rattle.pcm_base.specs.Cells.{tracks_from, longest}
-use Rattle.pcm_base.specs.{declared.block.BlockRef.BlockRef, Edits.range_of, Pieces.Sources}
-use Rattle.clip_track.specs.declared.items.Item.TheVariants.{Gap, Sound}
-use Rattle.clip_track.specs.Items.{strip_cells, strip_len, strip_blocks, item_blocks, AreItems}
-use Rattle.clip_track.specs.{declared.clips.Clip.Clip, declared.items.Item.Item, Clips.layout_blocks}
-use Rattle.clip_track.proofs.Layouts.{length-layout}
-use Rattle.edit_ops.specs.{Runs.longest_of, Runs.AreCopies, Runs.AreClips, Strips.ItemsFrom}
-use Rattle.project_state.specs.{declared.track.Track.Track, Meaning.meant, Meaning.point_blocks, Tracks.AreAbove}
-use Rattle.project_state.specs.{Tracks.track_of}
-use Rattle.record_body.specs.Valid.{AllValidTracks}
-use Rattle.record_body.proofs.SavedBounds.{all_append}
-use Rattle.editor_tracks.specs.Copies.{run_of, strips_blocks}
-use Rattle.editor_state.proofs.Lists.{all_left, all_right}
+use Rattle.editor_tracks.proofs.Common.{◌≡◌, ⊎_elim, refl, sym, ap, ◌∙◌, subst, ℕ, zero, suc, ◌+◌, ◌^◌, ◌≤◌, ◌<◌, ◌==◌}
+use Rattle.editor_tracks.proofs.Common.{if◌then◌else◌, List, [], ◌∷◌, ◌++◌, length, map, take, Some, get_or, arith}
+use Rattle.editor_tracks.proofs.Common.{ne_eqb, le-leb, lt-leb, eqb_tells, none-some, AllByRecursion, Old, Scaled, Zero}
+use Rattle.editor_tracks.proofs.Common.{Given, tracks_from, longest, BlockRef, range_of, Sources, Gap, Sound}
+use Rattle.editor_tracks.proofs.Common.{strip_cells, strip_len, strip_blocks, AreItems, Clip, Item, layout_blocks}
+use Rattle.editor_tracks.proofs.Common.{length-layout, longest_of, AreCopies, AreClips, Track, meant, point_blocks}
+use Rattle.editor_tracks.proofs.Common.{AreAbove, track_of, AllValidTracks, all_append, run_of, strips_blocks, all_left}
+use Rattle.editor_tracks.proofs.Common.{all_right}
+use Rattle.std.proofs.Common.{max, flat_map}
+use Rattle.clip_track.specs.Items.{item_blocks}
+use Rattle.edit_ops.specs.{Strips.ItemsFrom}
 use Rattle.pcm_base.specs.Cells as cells
 
 -- ---- the blocks of a strip

@@ -1,30 +1,20 @@
 -- A range of a run that is taken out into the clipboard, as an edit that makes blocks.
-use Rattle.std.proofs.Common.{◌≡◌, ⊎_elim, refl, sym, ap, ◌∙◌, subst, ℕ, zero, suc, ◌*◌, ◌^◌, ◌≤◌, nat_lt, Bool, true}
-use Rattle.std.proofs.Common.{false, Option, Some, None, List, [], ◌∷◌, length, length-append, map, take, replicate}
-use Rattle.std.proofs.Common.{Contains, arith}
-use Rattle.std.proofs.{lemmas.Bool.ltb-false, lemmas.List.length-map, lemmas.Option.none-some}
-use Rattle.std.specs.List.{AllByRecursion}
-use Rattle.pcm_base.specs.Refusals.{◌otherwise◌, bad_range, is_empty, refused_if, too_narrow}
-use Rattle.pcm_base.specs.{declared.block.BlockRef.BlockRef, declared.refusal.Refusal.Refusal, declared.sound.Cell.Cell}
-use Rattle.pcm_base.specs.{Cells.Project, Cells.longest, Cells.tracks_from, Pieces.Sources}
-use Rattle.disk_model.specs.declared.store.Store.{Ghosts}
-use Rattle.clip_track.specs.Items.{AreItems, strip_blocks, strip_len}
-use Rattle.clip_track.specs.{declared.clips.Clip.Clip, declared.items.Item.Item, Clips.layout_blocks}
-use Rattle.edit_ops.specs.Runs.{AllTracksHalfFull, AreCuts, copy_tests, longest_of, start_behind}
-use Rattle.edit_ops.specs.{declared.types.Plan.Plan, Plans.Start}
-use Rattle.envelope_view.specs.Answers.{IsUndamaged}
-use Rattle.project_state.specs.Meaning.{meant, meant_track, point_blocks}
-use Rattle.project_state.specs.{declared.track.Track.Track, Tracks.AreAbove, Tracks.track_of}
-use Rattle.record_body.specs.{Saved.current_tracks, Valid.AllValidTracks}
+use Rattle.editor_tracks.proofs.Common.{◌≡◌, refl, sym, ap, ◌∙◌, subst, ℕ, zero, suc, ◌*◌, ◌^◌, ◌≤◌, nat_lt, rules}
+use Rattle.editor_tracks.proofs.Common.{Option, Some, None, List, [], ◌∷◌, length, length-append, map, take, replicate}
+use Rattle.editor_tracks.proofs.Common.{Contains, arith, length-map, none-some, AllByRecursion, ◌otherwise◌, bad_range}
+use Rattle.editor_tracks.proofs.Common.{is_empty, refused_if, too_narrow, BlockRef, Refusal, Cell, Project, longest}
+use Rattle.editor_tracks.proofs.Common.{tracks_from, Sources, Ghosts, AreItems, strip_blocks, strip_len, Clip, Item}
+use Rattle.editor_tracks.proofs.Common.{layout_blocks, AreCuts, copy_tests, longest_of, start_behind, Plan, Start}
+use Rattle.editor_tracks.proofs.Common.{IsUndamaged, meant, meant_track, point_blocks, Track, AreAbove, track_of}
+use Rattle.editor_tracks.proofs.Common.{current_tracks, AllValidTracks, run_of, strips_blocks, RunRange, NoCutPlan}
+use Rattle.editor_tracks.proofs.Common.{Core, AreAmong, lacks, IsStudio, current_valid, lacks_is, all_left, all_right}
+use Rattle.editor_tracks.proofs.Common.{TellsNone, either_tells, lacks_tells, tests_tell}
+use Rattle.std.proofs.{lemmas.Bool.ltb-false}
+use Rattle.edit_ops.specs.Runs.{AllTracksHalfFull}
 use Rattle.model_laws.proofs.OwnTests.{both_passed, not_refused}
-use Rattle.editor_tracks.specs.{Copies.run_of, Copies.strips_blocks, declared.run_range.RunRange.RunRange}
-use Rattle.editor_tracks.specs.{Cuts.NoCutPlan, Cuts.cut_refusal}
-use Rattle.editor_state.specs.{Core.Core, Edits.AreAmong, Points.lacks, Studios.IsStudio}
 use Rattle.editor_tracks.proofs.CopyStrips.{from_valid, from_track, items_few, layout_of, longest_is, run_is, run_meant}
 use Rattle.editor_tracks.proofs.RunPlans.{AreLaid, CellEdit, edits_at, plan_more}
-use Rattle.editor_commits.proofs.{CurrentProject.current_valid, TrackChanges.lacks_is}
-use Rattle.editor_state.proofs.Lists.{all_left, all_right}
-use Rattle.editor_state.proofs.Refusals.DamageTests.{TellsNone, either_tells, lacks_tells, range_tells, tests_tell}
+use Rattle.editor_state.proofs.Refusals.DamageTests.{range_tells}
 use Rattle.pcm_base.specs.declared.refusal.Refusal.TheVariants as refusal
 
 -- ---- the run
@@ -105,27 +95,11 @@ strips_short (x ∷ xs) items short =
 -- ---- what refuses it
 
 pub narrow_tells : (have need : ℕ) → TellsNone (too_narrow have need)
-narrow_tells have need = by (nat_lt have need)
-  where
-    by : (b : Bool) → TellsNone (refused_if b (refusal.TooNarrow have need))
-    by true = tt
-    by false = tt
+narrow_tells have need = search (rules, nat_lt)
 
 pub no_cut_tells : {D : Type 0} (range : RunRange) (s : Core D) (why : Refusal) → NoCutPlan range s why
     → IsUndamaged why
-no_cut_tells range s why not =
-    let ts = current_tracks s.history in
-    let run = run_of range.track ts in
-    let long = longest_of (take range.count run) in
-    let lack = lacks range.track (track_of range.track ts) in
-    let narrow = too_narrow (length run) range.count in
-    let bad = bad_range range.from range.to long in
-    ⊎_elim
-    (λ own. tests_tell (cut_refusal range ts) why
-    (either_tells lack (narrow otherwise bad) (lacks_tells range.track (track_of range.track ts))
-    (either_tells narrow bad (narrow_tells (length run) range.count) (range_tells range.from range.to long))) own)
-    (λ memory. subst IsUndamaged (sym memory) tt)
-    not
+no_cut_tells range s why not = search (rules, tests_tell, either_tells, lacks_tells, narrow_tells, range_tells)
 
 -- the tests of the model's state are those of the run
 pub run_tests_are : (src : Sources) (id n from to m next track : ℕ) (ts : List Track) → AreAbove 1 ts
@@ -134,10 +108,7 @@ pub run_tests_are : (src : Sources) (id n from to m next track : ℕ) (ts : List
     (too_narrow (length (tracks_from id (meant src ts))) n)
     otherwise (bad_range from to (longest (take n (tracks_from id (meant src ts))))))
     ≡ ((lacks id o) otherwise (copy_tests (run_of id ts) n from to))
-run_tests_are src id n from to m next track ts above valid None found =
-    let first = lacks_is src id ts ∙ ap (lacks id) found in
-    let rest = tracks_from id (meant src ts) in
-    λ i. (first i) otherwise (too_narrow (length rest) n) otherwise (bad_range from to (longest (take n rest)))
+run_tests_are src id n from to m next track ts above valid None found = search (rules, lacks_is)
 run_tests_are src id n from to m next track ts above valid (Some t) found =
     let first = lacks_is src id ts ∙ ap (lacks id) found in
     let run = from_track id ts in

@@ -1,38 +1,23 @@
 -- A planned cut of a run is an edit, and a step.
-use Rattle.std.proofs.Common.{◌≡◌, refl, sym, ap, ◌∙◌, subst, ℕ, ◌+◌, ◌^◌, ◌≤◌, ℤ, Option, Some, None, List, length}
-use Rattle.std.proofs.Common.{map, take, replicate, Contains, Ok, arith}
-use Rattle.std.proofs.lemmas.List.{length-map, length-replicate}
-use Rattle.pcm_base.specs.{declared.block.BlockRef.BlockRef, declared.command.Call.Call}
-use Rattle.pcm_base.specs.{declared.command.Call.TheVariants.Line, declared.sound.Cell.Cell, Cells.Project}
-use Rattle.pcm_base.specs.{Cells.run_edited, Edits.range_of, Edits.removed, History.edited, History.recorded}
-use Rattle.pcm_base.specs.{Pieces.Sources, Refusals.◌otherwise◌, Run.outside, Sizes.blocks_of_tracks, State.current}
-use Rattle.pcm_base.specs.{Step.after, Step.copied, declared.edits.Removing.Removing}
-use Rattle.disk_model.specs.declared.store.Store.{Ghosts}
-use Rattle.disk_model.proofs.Frames.{Fewer}
-use Rattle.clip_track.specs.{declared.clips.Clip.Clip, declared.items.Item.Item}
-use Rattle.edit_ops.specs.{Plans.AreWritten, Runs.AreCopies, Runs.AreCuts, Runs.copy_tests}
-use Rattle.block_writer.specs.{declared.given.Given.TheVariants.Nothing, Bringing.brought, Bringing.brought_by}
-use Rattle.project_state.specs.Meaning.{meant, meant_history, point_blocks}
-use Rattle.project_state.specs.{declared.track.Track.Track, Tracks.track_of}
-use Rattle.record_body.specs.{Saved.current_tracks, SavedValid.IsValidPoint}
-use Rattle.project_state.proofs.MeantHistories.{meant_recorded}
-use Rattle.layout_uses.specs.Drawing.{HasNumbers}
-use Rattle.editor_state.specs.Edits.{AreAmong, IsEdit, IsEditCall, IsPlanned, alone, blocks_with, clip_behind}
-use Rattle.editor_state.specs.Edits.{clip_then, tagged_by}
-use Rattle.editor_state.specs.Studios.{IsClipboard, IsStudio, clip_cells, named_blocks, studio_by}
-use Rattle.editor_state.specs.{declared.planned.Planned.Planned, Core.Core, Points.lacks, Reads.HasLayout, Took.silent}
-use Rattle.editor_tracks.specs.{declared.run_range.RunRange.RunRange, Copies.Copies, Copies.run_of}
-use Rattle.editor_tracks.specs.{Copies.strips_blocks, Cuts.IsCutPlan, Cuts.cut_line, TrackEdits.plan_start}
+use Rattle.editor_tracks.proofs.Common.{◌≡◌, refl, sym, ap, ◌∙◌, subst, ℕ, ◌+◌, ◌^◌, ◌≤◌, ℤ, Option, Some, None, List}
+use Rattle.editor_tracks.proofs.Common.{length, map, take, replicate, Contains, Ok, arith, rules, length-map, BlockRef}
+use Rattle.editor_tracks.proofs.Common.{Call, Line, Cell, run_edited, removed, edited, recorded, Sources, ◌otherwise◌}
+use Rattle.editor_tracks.proofs.Common.{outside, blocks_of_tracks, current, after, copied, Removing, Ghosts, Fewer}
+use Rattle.editor_tracks.proofs.Common.{Clip, Item, AreWritten, AreCuts, copy_tests, Nothing, brought, brought_by}
+use Rattle.editor_tracks.proofs.Common.{meant, meant_history, point_blocks, Track, track_of, current_tracks}
+use Rattle.editor_tracks.proofs.Common.{IsValidPoint, meant_recorded, HasNumbers, AreAmong, IsEdit, IsEditCall}
+use Rattle.editor_tracks.proofs.Common.{IsPlanned, alone, blocks_with, clip_behind, clip_then, tagged_by, IsClipboard}
+use Rattle.editor_tracks.proofs.Common.{IsStudio, clip_cells, named_blocks, studio_by, Planned, Core, lacks, HasLayout}
+use Rattle.editor_tracks.proofs.Common.{silent, RunRange, Copies, run_of, strips_blocks, cut_line, plan_start}
+use Rattle.editor_tracks.proofs.Common.{among_itself, all_left, current_valid, old_names, current_may_read, current_is}
+use Rattle.editor_tracks.proofs.Common.{refs}
+use Rattle.std.proofs.lemmas.List.{length-replicate}
+use Rattle.editor_tracks.specs.{Cuts.IsCutPlan}
 use Rattle.editor_tracks.proofs.CopyStrips.{copies_mean, from_blocks, from_track, layout_of, run_is, run_meant}
 use Rattle.editor_tracks.proofs.CutLaws.{cuts_laid, each_so, same_edits, strips_short, there_of, wide}
 use Rattle.editor_tracks.proofs.CutRefusals.{after_by, cut_call, draws_by, own_is}
 use Rattle.editor_tracks.proofs.{CopySteps.may_paste, CopySteps.strips_named, RunLaws.run_few, RunLaws.run_planned}
 use Rattle.editor_tracks.proofs.{RunLaws.run_point, RunPlans.AreLaid, RunPlans.CellEdit, RunPlans.laid_many}
-use Rattle.editor_state.proofs.{Blocks.BlockLists.among_itself, Lists.all_left}
-use Rattle.editor_commits.proofs.CurrentProject.{current_valid, old_names}
-use Rattle.editor_commits.proofs.{CursorTracks.current_may_read, TrackChanges.current_is}
-use Rattle.editor_blocks.proofs.StudioBlocks.{refs}
-use Rattle.pcm_base.specs.Cells as cells
 use Rattle.pcm_base.specs.Studio as model
 
 module _ {D : Type 0} (disk : Ghosts D) (s : Core D) (is : IsStudio disk s) (e : Removing) (range : RunRange)
@@ -113,17 +98,7 @@ module _ {D : Type 0} (disk : Ghosts D) (s : Core D) (is : IsStudio disk s) (e :
 
     -- a layout for each track
     draws : n ≡ planned.layouts
-    draws =
-        let many : n ≤ length (run_of id old) = wide (length (run_of id old)) n _ tests in
-        let tracks : length (run_of id old) ≡ length ran = ap (λ (z : List (List Clip)). length z) layouts
-        ∙ length-map ran layout_of in
-        let each = length-replicate {A = CellEdit} n (λ (src : Sources). f) in
-        omega (
-          arith,
-          laid_many (each_so n f) s.block_size s.next_block xs ran p.plans laid (omega (arith, many, tracks, each)),
-          each,
-          p.laid.count,
-        )
+    draws = search (rules, wide, tests, layouts, length-map, layout_of, length-replicate, laid_many, each_so, laid)
 
     few_made : length makes ≤ blocks_of_tracks n
     few_made =
@@ -142,13 +117,7 @@ module _ {D : Type 0} (disk : Ghosts D) (s : Core D) (is : IsStudio disk s) (e :
       u = studio_by src disk s
 
       clip_means : Some (copied id n from to (current u.state)) ≡ clip_cells src (clip_behind s planned)
-      clip_means =
-          ap (λ (q : Project). Some (copied id n from to q)) (current_is src s.history)
-          ∙ ap (λ (q : Project). Some (map (λ (x : cells.Track). range_of from to x.cells) (take n q)))
-          (run_meant src id old)
-          ∙ sym (ap Some (copies_mean src from to n ran v
-          (subst (λ (z : List (List Clip)). AreCopies from to (take n z) v) layouts p.copies)))
-          ∙ sym (ap (clip_cells src) behind)
+      clip_means = search (rules, current_is, run_meant, copies_mean, layouts, behind)
 
       point_means : AreWritten src makes → run_edited id (replicate n f) (current u.state) ≡ meant src new
       point_means written =

@@ -1,3 +1,6 @@
+mod Common
+-- Calls that edit tracks.
+mod EditCalls
 -- One track.
 pub mod TrackPlans
 pub mod TrackSteps

@@ -1,35 +1,25 @@
 -- The strips of the clipboard that are put into a run, as an edit that makes blocks.
-use Rattle.std.proofs.Common.{◌≡◌, ⊎_elim, refl, sym, ap, ◌∙◌, subst, ℕ, zero, suc, ◌^◌, ◌≤◌, ◌<◌, nat_lt, Bool, true}
-use Rattle.std.proofs.Common.{false, Option, Some, None, List, [], ◌∷◌, ◌++◌, length, map, take, Contains, arith}
-use Rattle.std.proofs.lemmas.List.{length-map}
-use Rattle.std.specs.{Prelude.is_none, Prelude.unwrap_or, List.AllByRecursion}
-use Rattle.pcm_base.specs.declared.piece.Piece.TheVariants.{Old, Scaled, Zero, Given}
-use Rattle.pcm_base.specs.Refusals.{is_empty, length_limit, pasted_lengths, placed_length, refused_if, ◌otherwise◌}
-use Rattle.pcm_base.specs.Refusals.{too_narrow}
-use Rattle.pcm_base.specs.{declared.block.BlockRef.BlockRef, declared.refusal.Refusal.Refusal, declared.sound.Cell.Cell}
-use Rattle.pcm_base.specs.{Cells.Project, Cells.tracks_from, Pieces.Sources, declared.edits.Placing.Placing}
-use Rattle.disk_model.specs.declared.store.Store.{Ghosts}
-use Rattle.sample_block.specs.Sources.{AllNamed, IsNamed}
-use Rattle.clip_track.specs.declared.items.Item.TheVariants.{Gap, Sound}
-use Rattle.clip_track.specs.Items.{AreItems, ItemsFit, strip_blocks, strip_cells, strip_len}
-use Rattle.clip_track.specs.{declared.clips.Clip.Clip, declared.items.Item.Item, Clips.layout_blocks}
-use Rattle.clip_track.proofs.{Layouts.length-layout, Strips.length-strip_cells}
-use Rattle.edit_ops.specs.Runs.{AreClips, ArePastes, clipboard_tests, lengths_of, start_behind}
-use Rattle.edit_ops.specs.{declared.types.Plan.Plan, Placing.SumsFit, Plans.Start}
-use Rattle.envelope_view.specs.Answers.{IsUndamaged}
-use Rattle.project_state.specs.Meaning.{meant, meant_track, point_blocks}
-use Rattle.project_state.specs.{declared.track.Track.Track, Tracks.AreAbove, Tracks.track_of}
-use Rattle.record_body.specs.{Saved.current_tracks, Valid.AllValidTracks}
-use Rattle.record_body.proofs.SavedBounds.{all_append}
-use Rattle.editor_tracks.specs.{Copies.run_of, Copies.strips_blocks, Pastes.NoPastePlan, Pastes.paste_refusal}
-use Rattle.editor_state.specs.Studios.{IsClipboard, IsGiven, IsStudio, MayPaste, clip_cells}
-use Rattle.editor_state.specs.{Core.Core, Edits.AreAmong, Points.lacks}
+use Rattle.editor_tracks.proofs.Common.{◌≡◌, refl, sym, ap, ◌∙◌, subst, ℕ, zero, suc, ◌^◌, ◌≤◌, ◌<◌, nat_lt, Bool, true}
+use Rattle.editor_tracks.proofs.Common.{rules, false, Option, Some, None, List, [], ◌∷◌, ◌++◌, length, map, take}
+use Rattle.editor_tracks.proofs.Common.{Contains, arith, length-map, unwrap_or, AllByRecursion, Old, Scaled, Zero}
+use Rattle.editor_tracks.proofs.Common.{Given, is_empty, length_limit, refused_if, ◌otherwise◌, too_narrow, BlockRef}
+use Rattle.editor_tracks.proofs.Common.{Refusal, Cell, Project, tracks_from, Sources, Placing, Ghosts, AllNamed}
+use Rattle.editor_tracks.proofs.Common.{IsNamed, Gap, Sound, AreItems, strip_blocks, strip_cells, strip_len, Clip, Item}
+use Rattle.editor_tracks.proofs.Common.{layout_blocks, length-layout, AreClips, ArePastes, clipboard_tests}
+use Rattle.editor_tracks.proofs.Common.{start_behind, Plan, Start, IsUndamaged, meant, point_blocks, Track, AreAbove}
+use Rattle.editor_tracks.proofs.Common.{track_of, current_tracks, AllValidTracks, all_append, run_of, strips_blocks}
+use Rattle.editor_tracks.proofs.Common.{NoPastePlan, IsClipboard, IsGiven, IsStudio, MayPaste, clip_cells, Core}
+use Rattle.editor_tracks.proofs.Common.{AreAmong, lacks, current_valid, lacks_is, all_left, all_right, TellsNone}
+use Rattle.editor_tracks.proofs.Common.{either_tells, lacks_tells, tests_tell}
+use Rattle.std.specs.{Prelude.is_none}
+use Rattle.pcm_base.specs.Refusals.{pasted_lengths}
+use Rattle.clip_track.specs.Items.{ItemsFit}
+use Rattle.clip_track.proofs.{Strips.length-strip_cells}
+use Rattle.edit_ops.specs.Runs.{lengths_of}
+use Rattle.edit_ops.specs.{Placing.SumsFit}
 use Rattle.editor_tracks.proofs.CopyStrips.{from_valid, from_track, layout_of, run_is, run_meant}
 use Rattle.editor_tracks.proofs.CutLaws.{narrow_tells}
 use Rattle.editor_tracks.proofs.RunPlans.{AreLaid, CellEdit, edits_at, plan_more}
-use Rattle.editor_commits.proofs.{CurrentProject.current_valid, TrackChanges.lacks_is}
-use Rattle.editor_state.proofs.Lists.{all_left, all_right}
-use Rattle.editor_state.proofs.Refusals.DamageTests.{TellsNone, either_tells, lacks_tells, tests_tell}
 use Rattle.pcm_base.specs.declared.refusal.Refusal.TheVariants as refusal
 
 -- ---- the strips and the tracks that they go to
@@ -154,22 +144,11 @@ limits_tell (len ∷ lens) = either_tells (refused_if (nat_lt (2 ^ 32) len) (ref
 clip_tells : (f : ℕ → ℕ → ℕ) (clip : Option (List (List Item))) (run : List (List Clip))
     → TellsNone (clipboard_tests f clip run)
 clip_tells f None run = tt
-clip_tells f (Some v) run =
-    either_tells (too_narrow (length run) (length v)) (length_limit (lengths_of f v run))
-    (narrow_tells (length run) (length v)) (limits_tell (lengths_of f v run))
+clip_tells f (Some v) run = search (rules, either_tells, narrow_tells, limits_tell)
 
 pub no_paste_tells : {D : Type 0} (e : Placing) (id at : ℕ) (s : Core D) (why : Refusal)
     → NoPastePlan e id at s why → IsUndamaged why
-no_paste_tells e id at s why not =
-    let clip = s.clipboard in
-    let ts = current_tracks s.history in
-    let lack = lacks id (track_of id ts) in
-    let board = clipboard_tests (placed_length e at) clip (run_of id ts) in
-    ⊎_elim
-    (λ own. tests_tell (paste_refusal e id at clip ts) why (either_tells lack board (lacks_tells id (track_of id ts))
-    (clip_tells (placed_length e at) clip (run_of id ts))) own)
-    (λ memory. subst IsUndamaged (sym memory) tt)
-    not
+no_paste_tells e id at s why not = search (rules, tests_tell, either_tells, lacks_tells, clip_tells)
 
 -- ---- the tests of the model's state are those of the run
 
@@ -199,25 +178,7 @@ pub line_tests_are : (src : Sources) (f : ℕ → ℕ → ℕ) (id m next track 
     → (o : Option Track) → track_of id ts ≡ o
     → line_tests f id (clip_cells src clip) (unwrap_or (clip_cells src clip) []) (meant src ts)
     ≡ ((lacks id o) otherwise (clipboard_tests f clip (run_of id ts)))
-line_tests_are src f id m next track None ts above valid o found =
-    let first = lacks_is src id ts ∙ ap (lacks id) found in
-    λ i. (first i) otherwise (Some refusal.EmptyClipboard)
-line_tests_are src f id m next track (Some v) ts above valid None found =
-    let first = lacks_is src id ts ∙ ap (lacks id) found in
-    let lists = map (strip_cells src) v in
-    let rest = tracks_from id (meant src ts) in
-    λ i. (first i) otherwise (too_narrow (length rest) (length lists)) otherwise
-    (length_limit (pasted_lengths f lists rest))
+line_tests_are src f id m next track None ts above valid o found = search (rules, lacks_is)
+line_tests_are src f id m next track (Some v) ts above valid None found = search (rules, lacks_is)
 line_tests_are src f id m next track (Some v) ts above valid (Some t) found =
-    let first = lacks_is src id ts ∙ ap (lacks id) found in
-    let lists = map (strip_cells src) v in
-    let run = from_track id ts in
-    let mean = run_meant src id ts in
-    let layouts = run_is id 1 ts t above found in
-    let few : length (tracks_from id (meant src ts)) ≡ length (run_of id ts) =
-    ap length mean ∙ length-map run (meant_track src) ∙ sym (ap length layouts ∙ length-map run layout_of) in
-    let many : length lists ≡ length v = length-map v (strip_cells src) in
-    let lengths : pasted_lengths f lists (tracks_from id (meant src ts)) ≡ lengths_of f v (run_of id ts) =
-    ap (pasted_lengths f lists) mean ∙ lengths_are src f m next track v run (from_valid m next track id ts valid)
-    ∙ sym (ap (lengths_of f v) layouts) in
-    λ i. (first i) otherwise (too_narrow (few i) (many i)) otherwise (length_limit (lengths i))
+    search (rules, lacks_is, from_track, run_meant, run_is, length-map, layout_of, lengths_are, from_valid)

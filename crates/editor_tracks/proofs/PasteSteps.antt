@@ -1,40 +1,24 @@
 -- A planned paste is an edit, and a step.
-use Rattle.std.proofs.Common.{◌≡◌, refl, sym, ap, ◌∙◌, subst, ℕ, ◌+◌, ◌≤◌, ℤ, Option, Some, None, List, [], ◌++◌}
-use Rattle.std.proofs.Common.{length, map, take, Contains, arith}
-use Rattle.std.proofs.lemmas.List.{length-map}
-use Rattle.std.specs.{Prelude.unwrap_or, List.AllByRecursion}
-use Rattle.pcm_base.specs.{declared.block.BlockRef.BlockRef, declared.command.Call.Call}
-use Rattle.pcm_base.specs.{declared.command.Call.TheVariants.Line, declared.sound.Cell.Cell, Cells.run_edited}
-use Rattle.pcm_base.specs.{History.edited, History.recorded, Pieces.Sources, Run.outside, Sizes.blocks_of_tracks}
-use Rattle.pcm_base.specs.{State.clip_of, State.current, Step.after, declared.edits.Placing.Placing, Edits.placed}
-use Rattle.pcm_base.specs.{Refusals.◌otherwise◌, Refusals.placed_length, Shape.paste_line}
-use Rattle.disk_model.specs.declared.store.Store.{Ghosts}
-use Rattle.sample_block.specs.Sources.{AllNamed, IsNamed}
-use Rattle.clip_track.specs.{declared.clips.Clip.Clip, declared.items.Item.Item, Items.strip_cells}
-use Rattle.edit_ops.specs.{Plans.AreWritten, Runs.ArePastes, Runs.clipboard_tests}
-use Rattle.block_writer.specs.{declared.given.Given.TheVariants.Nothing, Bringing.brought, Bringing.brought_by}
-use Rattle.project_state.specs.Meaning.{history_blocks, meant, meant_history, point_blocks}
-use Rattle.project_state.specs.{declared.track.Track.Track, Tracks.track_of}
-use Rattle.record_body.specs.{Saved.current_tracks, SavedValid.IsValidPoint}
-use Rattle.record_body.proofs.SavedBounds.{all_append}
-use Rattle.project_state.proofs.MeantHistories.{meant_recorded}
-use Rattle.layout_uses.specs.Drawing.{HasNumbers}
-use Rattle.editor_state.specs.Edits.{AreAmong, IsEdit, IsEditCall, IsPlanned, alone, blocks_with, clip_behind}
-use Rattle.editor_state.specs.Edits.{clip_then, tagged_by}
-use Rattle.editor_state.specs.Studios.{IsClipboard, IsGiven, IsStudio, MayPaste, clip_blocks, clip_cells, named_blocks}
-use Rattle.editor_state.specs.Studios.{pin_blocks, studio_by}
-use Rattle.editor_state.specs.{declared.planned.Planned.Planned, Core.Core, Points.lacks, Took.silent}
-use Rattle.editor_tracks.specs.{Copies.run_of, Copies.strips_blocks, Pastes.IsPastePlan, TrackEdits.plan_start}
-use Rattle.editor_state.proofs.{Blocks.BlockLists.among_itself, Lists.all_left, Lists.all_right}
+use Rattle.editor_tracks.proofs.Common.{◌≡◌, refl, sym, ap, ◌∙◌, subst, ℕ, ◌+◌, ◌≤◌, ℤ, Option, Some, None, List, []}
+use Rattle.editor_tracks.proofs.Common.{◌++◌, rules, length, map, take, Contains, arith, length-map, unwrap_or}
+use Rattle.editor_tracks.proofs.Common.{AllByRecursion, BlockRef, Call, Line, Cell, run_edited, edited, recorded}
+use Rattle.editor_tracks.proofs.Common.{Sources, outside, blocks_of_tracks, clip_of, current, after, Placing, placed}
+use Rattle.editor_tracks.proofs.Common.{placed_length, paste_line, Ghosts, AllNamed, IsNamed, Clip, Item, strip_cells}
+use Rattle.editor_tracks.proofs.Common.{AreWritten, ArePastes, clipboard_tests, Nothing, brought, brought_by}
+use Rattle.editor_tracks.proofs.Common.{history_blocks, meant, meant_history, point_blocks, Track, track_of}
+use Rattle.editor_tracks.proofs.Common.{current_tracks, IsValidPoint, all_append, meant_recorded, HasNumbers, AreAmong}
+use Rattle.editor_tracks.proofs.Common.{IsEdit, IsEditCall, IsPlanned, alone, blocks_with, clip_behind, clip_then}
+use Rattle.editor_tracks.proofs.Common.{tagged_by, IsClipboard, IsGiven, IsStudio, MayPaste, clip_blocks, clip_cells}
+use Rattle.editor_tracks.proofs.Common.{named_blocks, pin_blocks, studio_by, Planned, Core, silent, run_of}
+use Rattle.editor_tracks.proofs.Common.{strips_blocks, plan_start, among_itself, all_left, all_right, current_valid}
+use Rattle.editor_tracks.proofs.Common.{old_names, current_may_read, current_is, refs}
+use Rattle.editor_tracks.specs.{Pastes.IsPastePlan}
 use Rattle.editor_tracks.proofs.CopyStrips.{from_blocks, from_track, layout_of, run_is}
 use Rattle.editor_tracks.proofs.CutLaws.{there_of, wide}
 use Rattle.editor_tracks.proofs.RunLaws.{run_few, run_planned, run_point}
 use Rattle.editor_tracks.proofs.RunPlans.{AreLaid, CellEdit, edits_at, laid_many}
 use Rattle.editor_tracks.proofs.PasteLaws.{each_strip, pastes_laid, same_edits, strips_may_read}
 use Rattle.editor_tracks.proofs.PasteRefusals.{after_by, draws_by, own_is, paste_call}
-use Rattle.editor_commits.proofs.CurrentProject.{current_valid, old_names}
-use Rattle.editor_commits.proofs.{CursorTracks.current_may_read, TrackChanges.current_is}
-use Rattle.editor_blocks.proofs.StudioBlocks.{refs}
 use Rattle.pcm_base.specs.Studio as model
 
 module _ {D : Type 0} (disk : Ghosts D) (s : Core D) (is : IsStudio disk s) (e : Placing) (id at : ℕ) where
@@ -88,10 +72,7 @@ module _ {D : Type 0} (disk : Ghosts D) (s : Core D) (is : IsStudio disk s) (e :
         subst (λ (z : Option (List (List Item))). AllByRecursion P (clip_blocks z)) p.clip_is (clip_all P all)
 
     xs_named : AreAmong (named_blocks s) xs
-    xs_named =
-        let C : BlockRef → Type 0 = Contains (named_blocks s) in
-        let all = among_itself (named_blocks s) in
-        all_append C (point_blocks old) (strips_blocks v) (old_names disk s is C all) (strips_all C all)
+    xs_named = search (rules, among_itself, all_append, old_names, strips_all)
 
     board : IsClipboard s.block_size v
     board = subst (MayPaste s.block_size) p.clip_is is.clipboard
@@ -135,24 +116,7 @@ module _ {D : Type 0} (disk : Ghosts D) (s : Core D) (is : IsStudio disk s) (e :
 
       -- a layout for each track
       draws : length (clip_of u.state) ≡ planned.layouts
-      draws =
-          let run = run_of id old in
-          let tests : clipboard_tests (placed_length e at) (Some v) run ≡ None =
-          ap (λ (z : Option (List (List Item))). clipboard_tests (placed_length e at) z run) (sym p.clip_is)
-          ∙ (λ i. (lacks id (sym found.1 i)) otherwise (clipboard_tests (placed_length e at) s.clipboard run))
-          ∙ p.tests in
-          let many : length v ≤ length run = wide (length run) (length v) _ tests in
-          let tracks : length run ≡ length ran = ap (λ (z : List (List Clip)). length z) layouts
-          ∙ length-map ran layout_of in
-          let each : length fs ≡ length v = length-map v (λ (c : List Item). λ (z : Sources). edit (strip_cells z c)) in
-          let lists_are : length (clip_of u.state) ≡ length v = ap length lists ∙ length-map v (strip_cells src) in
-          omega (
-            arith,
-            lists_are,
-            each,
-            laid_many fs s.block_size s.next_block xs ran p.plans laid (omega (arith, many, tracks, each)),
-            p.laid.count,
-          )
+      draws = search (rules, wide, layouts, length-map, layout_of, lists, laid_many, laid)
 
       few_made : length makes ≤ blocks_of_tracks (length (clip_of u.state))
       few_made =

@@ -1,17 +1,10 @@
 -- The new blocks of plans for a run of tracks stand in what they lay out.
-use Rattle.std.proofs.Common.{◌≡◌, ⊎_elim, sym, subst, ℕ, ◌+◌, if◌then◌else◌, Some, List, [], ◌∷◌}
-use Rattle.std.proofs.{lemmas.Bool.Decides.eqb_tells, lemmas.List.map-append}
-use Rattle.std.specs.List.{AllByRecursion}
-use Rattle.pcm_base.specs.declared.block.BlockRef.{BlockRef}
-use Rattle.clip_track.specs.Clips.{layout_blocks}
-use Rattle.edit_ops.specs.{declared.types.Plan.Plan, Plans.ref_of}
-use Rattle.project_state.specs.{declared.track.Track.Track, Meaning.point_blocks, Tracks.AreAbove, Tracks.track_of}
-use Rattle.record_body.proofs.SavedBounds.{all_append}
-use Rattle.editor_tracks.specs.RunEdits.{laid_from, made_by}
+use Rattle.editor_tracks.proofs.Common.{◌≡◌, ⊎_elim, sym, subst, ℕ, ◌+◌, if◌then◌else◌, Some, List, [], ◌∷◌, rules}
+use Rattle.editor_tracks.proofs.Common.{eqb_tells, map-append, AllByRecursion, BlockRef, layout_blocks, Plan, ref_of}
+use Rattle.editor_tracks.proofs.Common.{Track, point_blocks, AreAbove, track_of, all_append, laid_from, made_by}
+use Rattle.editor_tracks.proofs.Common.{all_left, all_right, refs, new_in}
 use Rattle.editor_tracks.proofs.RunMeaning.{laid_each, laid_run, run_laid}
 use Rattle.editor_tracks.proofs.{CopyStrips.from_track, RunPlans.AreLaid, RunPlans.CellEdit}
-use Rattle.editor_state.proofs.Lists.{all_left, all_right}
-use Rattle.editor_blocks.proofs.{StudioBlocks.refs, LayoutBlocks.new_in}
 
 module _ (P : BlockRef → Type 0) where
   -- of a run of tracks
@@ -59,6 +52,4 @@ module _ (P : BlockRef → Type 0) where
       (ps : List Plan) (number : ℕ) → AreAbove n ts → track_of id ts ≡ Some x → AreLaid fs m next xs
       (from_track id ts) ps
       → AllByRecursion P (point_blocks (laid_from id ps number ts)) → AllByRecursion P (refs (made_by ps))
-  laid_in fs m next xs id n ts x ps number above found laid all =
-      run_in fs m next xs id ts ps number laid
-      (subst (λ (z : List Track). AllByRecursion P (point_blocks z)) (run_laid id n ps number ts x above found) all)
+  laid_in fs m next xs id n ts x ps number above found laid all = search (rules, run_in, run_laid)

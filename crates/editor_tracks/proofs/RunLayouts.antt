@@ -1,11 +1,10 @@
 -- The tracks of a run as they are laid out, one after another, and the numbers of their layouts.
-use Rattle.std.proofs.Common.{◌≡◌, ⊎_elim, inl, inr, refl, sym, ap, ◌∙◌, ℕ, ◌+◌, ◌≤◌, Option, Some, None, List, [], ◌∷◌}
-use Rattle.std.proofs.Common.{◌++◌, arith, IfSome, slice_get, suc, zero}
-use Rattle.std.proofs.lemmas.Bool.Decides.{leb_tells}
-use Rattle.project_state.specs.declared.track.Track.{Track}
-use Rattle.layout_uses.specs.{Drawing.HasNumbers, Laws.IsAmong}
+use Rattle.editor_tracks.proofs.Common.{◌≡◌, ⊎_elim, inl, inr, refl, sym, ap, ◌∙◌, ℕ, ◌+◌, ◌≤◌, Option, Some, None}
+use Rattle.editor_tracks.proofs.Common.{List, [], ◌∷◌, ◌++◌, arith, suc, zero, leb_tells, Track, HasNumbers, laid_from}
+use Rattle.std.proofs.Common.{IfSome, slice_get}
+use Rattle.layout_uses.specs.{Laws.IsAmong}
 use Rattle.layout_uses.proofs.Draws.{numbers_kept, numbers_more}
-use Rattle.editor_tracks.specs.RunEdits.{laid_from, laid_or, next_number}
+use Rattle.editor_tracks.specs.RunEdits.{laid_or, next_number}
 
 -- without plans each track stays
 pub laid_none : (id number : ℕ) (ts : List Track) → laid_from id [] number ts ≡ ts

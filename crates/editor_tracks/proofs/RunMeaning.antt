@@ -1,12 +1,9 @@
 -- What plans for a run of tracks mean.
-use Rattle.std.proofs.Common.{◌≡◌, ⊎_elim, refl, sym, ap, ◌∙◌, subst, ℕ, ◌+◌, ◌≤◌, ◌==◌, if◌then◌else◌, Some, List, []}
-use Rattle.std.proofs.Common.{◌∷◌, arith}
-use Rattle.std.proofs.{lemmas.Bool.ne_eqb, lemmas.Bool.le-leb, lemmas.Bool.lt-leb, lemmas.Bool.Decides.eqb_tells}
-use Rattle.pcm_base.specs.{declared.block.BlockRef.BlockRef, Cells.each_edited, Cells.run_edited, Pieces.Sources}
-use Rattle.edit_ops.specs.{declared.types.Plan.Plan, Plans.AreWritten}
-use Rattle.project_state.specs.{declared.track.Track.Track, Meaning.meant, Meaning.meant_track, Tracks.AreAbove}
-use Rattle.project_state.specs.{Tracks.track_of}
-use Rattle.editor_tracks.specs.{RunEdits.laid_from, RunEdits.made_by, TrackEdits.with_layout}
+use Rattle.editor_tracks.proofs.Common.{◌≡◌, ⊎_elim, refl, sym, ap, ◌∙◌, subst, ℕ, ◌+◌, ◌≤◌, ◌==◌, if◌then◌else◌, Some}
+use Rattle.editor_tracks.proofs.Common.{List, [], ◌∷◌, arith, ne_eqb, le-leb, lt-leb, eqb_tells, BlockRef, run_edited}
+use Rattle.editor_tracks.proofs.Common.{Sources, Plan, AreWritten, Track, meant, meant_track, AreAbove, track_of}
+use Rattle.editor_tracks.proofs.Common.{laid_from, made_by, with_layout}
+use Rattle.pcm_base.specs.{Cells.each_edited}
 use Rattle.editor_tracks.proofs.CopyStrips.{found_above, from_track}
 use Rattle.editor_tracks.proofs.RunPlans.{AreLaid, CellEdit, edits_at, written_left, written_right}
 use Rattle.pcm_base.specs.Cells as cells

@@ -1,20 +1,17 @@
 -- A run of tracks laid out by plans: what holds of the new project, and of the blocks that are to be made for it.
-use Rattle.std.proofs.Common.{◌≡◌, inl, inr, ⊎_elim, refl, sym, subst, ℕ, ◌+◌, ◌*◌, ◌≤◌, List, [], ◌∷◌, ◌++◌, length}
-use Rattle.std.proofs.Common.{length-append, map, drop, Contains, arith}
-use Rattle.std.proofs.{lemmas.Bool.Decides.leb_tells, lemmas.List.map-append}
-use Rattle.std.specs.List.{AllByRecursion}
-use Rattle.pcm_base.specs.{declared.block.BlockRef.BlockRef, declared.sound.Cell.Cell, Pieces.Sources}
-use Rattle.clip_track.specs.Clips.{AllHalfFull, IsLayout, layout_blocks}
-use Rattle.edit_ops.specs.Plans.{AllNewFrom, AreNew, AreOldOrNew, AreWritten, IsPlan, Means, Start, ref_of}
-use Rattle.edit_ops.specs.{declared.types.NewBlock.NewBlock, declared.types.Plan.Plan}
-use Rattle.project_state.specs.{declared.track.Track.Track, Meaning.point_blocks, Tracks.AreAbove}
-use Rattle.record_body.specs.Valid.{AllClipsGiven, AllValidTracks, IsValidTrack}
-use Rattle.record_body.proofs.SavedBounds.{all_append}
-use Rattle.editor_state.specs.{Edits.AreAmong, Studios.IsGiven}
-use Rattle.editor_tracks.specs.RunEdits.{AreLayouts, laid_by, laid_from, made_by}
-use Rattle.editor_state.proofs.{Blocks.BlockLists.contained, Lists.all_left, Lists.all_right}
-use Rattle.editor_blocks.proofs.StudioBlocks.{refs}
-use Rattle.editor_blocks.proofs.PlanBlocks.{ids_clips, new_from_more, old_or_new}
+use Rattle.editor_tracks.proofs.Common.{◌≡◌, inl, inr, ⊎_elim, refl, sym, subst, ℕ, ◌+◌, ◌*◌, ◌≤◌, List, [], ◌∷◌, ◌++◌}
+use Rattle.editor_tracks.proofs.Common.{length, length-append, map, Contains, arith, rules, leb_tells, map-append}
+use Rattle.editor_tracks.proofs.Common.{AllByRecursion, BlockRef, Cell, Sources, IsLayout, layout_blocks, AllNewFrom}
+use Rattle.editor_tracks.proofs.Common.{AreNew, AreOldOrNew, AreWritten, Means, Start, ref_of, NewBlock, Plan, Track}
+use Rattle.editor_tracks.proofs.Common.{point_blocks, AreAbove, AllValidTracks, IsValidTrack, all_append, AreAmong}
+use Rattle.editor_tracks.proofs.Common.{IsGiven, laid_from, made_by, all_left, all_right, refs, ids_clips}
+use Rattle.editor_tracks.proofs.Common.{new_from_more, old_or_new}
+use Rattle.std.proofs.Common.{drop}
+use Rattle.clip_track.specs.Clips.{AllHalfFull}
+use Rattle.edit_ops.specs.Plans.{IsPlan}
+use Rattle.record_body.specs.Valid.{AllClipsGiven}
+use Rattle.editor_tracks.specs.RunEdits.{AreLayouts, laid_by}
+use Rattle.editor_state.proofs.{Blocks.BlockLists.contained}
 use Rattle.edit_ops.proofs.Named.{AreNew-append}
 
 -- ---- plans, one for each track, each begun at the next id of the one before
@@ -54,13 +51,7 @@ old_or_new_more a xs (b ∷ bs) (n ∷ ns) among h = ⊎_elim
 
 pub plan_more : (start : Start) (a xs : List BlockRef) (p : Plan) → AreAmong xs a → IsPlan start a 0 p
     → IsPlan start xs 0 p
-plan_more start a xs p among plan = record {
-  half_full = plan.half_full;
-  new = plan.new;
-  origin = new_from_more a xs 0 p.makes among plan.origin;
-  blocks = old_or_new_more a xs (layout_blocks p.layout) p.makes among plan.blocks;
-  next_id = plan.next_id;
-}
+plan_more start a xs p among plan = search (rules, new_from_more, old_or_new_more)
 
 -- ---- the blocks that are to be made for them
 
@@ -223,14 +214,7 @@ module _ (m next track : ℕ) where
   valid_by : (ps : List Plan) (number : ℕ) (t : Track) → AreValidPlans m next ps → IsValidTrack m next track t
       → IsValidTrack m next track (laid_by ps number t)
   valid_by [] number t plans valid = valid
-  valid_by (p ∷ ps) number t plans valid =
-      record {
-        given = valid.given;
-        gain = valid.gain;
-        layout = plans.0.layout;
-        half_full = plans.0.half_full;
-        blocks = plans.0.blocks;
-      }
+  valid_by (p ∷ ps) number t plans valid = search rules
 
   rest_valid : (ps : List Plan) → AreValidPlans m next ps → AreValidPlans m next (drop 1 ps)
   rest_valid [] plans = tt

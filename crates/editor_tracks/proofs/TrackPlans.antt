@@ -1,31 +1,23 @@
 -- The plan of an edit of one track: what it leaves, and why there is none.
-use Rattle.std.proofs.Common.{◌≡◌, ◌⊎◌, inl, inr, ⊎_elim, sym, ap, ◌∙◌, subst, ℕ, ◌+◌, ◌≤◌, ◌<◌, ℤ, Some, None, List}
-use Rattle.std.proofs.Common.{◌++◌, length, Contains, arith, Option, ◌^◌}
-use Rattle.std.proofs.{lemmas.List.length-map, lemmas.List.Elements.Contains-append_left}
-use Rattle.pcm_base.specs.Cells.{changed_at, with_cells}
-use Rattle.pcm_base.specs.{declared.block.BlockRef.BlockRef, declared.refusal.Refusal.Refusal}
-use Rattle.disk_model.specs.declared.store.Store.{Ghosts}
-use Rattle.sample_block.specs.Sources.{IsNamed}
-use Rattle.clip_track.specs.{declared.items.Item.Item, Clips.end_of, Clips.layout_blocks, Clips.layout_cells}
-use Rattle.edit_ops.specs.declared.types.NewBlock.{NewBlock}
-use Rattle.edit_ops.specs.Plans.{AllNewFrom, AreNew, AreOldOrNew, AreWritten}
+use Rattle.editor_tracks.proofs.Common.{◌≡◌, ◌⊎◌, inl, sym, ap, ◌∙◌, subst, ℕ, ◌+◌, ◌≤◌, ◌<◌, ℤ, Some, None, List}
+use Rattle.editor_tracks.proofs.Common.{rules, ◌++◌, length, Contains, arith, Option, ◌^◌, length-map, changed_at}
+use Rattle.editor_tracks.proofs.Common.{with_cells, BlockRef, Refusal, Ghosts, IsNamed, Item, end_of, layout_blocks}
+use Rattle.editor_tracks.proofs.Common.{layout_cells, NewBlock, AllNewFrom, AreNew, AreOldOrNew, AreWritten, brought}
+use Rattle.editor_tracks.proofs.Common.{brought_by, brought_count, meant, meant_track, point_blocks, Track, track_of}
+use Rattle.editor_tracks.proofs.Common.{current_tracks, IsValidPoint, IsValidTrack, HasNumbers, AreAmong, IsPlanned}
+use Rattle.editor_tracks.proofs.Common.{alone, beside, blocks_with, clip_then, tagged_by, IsGiven, IsStudio}
+use Rattle.editor_tracks.proofs.Common.{clip_blocks, named_blocks, MayPaste, Planned, Core, IsTrackPlan, NoTrackPlan}
+use Rattle.editor_tracks.proofs.Common.{TrackEdit, track_refusal, with_layout, among_itself, all_left, all_right}
+use Rattle.editor_tracks.proofs.Common.{all_so, valid_of, current_may_read, current_valid, old_names, point_more, refs}
+use Rattle.editor_tracks.proofs.Common.{refs_ids, all_readable, ids_clips, new_from_more, old_or_new, new_in}
+use Rattle.std.proofs.{lemmas.List.Elements.Contains-append_left}
 use Rattle.block_writer.specs.declared.given.Given.{Given}
-use Rattle.block_writer.specs.Bringing.{brought, brought_by, brought_count}
-use Rattle.project_state.specs.Meaning.{history_blocks, meant, meant_track, point_blocks}
-use Rattle.project_state.specs.{declared.track.Track.Track, Tracks.track_of}
-use Rattle.record_body.specs.{Saved.current_tracks, SavedValid.IsValidPoint, Valid.IsValidTrack}
-use Rattle.layout_uses.specs.Drawing.{HasNumbers}
 use Rattle.layout_uses.proofs.Putting.{put_numbers}
-use Rattle.editor_state.specs.Edits.{AreAmong, IsPlanned, alone, beside, blocks_with, clip_then, tagged_by}
-use Rattle.editor_state.specs.Studios.{IsGiven, IsStudio, clip_blocks, named_blocks, pin_blocks, MayPaste}
-use Rattle.editor_state.specs.{declared.planned.Planned.Planned, Core.Core, Points.put_in, Points.put_one}
-use Rattle.editor_tracks.specs.TrackEdits.{IsTrackPlan, NoTrackPlan, TrackEdit, track_refusal, with_layout}
-use Rattle.editor_state.proofs.{Blocks.BlockLists.among_itself, Lists.all_left, Lists.all_right, Lists.all_so}
-use Rattle.editor_commits.proofs.TrackChanges.{layout_of, put_all, put_means, put_rising, put_valid, valid_of}
-use Rattle.editor_commits.proofs.{CursorTracks.current_may_read, CurrentProject.current_valid, CurrentProject.old_names}
-use Rattle.editor_blocks.proofs.StudioBlocks.{IsNewId, point_more, refs, refs_ids}
-use Rattle.editor_blocks.proofs.PlanBlocks.{all_readable, clips_ids, ids_clips, new_from_more, old_or_new}
-use Rattle.editor_blocks.proofs.LayoutBlocks.{new_in, put_in_of, layout_given}
+use Rattle.editor_state.specs.{Points.put_in, Points.put_one}
+use Rattle.editor_commits.proofs.TrackChanges.{layout_of, put_all, put_means, put_rising, put_valid}
+use Rattle.editor_blocks.proofs.StudioBlocks.{IsNewId}
+use Rattle.editor_blocks.proofs.PlanBlocks.{clips_ids}
+use Rattle.editor_blocks.proofs.LayoutBlocks.{put_in_of, layout_given}
 use Rattle.record_body.proofs.DiffTracks.{found_id}
 use Rattle.pcm_base.specs.declared.refusal.Refusal.TheVariants as refusal
 
@@ -45,10 +37,7 @@ no_such_track e id old why is none = inl ((λ i. track_refusal id e.test (none i
 pub test_fails : (e : TrackEdit) (id : ℕ) (old : List Track) (t : Track) (why : Refusal) → track_of id old ≡ Some t
     → (e.test (end_of 0 t.layout) ≡ Some why) ⊎ ((e.test (end_of 0 t.layout) ≡ None) × (why ≡ refusal.NoMemory))
     → NoTrackPlan e id old why
-test_fails e id old t why found not = ⊎_elim
-    (λ own. inl ((λ i. track_refusal id e.test (found i)) ∙ own))
-    (λ memory. inr memory.1)
-    not
+test_fails e id old t why found not = search rules
 
 -- ---- what a plan leaves
 
@@ -122,16 +111,7 @@ module _ {D : Type 0} (disk : Ghosts D) (s : Core D) (is : IsStudio disk s) (e :
   put_few = omega (arith, old_valid.few, length-map old (put_one now))
 
   put_is_valid : IsValidPoint s.block_size (s.next_block + n) (s.next_track + 0) (put_in now old)
-  put_is_valid =
-      let later = point_more s.block_size s.next_block s.next_track (s.next_block + n) s.next_track old (omega arith)
-      (omega arith) old_valid in
-      let put : IsValidPoint s.block_size (s.next_block + n) s.next_track (put_in now old) = record {
-        few = put_few;
-        rising = put_rising now 1 old old_valid.rising;
-        valid = put_valid s.block_size (s.next_block + n) s.next_track now old now_valid later.valid;
-      } in
-      point_more s.block_size (s.next_block + n) s.next_track (s.next_block + n) (s.next_track + 0) (put_in now old)
-      (omega arith) (omega arith) put
+  put_is_valid = search (rules, point_more, old_valid, put_few, put_rising, put_valid, now_valid)
 
   put_names : AreAmong every (point_blocks (put_in now old))
   put_names =
@@ -150,9 +130,7 @@ module _ {D : Type 0} (disk : Ghosts D) (s : Core D) (is : IsStudio disk s) (e :
       (put_in_of C id now was old p.found (found_id id old was p.found) (among_itself (point_blocks (put_in now old))))
 
   clip_named : AreAmong every (clip_blocks s.clipboard)
-  clip_named = all_right (Contains every) (pin_blocks s.pins) (clip_blocks s.clipboard)
-      (all_right (Contains every) (history_blocks s.history) (pin_blocks s.pins ++ clip_blocks s.clipboard)
-      (all_left (Contains every) (named_blocks s) (refs makes) (among_itself every)))
+  clip_named = search (rules, all_right, all_left, refs, among_itself)
 
   numbers : HasNumbers old s.next_layout planned.point (s.next_layout + planned.layouts)
   numbers = subst (λ (k : ℕ). HasNumbers old s.next_layout planned.point (s.next_layout + k)) (sym p.layouts_is)

@@ -1,34 +1,19 @@
 -- An edit of one track by a plan, as an edit that makes blocks.
-use Rattle.std.proofs.Common.{◌≡◌, ⊎_elim, refl, sym, ap, ◌∙◌, subst, ℕ, suc, ◌+◌, ◌*◌, ◌≤◌, ◌<◌, ◌==◌, ℤ}
-use Rattle.std.proofs.Common.{if◌then◌else◌, Option, Some, None, List, [], ◌∷◌, length, Err, arith, mul-le-mul_left}
-use Rattle.pcm_base.specs.Cells.{Project, tracks_from, cells_at, with_cells, edited_at, changed_at}
-use Rattle.pcm_base.specs.Refusals.{◌otherwise◌, call_tests, refused_if, is_empty}
-use Rattle.pcm_base.specs.Run.{outside, stop_of}
-use Rattle.pcm_base.specs.{declared.command.Call.Call, declared.entry.SoundMove.SoundMove}
-use Rattle.pcm_base.specs.{declared.refusal.Refusal.Refusal, declared.refusal.Refusal.TheVariants.NoTrack}
-use Rattle.pcm_base.specs.{declared.sound.Cell.Cell, History.recorded, Pieces.Sources, State.current}
-use Rattle.disk_model.specs.declared.store.Store.{Ghosts}
-use Rattle.disk_model.proofs.Frames.{Fewer}
-use Rattle.sample_block.specs.Sources.{samples_on}
-use Rattle.clip_track.specs.Clips.{layout_cells, end_of}
-use Rattle.clip_track.proofs.Layouts.{length-layout}
-use Rattle.edit_ops.specs.declared.types.NewBlock.{NewBlock}
+use Rattle.editor_tracks.proofs.Common.{◌≡◌, refl, sym, ap, ◌∙◌, subst, ℕ, suc, ◌+◌, ◌≤◌, ◌<◌, ◌==◌, ℤ, rules}
+use Rattle.editor_tracks.proofs.Common.{if◌then◌else◌, Option, Some, None, List, [], ◌∷◌, length, Err, arith, Project}
+use Rattle.editor_tracks.proofs.Common.{tracks_from, cells_at, with_cells, edited_at, changed_at, ◌otherwise◌}
+use Rattle.editor_tracks.proofs.Common.{call_tests, refused_if, is_empty, outside, Call, SoundMove, Refusal, Cell}
+use Rattle.editor_tracks.proofs.Common.{recorded, Sources, current, Ghosts, Fewer, samples_on, layout_cells, end_of}
+use Rattle.editor_tracks.proofs.Common.{length-layout, NewBlock, brought, brought_by, brought_count, Track, meant}
+use Rattle.editor_tracks.proofs.Common.{track_of, current_tracks, IsValidPoint, AllValidTracks, meant_recorded, IsEdit}
+use Rattle.editor_tracks.proofs.Common.{alone, IsEditCall, clip_then, tagged_by, IsStudio, studio_by, studio_of}
+use Rattle.editor_tracks.proofs.Common.{clip_cells, Planned, Core, lacks, Took, with_sound, IsTrackCall, IsTrackPlan}
+use Rattle.editor_tracks.proofs.Common.{NoTrackPlan, TrackEdit, track_command, track_refusal, current_is, lacks_is}
+use Rattle.editor_tracks.proofs.Common.{valid_of, current_valid}
+use Rattle.pcm_base.specs.{declared.refusal.Refusal.TheVariants.NoTrack}
 use Rattle.block_writer.specs.declared.given.Given.{Given}
-use Rattle.block_writer.specs.Bringing.{brought, brought_by, brought_count}
-use Rattle.project_state.specs.{declared.track.Track.Track, Meaning.meant, Tracks.track_of}
-use Rattle.record_body.specs.{Saved.current_tracks, SavedValid.IsValidPoint, Valid.AllValidTracks}
-use Rattle.project_state.proofs.MeantHistories.{meant_recorded}
-use Rattle.editor_state.specs.Edits.{IsEdit, alone, IsEditCall, clip_then, tagged_by}
-use Rattle.editor_state.specs.Studios.{IsStudio, studio_by, studio_of, clip_cells}
-use Rattle.editor_state.specs.{declared.planned.Planned.Planned, Core.Core, Points.lacks, Took.Took, Took.with_sound}
-use Rattle.editor_tracks.specs.TrackEdits.{IsTrackCall, IsTrackPlan, NoTrackPlan, TrackEdit, track_command}
-use Rattle.editor_tracks.specs.TrackEdits.{track_refusal}
-use Rattle.editor_commits.proofs.TrackChanges.{current_is, lacks_is, valid_of}
-use Rattle.editor_commits.proofs.{CursorTracks.cells_meant, CurrentProject.current_valid}
-use Rattle.editor_state.proofs.Calls.FileRemovals.{commit_frees, commit_removes_none}
-use Rattle.editor_state.proofs.Refusals.EarlyRefusals.{refuses, wants}
-use Rattle.editor_state.proofs.{Refusals.CommitTests.early, Refusals.CounterNumbers.early_needed}
-use Rattle.editor_tracks.proofs.TrackPlans.{point_means}
+use Rattle.editor_commits.proofs.{CursorTracks.cells_meant}
+use Rattle.editor_tracks.proofs.{EditCalls.edit_refused, EditCalls.edit_stopped, TrackPlans.point_means}
 use Rattle.pcm_base.specs.declared.refusal.Refusal.TheVariants as refusal
 use Rattle.pcm_base.specs.Studio as model
 
@@ -38,9 +23,7 @@ refusal_is : (src : Sources) (id : ℕ) (test : ℕ → Option Refusal) (m next 
     → AllValidTracks m next track ts → (o : Option Track) → track_of id ts ≡ o
     → ((refused_if (is_empty (tracks_from id (meant src ts))) (NoTrack id)) otherwise
     (test (length (cells_at id (meant src ts))))) ≡ track_refusal id test o
-refusal_is src id test m next track ts valid None found =
-    let first = lacks_is src id ts ∙ ap (lacks id) found in
-    λ i. (first i) otherwise (test (length (cells_at id (meant src ts))))
+refusal_is src id test m next track ts valid None found = search (rules, lacks_is)
 refusal_is src id test m next track ts valid (Some t) found =
     let first = lacks_is src id ts ∙ ap (lacks id) found in
     let is = valid_of m next track id ts t found valid in
@@ -53,12 +36,6 @@ edited_changed id f [] = refl
 edited_changed id f (t ∷ ts) =
     let rest = edited_changed id f ts in
     λ i. if t.id == id then with_cells f t ∷ ts else t ∷ rest i
-
--- as few bytes as this many records have
-least_needs : (more low high : ℕ) {most : ℕ} → (0 ≤ most) × (5 * more ≤ 5 * more) × (5 * more ≤ more * (5 + low) + high)
-least_needs more low high =
-    let fives : more * 5 ≤ more * (5 + low) = mul-le-mul_left more (omega arith) in
-    (omega arith, omega arith, omega (arith, fives))
 
 module _ {D : Type 0} (disk : Ghosts D) (s : Core D) (is : IsStudio disk s) (c : Call) (sound : SoundMove)
     (e : TrackEdit) (given : Given) (id tag more : ℕ)
@@ -87,33 +64,16 @@ module _ {D : Type 0} (disk : Ghosts D) (s : Core D) (is : IsStudio disk s) (c :
 
   -- ---- a stopped studio, a test of the edit, or memory
 
-  early_refused : (why : Refusal) → Fewer disk s.store → more < 64
-      → ((stop_of s.stopped) otherwise (track_refusal id e.test found)) ≡ Some why
-      → Took disk s (with_sound c sound (Err why)) s
-  early_refused why fewer few h =
-      let own = own_is (samples_on (disk.reads s.store)) in
-      let first : ((stop_of s.stopped) otherwise (call_tests (outside t sound) t.state c)) ≡ Some why =
-      (λ i. (stop_of s.stopped) otherwise (own i)) ∙ h in
-      refuses disk s c sound why is fewer (commit_frees disk s c (Err why) s line.call.commit.many)
-      line.call.commit.quiet (5 * more) (λ off. omega (arith, few)) 0
-      (λ held. line.call.needs t.rate t 0 (5 * more) (least_needs more _ _))
-      (early t c sound 0 line.call.commit 0 (5 * more) why first) (early_needed disk s c sound why first)
-
   pub track_stopped : (faults : ℕ) → Fewer disk s.store → more < 64 → s.stopped ≡ Some faults
       → Took disk s (with_sound c sound (Err (refusal.Stopped faults))) s
-  track_stopped faults fewer few at =
-      early_refused (refusal.Stopped faults) fewer few (λ i. (stop_of (at i)) otherwise (track_refusal id e.test found))
+  track_stopped faults fewer few = edit_stopped disk s is fewer line.call few (track_refusal id e.test found)
+      (own_is (samples_on (disk.reads s.store))) faults
 
   pub track_refused : (why : Refusal) → Fewer disk s.store → more < 64 → s.stopped ≡ None
       → NoTrackPlan e id old why
       → Took disk s (with_sound c sound (Err why)) s
-  track_refused why fewer few going not = ⊎_elim
-      (λ own. early_refused why fewer few ((λ i. (stop_of (going i)) otherwise (track_refusal id e.test found)) ∙ own))
-      (λ memory.
-      subst (λ (r : Refusal). Took disk s (with_sound c sound (Err r)) s) (sym memory)
-      (wants disk s c sound is fewer (commit_removes_none c line.call.commit.many) line.call.commit.quiet (5 * more)
-      (λ held. (0, line.call.needs t.rate t 0 (5 * more) (least_needs more _ _)))))
-      not
+  track_refused why fewer few = edit_refused disk s is fewer line.call few (track_refusal id e.test found)
+      (own_is (samples_on (disk.reads s.store))) why
 
   -- ---- what the call means
 

@@ -1,19 +1,21 @@
 -- A scan of one block that points name: how long it is, and what is told of its file.
-use Rattle.std.proofs.Common.{◌≡◌, refl, sym, subst, ℕ, ◌≤◌, List, ◌++◌, flat_map, None, Result, Ok, Err, IsTrue}
-use Rattle.std.proofs.lemmas.List.Elements.{All-from_recursion, All-contains}
+use Rattle.editor_views.proofs.Common.{◌≡◌, refl, sym, subst, ℕ, ◌≤◌, List, ◌++◌, None, Ok, Err, IsTrue}
+use Rattle.editor_views.proofs.Common.{All-from_recursion, Contains, AllByRecursion, BlockRef, IsWhole, Files, Kept}
+use Rattle.editor_views.proofs.Common.{Ghosts, BlockFault, Counted, Track, point_blocks, history_blocks, IsValidPoint}
+use Rattle.editor_views.proofs.Common.{Core, IsHeld, IsStudio, clip_blocks, pin_blocks, may_read, all_left, all_so}
+use Rattle.editor_views.proofs.Common.{looked_held, looked_studio}
+use Rattle.std.proofs.Common.{flat_map, Result}
+use Rattle.std.proofs.lemmas.List.Elements.{All-contains}
 use Rattle.std.proofs.lemmas.List.Folds.{flat_map-map}
-use Rattle.std.specs.{Prelude.Contains, Prelude.IsOkUnless, Prelude.OnOk, List.AllByRecursion}
-use Rattle.pcm_base.specs.{declared.block.BlockRef.BlockRef, History.History, History.point_of, History.points_of}
-use Rattle.sample_block.specs.{Faults.damage_of, Sources.IsNamed, Sources.IsWhole}
-use Rattle.disk_model.specs.{Disk.Files, Disk.bytes_of, Frames.Kept, declared.store.Store.Ghosts}
-use Rattle.block_store.specs.{declared.fault.BlockFault.BlockFault, Checks.Checks, Reads.Counted}
-use Rattle.project_state.specs.{declared.track.Track.Track, Meaning.point_blocks, Meaning.history_blocks}
-use Rattle.record_body.specs.SavedValid.{IsValidPoint, IsValidTagged}
-use Rattle.editor_state.specs.{Core.Core, Studios.IsHeld, Studios.IsStudio, Studios.clip_blocks, Studios.pin_blocks}
+use Rattle.std.specs.{Prelude.IsOkUnless, Prelude.OnOk}
+use Rattle.pcm_base.specs.{History.History, History.point_of, History.points_of}
+use Rattle.sample_block.specs.{Faults.damage_of, Sources.IsNamed}
+use Rattle.disk_model.specs.{Disk.bytes_of}
+use Rattle.block_store.specs.{Checks.Checks}
+use Rattle.record_body.specs.SavedValid.{IsValidTagged}
 use Rattle.editor_views.specs.Scans.{BlockScanned, ScansBlock}
-use Rattle.editor_commits.proofs.CursorTracks.{may_read}
-use Rattle.editor_state.proofs.Lists.{all_joined, all_left, all_so}
-use Rattle.editor_state.proofs.Calls.LookCalls.{keeps_still, looked_held, looked_studio}
+use Rattle.editor_state.proofs.Lists.{all_joined}
+use Rattle.editor_state.proofs.Calls.LookCalls.{keeps_still}
 use Rattle.editor_state.proofs.{Blocks.CachePages.reads_none, Blocks.BlockLengths.tracks_short}
 use Rattle.block_store.specs.declared.fault.BlockFault.TheVariants as fault
 

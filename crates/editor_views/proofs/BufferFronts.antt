@@ -1,5 +1,5 @@
 -- The front of a buffer that was written.
-use Rattle.std.proofs.Common.{◌≡◌, refl, ap, ℕ, zero, suc, ◌≤◌, List, [], ◌∷◌, ◌++◌, length, take, arith}
+use Rattle.editor_views.proofs.Common.{◌≡◌, refl, ap, ℕ, zero, suc, ◌≤◌, List, [], ◌∷◌, ◌++◌, length, take, arith}
 
 pub view_front : {A : Type 0} (n len : ℕ) (out rest : List A) → n ≤ length out → length out ≤ len
     → take n (take len (out ++ rest)) ≡ take n out

@@ -1,32 +1,25 @@
 -- Showing cells of a track, and what a scan of them finds.
-use Rattle.std.proofs.Common.{◌≡◌, ◌⊎◌, inl, inr, refl, sym, ap, ◌∙◌, subst, ℕ, ◌-◌, nat_lt, nat_le, ◌==◌, ◌&&◌, ◌||◌}
-use Rattle.std.proofs.Common.{not, Bool, true, false, IsTrue, List, length, Option, Some, None, Ok, Err, arith}
-use Rattle.std.proofs.lemmas.Option.{none-some, same_Some}
-use Rattle.pcm_base.specs.Refusals.{◌otherwise◌, refused_if, call_tests, bad_range, bad_columns, bad_view}
-use Rattle.pcm_base.specs.Run.{outside, stop_of}
-use Rattle.pcm_base.specs.{declared.command.Call.Call, declared.command.Call.TheVariants.Line}
-use Rattle.pcm_base.specs.{declared.refusal.Refusal.Refusal, declared.sound.Cell.Cell, declared.sound.Scan.Scan}
-use Rattle.pcm_base.specs.{Cells.cells_at, Edits.part, Envelope.columns_of, Pieces.Sources, State.current}
-use Rattle.disk_model.specs.{Frames.Kept, declared.store.Store.Ghosts}
-use Rattle.disk_model.proofs.Frames.{Fewer}
-use Rattle.sample_block.specs.Sources.{sources_of}
+use Rattle.editor_views.proofs.Common.{◌≡◌, ◌⊎◌, inl, inr, refl, sym, ap, ◌∙◌, subst, ℕ, ◌-◌, ◌==◌, Bool, true, false}
+use Rattle.editor_views.proofs.Common.{IsTrue, List, length, Option, Some, None, Ok, Err, arith, same_Some, ◌otherwise◌}
+use Rattle.editor_views.proofs.Common.{refused_if, bad_view, outside, stop_of, Call, Line, Refusal, part, Sources}
+use Rattle.editor_views.proofs.Common.{current, Kept, Ghosts, Fewer, sources_of, length-layout, BlockFault, CountedBy}
+use Rattle.editor_views.proofs.Common.{IsFaultIn, reason_of, reason_damaged, Track, Entries, current_tracks, IsHeld}
+use Rattle.editor_views.proofs.Common.{IsStudio, named_blocks, studio_of, Core, Took, quietly, silent, current_meant}
+use Rattle.editor_views.proofs.Common.{looked_ok, looked_failed, looked_wanting, IsQuiet, quiet_passes, carried}
+use Rattle.editor_views.proofs.Common.{room_of, refused_own, refused_stopped, fault_among, fits, ReadsNamed}
+use Rattle.std.proofs.Common.{nat_lt, nat_le, ◌&&◌, ◌||◌, not}
+use Rattle.std.proofs.lemmas.Option.{none-some}
+use Rattle.pcm_base.specs.Refusals.{call_tests, bad_range, bad_columns}
+use Rattle.pcm_base.specs.{declared.sound.Cell.Cell, declared.sound.Scan.Scan, Cells.cells_at, Envelope.columns_of}
 use Rattle.clip_track.specs.{declared.clips.Clip.Clip, Clips.end_of, Clips.layout_blocks, Clips.layout_cells}
-use Rattle.clip_track.proofs.Layouts.{length-layout}
-use Rattle.block_store.specs.{declared.fault.BlockFault.BlockFault, Reads.CountedBy, Reads.IsFaultIn, Reasons.reason_of}
 use Rattle.envelope_view.specs.Answers.{column_tests, IsDamagedIn, IsOfReads, IsCountedBy}
-use Rattle.envelope_view.proofs.AnswerLaws.{reason_damaged}
-use Rattle.project_state.specs.{declared.track.Track.Track, Tracks.track_of}
-use Rattle.block_cache.specs.Caches.{Entries}
-use Rattle.record_body.specs.Saved.{current_tracks}
-use Rattle.editor_state.specs.Studios.{IsHeld, IsStudio, named_blocks, studio_of}
-use Rattle.editor_state.specs.{Core.Core, Points.lacks, Reads.HasLayout, Took.Took, Took.quietly, Took.silent}
+use Rattle.project_state.specs.{Tracks.track_of}
+use Rattle.editor_state.specs.{Points.lacks, Reads.HasLayout}
 use Rattle.editor_commits.proofs.CursorTracks.{layout_named, track_there, layout_valid, layout_meant}
-use Rattle.editor_commits.proofs.CurrentProject.{current_meant, track_is}
-use Rattle.editor_state.proofs.Calls.LookCalls.{looked_ok, looked_failed, looked_own, looked_wanting}
-use Rattle.editor_state.proofs.Calls.QuietCalls.{IsQuiet, quiet_passes, carried, room_of, own_first, refused_own}
-use Rattle.editor_state.proofs.Calls.QuietCalls.{refused_stopped}
-use Rattle.editor_state.proofs.{Blocks.BlockDamage.damage_among, Blocks.BlockDamage.fault_among, Refusals.CallTests.own}
-use Rattle.editor_state.proofs.{Refusals.CallTests.own_by, Refusals.CommitTests.fits, Blocks.CachePages.ReadsNamed}
+use Rattle.editor_commits.proofs.CurrentProject.{track_is}
+use Rattle.editor_state.proofs.Calls.LookCalls.{looked_own}
+use Rattle.editor_state.proofs.Calls.QuietCalls.{own_first}
+use Rattle.editor_state.proofs.{Blocks.BlockDamage.damage_among, Refusals.CallTests.own, Refusals.CallTests.own_by}
 use Rattle.pcm_base.specs.declared.answer.Reply.TheVariants as reply
 use Rattle.pcm_base.specs.declared.command.Command.TheVariants as command
 use Rattle.pcm_base.specs.declared.refusal.Refusal.TheVariants as refusal

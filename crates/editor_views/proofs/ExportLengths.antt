@@ -1,10 +1,8 @@
 -- How long the file of an export is.
-use Rattle.std.proofs.Common.{◌≡◌, refl, ◌∙◌, ℕ, ◌+◌, ◌*◌, if◌then◌else◌, List, [], ◌∷◌, length, max, arith}
-use Rattle.pcm_base.specs.{declared.sound.Frame.Frame, Mix.mix_length, Pieces.Sources, Wave.wav_text}
-use Rattle.clip_track.proofs.Layouts.{length-layout}
-use Rattle.project_state.specs.{declared.track.Track.Track, Meaning.meant}
+use Rattle.editor_views.proofs.Common.{◌≡◌, refl, ◌∙◌, ℕ, ◌+◌, ◌*◌, List, [], ◌∷◌, length, arith, Frame, mix_length}
+use Rattle.editor_views.proofs.Common.{Sources, wav_text, length-layout, Track, meant, mix_length_of}
+use Rattle.std.proofs.Common.{if◌then◌else◌, max}
 use Rattle.record_body.specs.Valid.{AllValidTracks}
-use Rattle.mix_reader.specs.Tracks.{mix_length_of}
 use Rattle.mix_reader.proofs.TrackLaws.{longest_first}
 use Rattle.pcm_base.proofs.ListFacts.{length_frames}
 

@@ -1,38 +1,30 @@
 -- An export: the mix of the current project as a sound of a vault, with nothing of the studio changed.
-use Rattle.std.proofs.Common.{◌≡◌, ◌⊎◌, inl, inr, ⊎_elim, refl, sym, ap, ◌∙◌, subst, ℕ, ◌+◌, ◌*◌, IsTrue, Option, Some}
-use Rattle.std.proofs.Common.{None, List, length, take, Ok, Err, arith}
+use Rattle.editor_views.proofs.Common.{◌≡◌, ◌⊎◌, inl, inr, ⊎_elim, refl, sym, ap, ◌∙◌, subst, ℕ, ◌+◌, ◌*◌, IsTrue}
+use Rattle.editor_views.proofs.Common.{Option, Some, None, List, length, take, Ok, Err, arith, IfErr, ◌otherwise◌}
+use Rattle.editor_views.proofs.Common.{refused_if, Answers, BreaksOff, CarriesOut, followed, outside, stop_of, Call}
+use Rattle.editor_views.proofs.Common.{Line, Refusal, Frame, Project, mix_of, mix_length, current, wav_text, Files}
+use Rattle.editor_views.proofs.Common.{Kept, Ghosts, Fewer, sources_of, BlockFault, Counted, IsFaultIn, mix_length_of}
+use Rattle.editor_views.proofs.Common.{current_tracks, Keeps, meant, length_mix, Entries, IsHeld, IsStudio}
+use Rattle.editor_views.proofs.Common.{named_blocks, shown, studio_of, Core, Took, current_meant, current_valid}
+use Rattle.editor_views.proofs.Common.{looked_held, looked_studio, stopped_not, fits, ReadsNamed}
 use Rattle.std.proofs.lemmas.Bool.{le-ltb, lt-ltb}
-use Rattle.std.specs.Prelude.{IfErr}
-use Rattle.pcm_base.specs.Refusals.{◌otherwise◌, refused_if, too_long}
-use Rattle.pcm_base.specs.Run.{Answers, BreaksOff, CarriesOut, IsPartOfMix, followed, outside, refusal_of, stop_of}
-use Rattle.pcm_base.specs.{declared.command.Call.Call, declared.command.Call.TheVariants.Line}
-use Rattle.pcm_base.specs.{declared.entry.SoundMove.SoundMove, declared.refusal.Refusal.Refusal}
-use Rattle.pcm_base.specs.{declared.sound.Frame.Frame, Cells.Project, Counters.no_room, Mix.mix_of, Mix.mix_length}
-use Rattle.pcm_base.specs.{Outside.Outside, State.current, Step.mix_file, Wave.wav_text}
-use Rattle.disk_model.specs.{Disk.Files, Frames.Kept, declared.store.Store.Ghosts}
-use Rattle.disk_model.proofs.Frames.{Fewer, changed_kept}
-use Rattle.sample_block.specs.Sources.{sources_of}
-use Rattle.block_store.specs.{declared.fault.BlockFault.BlockFault, Reads.Counted, Reads.IsFaultIn}
+use Rattle.pcm_base.specs.Refusals.{too_long}
+use Rattle.pcm_base.specs.Run.{IsPartOfMix, refusal_of}
+use Rattle.pcm_base.specs.{declared.entry.SoundMove.SoundMove, Counters.no_room, Outside.Outside, Step.mix_file}
+use Rattle.disk_model.proofs.Frames.{changed_kept}
 use Rattle.project_journal.specs.Gate.{EachSince}
-use Rattle.mix_reader.specs.Tracks.{mix_length_of}
-use Rattle.record_body.specs.Saved.{current_tracks, Keeps}
-use Rattle.project_state.specs.Meaning.{meant}
 use Rattle.wav_pcm.specs.{Wavs.FitsFile, Written.MayBegin}
 use Rattle.sound_export.specs.declared.fault.ExportFault.{ExportFault}
 use Rattle.sound_export.specs.declared.fault.ExportFault.TheVariants.{TooLong, Block, VaultFault}
 use Rattle.sound_export.specs.Written.{IsLengthFault, IsNoDamage, IsOfDevice, read_part, refusal_of as reason_of_export}
-use Rattle.sound_export.proofs.GrowLaws.{length_mix}
 use Rattle.envelope_view.specs.Answers.{IsUndamaged}
-use Rattle.block_cache.specs.Caches.{Entries}
-use Rattle.editor_state.specs.Studios.{IsHeld, IsStudio, named_blocks, shown, studio_by, studio_of}
-use Rattle.editor_state.specs.{Core.Core, Left.IsSoOf, Left.Left, Took.Took, Took.with_sound, Spent.Needed}
-use Rattle.editor_commits.proofs.CurrentProject.{current_meant, current_valid}
-use Rattle.editor_state.proofs.Calls.LookCalls.{looked, looked_held, looked_studio}
+use Rattle.editor_state.specs.Studios.{studio_by}
+use Rattle.editor_state.specs.{Left.IsSoOf, Left.Left, Took.with_sound, Spent.Needed}
+use Rattle.editor_state.proofs.Calls.LookCalls.{looked}
 use Rattle.editor_state.proofs.Calls.OtherFiles.{NoneGoes, others_none}
 use Rattle.editor_state.proofs.Calls.FileRemovals.{ids_same, no_record, none_given}
-use Rattle.editor_state.proofs.Refusals.EarlyRefusals.{refuses, stopped_not}
+use Rattle.editor_state.proofs.Refusals.EarlyRefusals.{refuses}
 use Rattle.editor_state.proofs.{Images.ImageProjects.keeps_now, Refusals.RefusalEffects.left_read}
-use Rattle.editor_state.proofs.{Refusals.CommitTests.fits, Blocks.CachePages.ReadsNamed}
 use Rattle.editor_views.proofs.ExportLengths.{length_text, mix_len_by}
 use Rattle.pcm_base.specs.declared.answer.Reply.TheVariants as reply
 use Rattle.pcm_base.specs.declared.command.Command.TheVariants as command

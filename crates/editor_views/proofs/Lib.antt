@@ -1,3 +1,4 @@
+mod Common
 -- Cells, the mix, and the list of tracks.
 pub mod CellViews
 pub mod MixViews

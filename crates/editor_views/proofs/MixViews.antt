@@ -1,29 +1,17 @@
 -- Hearing frames of the mix of the current project, or of a pin.
-use Rattle.std.proofs.Common.{◌≡◌, ⊎_elim, refl, sym, ap, ◌∙◌, ℕ, ◌-◌, min, IsTrue, List, length, length-drop, take}
-use Rattle.std.proofs.Common.{drop, Some, None, Ok, Err, arith}
+use Rattle.editor_views.proofs.Common.{◌≡◌, ⊎_elim, refl, sym, ap, ◌∙◌, ℕ, ◌-◌, min, IsTrue, List, length, length-drop}
+use Rattle.editor_views.proofs.Common.{take, drop, Some, None, Ok, Err, arith, Line, PinLen, ReadPin, mix_of}
+use Rattle.editor_views.proofs.Common.{mix_length, Call, Refusal, Frame, Project, part, Sources, bad_view, stop_of}
+use Rattle.editor_views.proofs.Common.{Kept, Ghosts, Fewer, sources_of, BlockFault, CountedBy, IsFaultIn, reason_of}
+use Rattle.editor_views.proofs.Common.{reason_damaged, mix_length_of, Track, meant, point_blocks, current_tracks}
+use Rattle.editor_views.proofs.Common.{Entries, IsHeld, IsStudio, named_blocks, studio_of, Core, Took, quietly}
+use Rattle.editor_views.proofs.Common.{LacksPin, MayFind, current_meant, looked_ok, looked_failed, IsQuiet}
+use Rattle.editor_views.proofs.Common.{quiet_passes, carried, room_of, refused_own, refused_stopped, stays_answered}
+use Rattle.editor_views.proofs.Common.{fault_among, fits, ReadsNamed}
 use Rattle.std.proofs.{lemmas.Bool.cases_lt, lemmas.List.length-map, lemmas.List.take_all}
-use Rattle.pcm_base.specs.declared.command.Call.TheVariants.{Line, PinLen, ReadPin}
-use Rattle.pcm_base.specs.Mix.{mix_of, mix_length, frame_at}
-use Rattle.pcm_base.specs.{declared.command.Call.Call, declared.refusal.Refusal.Refusal, declared.sound.Frame.Frame}
-use Rattle.pcm_base.specs.{Arithmetic.counted_from, Cells.Project, Edits.part, Pieces.Sources, Refusals.bad_view}
-use Rattle.pcm_base.specs.{Run.stop_of}
-use Rattle.disk_model.specs.{Frames.Kept, declared.store.Store.Ghosts}
-use Rattle.disk_model.proofs.Frames.{Fewer}
-use Rattle.sample_block.specs.Sources.{sources_of}
-use Rattle.block_store.specs.{declared.fault.BlockFault.BlockFault, Reads.CountedBy, Reads.IsFaultIn, Reasons.reason_of}
-use Rattle.envelope_view.proofs.AnswerLaws.{reason_damaged}
-use Rattle.mix_reader.specs.Tracks.{mix_length_of}
-use Rattle.project_state.specs.{declared.track.Track.Track, Meaning.meant, Meaning.point_blocks}
-use Rattle.record_body.specs.Saved.{current_tracks}
-use Rattle.block_cache.specs.Caches.{Entries}
-use Rattle.editor_state.specs.Studios.{IsHeld, IsStudio, named_blocks, studio_of}
-use Rattle.editor_state.specs.{Core.Core, Took.Took, Took.quietly}
-use Rattle.editor_views.specs.Pins.{LacksPin, MayFind}
-use Rattle.editor_commits.proofs.{CursorTracks.current_named, CurrentProject.current_meant}
-use Rattle.editor_state.proofs.Calls.LookCalls.{looked_ok, looked_failed}
-use Rattle.editor_state.proofs.Calls.QuietCalls.{IsQuiet, quiet_passes, carried, room_of, refused_own, refused_stopped}
-use Rattle.editor_state.proofs.Calls.QuietCalls.{stays_answered}
-use Rattle.editor_state.proofs.{Blocks.BlockDamage.fault_among, Refusals.CommitTests.fits, Blocks.CachePages.ReadsNamed}
+use Rattle.pcm_base.specs.Mix.{frame_at}
+use Rattle.pcm_base.specs.{Arithmetic.counted_from}
+use Rattle.editor_commits.proofs.{CursorTracks.current_named}
 use Rattle.editor_views.proofs.UnpinSteps.{lacks_own, pin_meant, pin_named, has_own}
 use Rattle.pcm_base.proofs.ListFacts.{length-counted_from}
 use Rattle.pcm_base.specs.declared.answer.Reply.TheVariants as reply

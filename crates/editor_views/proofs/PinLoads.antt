@@ -1,31 +1,21 @@
 -- Loading a pin is a step that changes nothing but the pages that are kept.
-use Rattle.std.proofs.Common.{◌≡◌, refl, sym, ap, subst, ◌∙◌, map, ℕ, ◌-◌, min, IsTrue, List, Some, None, Ok, Err}
-use Rattle.std.proofs.Common.{arith}
-use Rattle.std.specs.Prelude.{IfErr}
-use Rattle.pcm_base.specs.Mix.{loaded_of, loaded_track, mix_length, unmuted}
-use Rattle.pcm_base.specs.{declared.command.Call.Call, declared.command.Call.TheVariants.LoadPin}
-use Rattle.pcm_base.specs.{declared.lists.LoadedTrack.LoadedTrack, Pieces.Sources, Run.stop_of}
-use Rattle.disk_model.specs.{Frames.Kept, declared.store.Store.Ghosts}
-use Rattle.disk_model.proofs.Frames.{Fewer}
-use Rattle.sample_block.specs.Sources.{sources_of}
-use Rattle.block_cache.specs.Caches.{Entries}
-use Rattle.block_store.specs.Reads.{Counted, CountedBy, IsFaultIn}
-use Rattle.block_store.specs.{declared.fault.BlockFault.BlockFault, Reasons.reason_of}
-use Rattle.envelope_view.proofs.AnswerLaws.{reason_damaged}
+use Rattle.editor_views.proofs.Common.{◌≡◌, refl, sym, ap, subst, ◌∙◌, map, ℕ, ◌-◌, min, IsTrue, List, Some, None, Ok}
+use Rattle.editor_views.proofs.Common.{Err, arith, IfErr, mix_length, Call, Sources, stop_of, Kept, Ghosts, Fewer}
+use Rattle.editor_views.proofs.Common.{sources_of, Entries, Counted, CountedBy, IsFaultIn, BlockFault, reason_of}
+use Rattle.editor_views.proofs.Common.{reason_damaged, mix_length_of, Track, meant, point_blocks, IsHeld, IsStudio}
+use Rattle.editor_views.proofs.Common.{named_blocks, studio_of, Core, Took, quietly, silent, LacksPin, MayFind}
+use Rattle.editor_views.proofs.Common.{looked_ok, looked_failed, looked_wanting, IsQuiet, quiet_passes, carried}
+use Rattle.editor_views.proofs.Common.{room_of, refused_own, refused_stopped, fault_among, fits, ReadsNamed}
+use Rattle.pcm_base.specs.Mix.{loaded_of, loaded_track, unmuted}
+use Rattle.pcm_base.specs.{declared.command.Call.TheVariants.LoadPin, declared.lists.LoadedTrack.LoadedTrack}
 use Rattle.mixdown.specs.{declared.loaded.Loaded.Loaded, Loads.IsLoaded, Loads.Shows, Loads.tracks_in}
 use Rattle.mixdown.proofs.LoadLaws.{shown_tracks}
 use Rattle.mix_reader.specs.declared.loads.LoadFault.TheVariants.{Block, NoMemory}
 use Rattle.mix_reader.specs.Heard.{IsNoDamage, disk_part, refusal_of}
-use Rattle.mix_reader.specs.{declared.loads.LoadFault.LoadFault, Tracks.mix_length_of}
-use Rattle.project_state.specs.{declared.track.Track.Track, Meaning.meant, Meaning.point_blocks}
-use Rattle.editor_state.specs.Studios.{IsHeld, IsStudio, named_blocks, studio_of}
-use Rattle.editor_state.specs.{Core.Core, Reads.Looks, Took.Took, Took.quietly, Took.silent}
-use Rattle.editor_views.specs.Pins.{LacksPin, MayFind}
-use Rattle.editor_state.proofs.Calls.LookCalls.{looked_ok, looked_failed, looked_wanting}
-use Rattle.editor_state.proofs.Calls.QuietCalls.{IsQuiet, quiet_passes, carried, room_of, refused_own, refused_stopped}
+use Rattle.mix_reader.specs.{declared.loads.LoadFault.LoadFault}
+use Rattle.editor_state.specs.{Reads.Looks}
 use Rattle.editor_state.proofs.Calls.LookAnswers.{undamaged, unread_looks}
-use Rattle.editor_state.proofs.{Blocks.BlockDamage.fault_among, Refusals.CommitTests.fits, Refusals.EarlyRefusals.wants}
-use Rattle.editor_state.proofs.{Blocks.CachePages.ReadsNamed}
+use Rattle.editor_state.proofs.{Refusals.EarlyRefusals.wants}
 use Rattle.editor_views.proofs.UnpinSteps.{lacks_own, pin_meant, pin_named, has_own}
 use Rattle.pcm_base.specs.declared.answer.Reply.TheVariants as reply
 use Rattle.pcm_base.specs.declared.refusal.Refusal.TheVariants as refusal

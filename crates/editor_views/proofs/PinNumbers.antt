@@ -1,17 +1,13 @@
 -- Pins by their numbers, and the blocks that they name.
-use Rattle.std.proofs.Common.{◌≡◌, ◌≢◌, ⊎_elim, take, drop, slice_get, refl, sym, ap, ◌∙◌, ℕ, ◌+◌, ◌≤◌, ◌<◌, eqb, false}
-use Rattle.std.proofs.Common.{List, [], ◌∷◌, ◌++◌, Some, None, subst, arith}
+use Rattle.editor_views.proofs.Common.{◌≡◌, ◌≢◌, ⊎_elim, take, drop, refl, sym, ap, ◌∙◌, ℕ, ◌+◌, ◌≤◌, ◌<◌, false, List}
+use Rattle.editor_views.proofs.Common.{[], ◌∷◌, ◌++◌, Some, None, subst, arith, append-nil, AllByRecursion, BlockRef}
+use Rattle.editor_views.proofs.Common.{Sources, with_pin, without_pin, Track, meant, point_blocks, all_append, Pin}
+use Rattle.editor_views.proofs.Common.{PinsRise, pin_at, pin_blocks, LacksPin, all_left, all_right}
+use Rattle.std.proofs.Common.{slice_get, eqb}
 use Rattle.std.proofs.lemmas.Bool.{eq-eqb, ne_eqb}
-use Rattle.std.proofs.lemmas.List.{append-nil, append_assoc, take-append-drop}
+use Rattle.std.proofs.lemmas.List.{append_assoc, take-append-drop}
 use Rattle.std.proofs.{lemmas.Bool.Decides.eqb_tells, lemmas.Grind.flat_map-append}
-use Rattle.std.specs.List.{AllByRecursion}
-use Rattle.pcm_base.specs.{declared.block.BlockRef.BlockRef, Pieces.Sources, Step.with_pin, Step.without_pin}
-use Rattle.project_state.specs.{declared.track.Track.Track, Meaning.meant, Meaning.point_blocks}
-use Rattle.record_body.proofs.SavedBounds.{all_append}
 use Rattle.project_state.proofs.Points.{take_some}
-use Rattle.editor_state.specs.{declared.pin.Pin.Pin, Studios.PinsRise, Studios.pin_at, Studios.pin_blocks}
-use Rattle.editor_views.specs.Pins.{LacksPin}
-use Rattle.editor_state.proofs.Lists.{all_left, all_right}
 
 -- an element of a list, and what is around it
 pub around : {X : Type 0} (xs : List X) (i : ℕ) (x : X) → slice_get xs i ≡ Some x

@@ -1,13 +1,8 @@
 -- Reading as many frames of a pin as there are, up to a number, is reading that number.
-use Rattle.std.proofs.Common.{◌≡◌, ⊎_elim, inl, inr, sym, ap, ◌∙◌, ℕ, ◌-◌, min, length-drop, take, drop, Some, Ok}
-use Rattle.std.proofs.Common.{arith}
-use Rattle.std.proofs.lemmas.Option.{same_Some}
-use Rattle.pcm_base.specs.declared.command.Call.TheVariants.{PinLen, ReadPin}
-use Rattle.pcm_base.specs.Mix.{mix_of, mix_length}
-use Rattle.pcm_base.specs.{declared.answer.Reply.Reply, Cells.Project, Run.CarriesOut}
-use Rattle.disk_model.specs.declared.store.Store.{Ghosts}
-use Rattle.sound_export.proofs.GrowLaws.{length_mix}
-use Rattle.editor_state.specs.{Core.Core, Studios.IsHeld, Studios.studio_of, Took.Took, Took.quietly, Took.silent}
+use Rattle.editor_views.proofs.Common.{◌≡◌, ⊎_elim, inl, inr, sym, ap, ◌∙◌, ℕ, ◌-◌, min, length-drop, take, drop, Some}
+use Rattle.editor_views.proofs.Common.{Ok, arith, same_Some, PinLen, ReadPin, mix_of, mix_length, Project, CarriesOut}
+use Rattle.editor_views.proofs.Common.{Ghosts, length_mix, Core, IsHeld, studio_of, Took, quietly, silent}
+use Rattle.pcm_base.specs.{declared.answer.Reply.Reply}
 use Rattle.editor_views.proofs.MixViews.{take_few}
 use Rattle.pcm_base.specs.declared.answer.Reply.TheVariants as reply
 use Rattle.pcm_base.specs.Studio as model

@@ -1,12 +1,9 @@
 -- A call that only looks, refused as another one that asks as much.
-use Rattle.std.proofs.Common.{⊎_elim, inl, inr, refl, ap, ◌∙◌, subst, ℕ, Err}
-use Rattle.pcm_base.specs.declared.command.Call.TheVariants.{PinLen, ReadPin}
-use Rattle.pcm_base.specs.Run.{Answers, Breaks, BreaksOff, LeavesAll, followed, outside}
-use Rattle.pcm_base.specs.{declared.command.Call.Call, declared.refusal.Refusal.Refusal}
-use Rattle.disk_model.specs.{Disk.Files, declared.store.Store.Ghosts}
-use Rattle.record_body.specs.Saved.{Keeps}
-use Rattle.editor_state.specs.Took.{KeepsOneOf, Took, quietly, silent}
-use Rattle.editor_state.specs.{Core.Core, Studios.shown, Studios.studio_of}
+use Rattle.editor_views.proofs.Common.{⊎_elim, inl, inr, refl, ap, ◌∙◌, subst, ℕ, Err, PinLen, ReadPin, Answers}
+use Rattle.editor_views.proofs.Common.{BreaksOff, followed, outside, Call, Refusal, Files, Ghosts, Keeps, Took, quietly}
+use Rattle.editor_views.proofs.Common.{silent, Core, shown, studio_of}
+use Rattle.pcm_base.specs.Run.{Breaks, LeavesAll}
+use Rattle.editor_state.specs.Took.{KeepsOneOf}
 use Rattle.model_laws.proofs.Answered.{answered_same}
 use Rattle.editor_state.proofs.Refusals.CounterNumbers.{other_needed}
 use Rattle.pcm_base.specs.declared.refusal.Refusal.TheVariants as refusal

@@ -1,32 +1,24 @@
 -- A pin is a step: the current project is named once more.
-use Rattle.std.proofs.Common.{◌≡◌, inl, inr, refl, sym, ap, ◌∙◌, subst, ℕ, ◌+◌, ◌^◌, ◌<◌, List, [], ◌∷◌, ◌++◌, Some}
-use Rattle.std.proofs.Common.{None, Ok, Err, arith, append_assoc, length, IsSome, ◌↔◌}
-use Rattle.std.proofs.lemmas.List.{append-nil}
-use Rattle.std.specs.List.{AllByRecursion}
-use Rattle.pcm_base.specs.{declared.answer.Reply.TheVariants.Pinned, declared.block.BlockRef.BlockRef}
+use Rattle.editor_views.proofs.Common.{◌≡◌, inl, inr, refl, sym, ap, ◌∙◌, subst, ℕ, ◌+◌, ◌<◌, List, [], ◌∷◌, ◌++◌, Some}
+use Rattle.editor_views.proofs.Common.{None, Ok, Err, arith, append_assoc, length, IsSome, ◌↔◌, append-nil}
+use Rattle.editor_views.proofs.Common.{AllByRecursion, BlockRef, stop_of, after, with_pin, Ghosts, Fewer, sources_of}
+use Rattle.editor_views.proofs.Common.{Counts, count_of, Track, point_blocks, history_blocks, current_tracks}
+use Rattle.editor_views.proofs.Common.{IsValidPoint, all_append, IsStudio, pin_at, pin_blocks, pin_tracks, clip_blocks}
+use Rattle.editor_views.proofs.Common.{named_blocks, studio_of, studio_tracks, Core, Pin, Took, quietly, silent, Tally}
+use Rattle.editor_views.proofs.Common.{AreDrawn, AreNumbered, history_tracks, AreCounts, IsTally, counts_swapped}
+use Rattle.editor_views.proofs.Common.{current_valid, current_meant, renamed, Renames, renamed_took, IsQuiet}
+use Rattle.editor_views.proofs.Common.{quiet_passes, carried, room_of, refused_stopped, refused_wanting, all_left}
+use Rattle.editor_views.proofs.Common.{all_right, fits, stopped_not}
+use Rattle.std.proofs.Common.{◌^◌}
+use Rattle.pcm_base.specs.{declared.answer.Reply.TheVariants.Pinned}
 use Rattle.pcm_base.specs.{declared.command.Call.TheVariants.Pin as Keep, Cells.Project, Pieces.Sources, Run.outside}
-use Rattle.pcm_base.specs.{Run.stop_of, Step.after, Step.with_pin}
-use Rattle.disk_model.specs.declared.store.Store.{Ghosts}
-use Rattle.disk_model.proofs.Frames.{Fewer}
-use Rattle.sample_block.specs.Sources.{sources_of}
-use Rattle.block_ledger.specs.{Counts.Counts, Entries.count_of}
-use Rattle.project_state.specs.{declared.track.Track.Track, Meaning.point_blocks, Meaning.history_blocks}
-use Rattle.record_body.specs.{Saved.current_tracks, SavedValid.IsValidPoint}
-use Rattle.record_body.proofs.SavedBounds.{all_append}
-use Rattle.editor_state.specs.Studios.{IsStudio, pin_at, pin_blocks, pin_tracks, clip_blocks, named_blocks, studio_of}
-use Rattle.editor_state.specs.Studios.{studio_tracks}
-use Rattle.editor_state.specs.{Core.Core, declared.pin.Pin.Pin, Took.Took, Took.quietly, Took.silent}
-use Rattle.layout_uses.specs.{declared.tally.Tally.Tally, Layouts.AreDrawn, Layouts.AreNumbered, Layouts.history_tracks}
-use Rattle.layout_uses.specs.{Tallies.AreCounts, Tallies.Comes, Tallies.IsTally}
-use Rattle.layout_uses.proofs.Moves.{counts_swapped, drawn_swapped, numbered_swapped}
+use Rattle.layout_uses.specs.{Tallies.Comes}
+use Rattle.layout_uses.proofs.Moves.{drawn_swapped, numbered_swapped}
 use Rattle.layout_uses.proofs.{Numbers.shared_agree, Putting.same_numbers}
-use Rattle.editor_commits.proofs.CurrentProject.{current_valid, current_meant, old_names}
+use Rattle.editor_commits.proofs.CurrentProject.{old_names}
 use Rattle.editor_state.proofs.Blocks.NamedBlocks.{current_among, tracks_few, tracks_more}
-use Rattle.editor_state.proofs.Calls.NameChanges.{renamed, Renames, renamed_took}
-use Rattle.editor_state.proofs.Calls.QuietCalls.{IsQuiet, quiet_passes, pins_spent, carried, room_of, refused_by}
-use Rattle.editor_state.proofs.Calls.QuietCalls.{refused_stopped, refused_wanting}
-use Rattle.editor_state.proofs.{Lists.all_left, Lists.all_right, Refusals.CommitTests.fits, Refusals.CommitTests.spends}
-use Rattle.editor_state.proofs.{Refusals.EarlyRefusals.stopped_not}
+use Rattle.editor_state.proofs.Calls.QuietCalls.{pins_spent, refused_by}
+use Rattle.editor_state.proofs.{Refusals.CommitTests.spends}
 use Rattle.editor_views.proofs.PinNumbers.{rise_more, with_one, blocks_more}
 use Rattle.pcm_base.specs.declared.refusal.Refusal.TheVariants as refusal
 use Rattle.pcm_base.specs.Studio as model

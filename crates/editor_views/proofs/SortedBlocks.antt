@@ -1,17 +1,17 @@
 -- Blocks that are sorted by their ids, and of which each is kept once.
-use Rattle.std.proofs.Common.{◌≡◌, ◌≢◌, ◌∙◌, refl, sym, ap, subst, ℕ, zero, suc, ◌+◌, ◌≤◌, ◌<◌, ◌==◌, List, [], ◌∷◌}
-use Rattle.std.proofs.Common.{Bool, true, false, cond, inl, inr, arith}
+use Rattle.editor_views.proofs.Common.{◌≡◌, ◌≢◌, ◌∙◌, refl, sym, ap, subst, ℕ, zero, suc, ◌+◌, ◌≤◌, ◌<◌, ◌==◌, List, []}
+use Rattle.editor_views.proofs.Common.{◌∷◌, Bool, true, false, inl, inr, arith, All-from_recursion, Contains}
+use Rattle.editor_views.proofs.Common.{AllByRecursion, BlockRef, all_so}
+use Rattle.std.proofs.Common.{cond}
 use Rattle.std.proofs.lemmas.Bool.{cases_Bool, eqb-true, eqb-false}
-use Rattle.std.proofs.lemmas.List.Elements.{All-contains_itself, All-from_recursion, recursion_from_All}
+use Rattle.std.proofs.lemmas.List.Elements.{All-contains_itself, recursion_from_All}
 use Rattle.std.proofs.lemmas.List.Kept.{Contains-dedup, Contains-from_dedup}
 use Rattle.std.proofs.lemmas.List.Sorted.{Contains-permutation, IsPermutation-sym}
-use Rattle.std.specs.Prelude.{◌&&◌, Contains, slice_index, slice_index_or}
-use Rattle.std.specs.{Cmp.IsEquivalence, List.AllByRecursion, List.dedup, List.dedup_from}
-use Rattle.std.specs.{List.Sorted.IsNonDecreasingBy, List.Sorted.IsPermutation, List.Sorted.IsStrictlyIncreasing}
-use Rattle.pcm_base.specs.declared.block.BlockRef.{BlockRef}
+use Rattle.std.specs.Prelude.{◌&&◌, slice_index, slice_index_or}
+use Rattle.std.specs.{Cmp.IsEquivalence, List.dedup, List.dedup_from, List.Sorted.IsNonDecreasingBy}
+use Rattle.std.specs.{List.Sorted.IsPermutation, List.Sorted.IsStrictlyIncreasing}
 use Rattle.editor_views.specs.Scans.{AreListed, HaveOneLength}
 use Rattle.editor_state.specs.Studios.{ids_of}
-use Rattle.editor_state.proofs.Lists.{all_so}
 
 -- no id is above one after it, and each is below those after it
 abbrev pub Up : List BlockRef → Type 0

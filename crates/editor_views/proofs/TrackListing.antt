@@ -1,18 +1,11 @@
 -- Telling of the tracks.
-use Rattle.std.proofs.Common.{◌≡◌, refl, sym, ap, ◌∙◌, ℕ, List, [], ◌∷◌, ◌++◌, map, Some, None, Ok, Err, arith}
-use Rattle.pcm_base.specs.{declared.command.Call.Call, declared.command.Call.TheVariants.Line}
-use Rattle.pcm_base.specs.{declared.sound.TrackLine.TrackLine, Cells.Project, Pieces.Sources, Run.stop_of}
-use Rattle.pcm_base.specs.{Step.line_of_track}
-use Rattle.disk_model.specs.declared.store.Store.{Ghosts}
-use Rattle.disk_model.proofs.Frames.{Fewer}
-use Rattle.sample_block.specs.Sources.{sources_of}
-use Rattle.project_state.specs.{declared.track.Track.Track, Meaning.meant, Meaning.meant_track}
-use Rattle.record_body.specs.Saved.{current_tracks}
-use Rattle.editor_state.specs.{Core.Core, Studios.IsStudio, Studios.studio_of, Took.Took, Took.quietly}
-use Rattle.editor_commits.proofs.CurrentProject.{current_meant}
-use Rattle.editor_state.proofs.Calls.QuietCalls.{IsQuiet, quiet_passes, carried, room_of, refused_stopped}
-use Rattle.editor_state.proofs.Calls.QuietCalls.{refused_wanting, stays_answered}
-use Rattle.editor_state.proofs.Refusals.CommitTests.{fits}
+use Rattle.editor_views.proofs.Common.{◌≡◌, refl, sym, ap, ◌∙◌, ℕ, List, [], ◌∷◌, ◌++◌, map, Some, None, Ok, Err, arith}
+use Rattle.editor_views.proofs.Common.{Call, Line, Project, Sources, stop_of, Ghosts, Fewer, sources_of, Track, meant}
+use Rattle.editor_views.proofs.Common.{current_tracks, Core, IsStudio, studio_of, Took, quietly, current_meant, IsQuiet}
+use Rattle.editor_views.proofs.Common.{quiet_passes, carried, room_of, refused_stopped, refused_wanting, stays_answered}
+use Rattle.editor_views.proofs.Common.{fits}
+use Rattle.pcm_base.specs.{declared.sound.TrackLine.TrackLine, Step.line_of_track}
+use Rattle.project_state.specs.{Meaning.meant_track}
 use Rattle.pcm_base.specs.declared.answer.Reply.TheVariants as reply
 use Rattle.pcm_base.specs.declared.command.Command.TheVariants as command
 use Rattle.pcm_base.specs.declared.refusal.Refusal.TheVariants as refusal

@@ -1,29 +1,22 @@
 -- Letting a pin go is a step; and what holds of a pin that is found.
-use Rattle.std.proofs.Common.{◌≡◌, refl, sym, ap, ◌∙◌, subst, ℕ, List, ◌∷◌, ◌++◌, Option, Some, None, Contains, Ok, Err}
-use Rattle.std.proofs.Common.{append_assoc, IsSome, ◌↔◌, arith}
-use Rattle.std.specs.{Prelude.is_none, List.AllByRecursion}
-use Rattle.pcm_base.specs.Step.{after, without_pin}
-use Rattle.pcm_base.specs.{declared.answer.Reply.TheVariants.Done, declared.block.BlockRef.BlockRef}
-use Rattle.pcm_base.specs.{declared.command.Call.TheVariants.Unpin, Pieces.Sources, Refusals.refused_if, Run.outside}
-use Rattle.disk_model.specs.declared.store.Store.{Ghosts}
-use Rattle.disk_model.proofs.Frames.{Fewer}
-use Rattle.sample_block.specs.Sources.{sources_of, IsWhole, AllNamed, AllWhole}
-use Rattle.block_ledger.specs.{Counts.Counts, Entries.count_of}
-use Rattle.project_state.specs.{declared.track.Track.Track, Meaning.meant, Meaning.point_blocks, Meaning.history_blocks}
-use Rattle.record_body.specs.SavedValid.{IsValidPoint}
-use Rattle.record_body.proofs.SavedBounds.{all_append}
-use Rattle.editor_state.specs.Studios.{PinsRise, IsHeld, IsStudio, pin_at, pin_blocks, pin_tracks, clip_blocks}
-use Rattle.editor_state.specs.Studios.{named_blocks, studio_of, studio_tracks}
-use Rattle.editor_state.specs.{Core.Core, declared.pin.Pin.Pin, Edits.AreAmong, Took.Took, Took.quietly, Took.silent}
-use Rattle.layout_uses.specs.Tallies.{AreCounts, Goes, Has, IsTally}
-use Rattle.layout_uses.specs.{declared.tally.Tally.Tally, Layouts.AreDrawn, Layouts.AreNumbered, Layouts.history_tracks}
-use Rattle.layout_uses.proofs.Moves.{counts_swapped, drawn_without, numbered_without}
-use Rattle.editor_views.specs.Pins.{TakesPin, LacksPin, MayFind}
-use Rattle.editor_state.proofs.Calls.NameChanges.{renamed, Renames, renamed_took}
-use Rattle.editor_state.proofs.Calls.QuietCalls.{IsQuiet, quiet_passes, carried, room_of, refused_own}
-use Rattle.editor_state.proofs.{Blocks.BlockLists.among_itself, Blocks.NamedBlocks.tracks_around, Lists.all_left}
-use Rattle.editor_state.proofs.{Lists.all_right, Refusals.CommitTests.fits}
-use Rattle.editor_commits.proofs.CursorTracks.{may_read}
+use Rattle.editor_views.proofs.Common.{◌≡◌, refl, sym, ap, ◌∙◌, subst, ℕ, List, ◌∷◌, ◌++◌, Option, Some, None, Ok, Err}
+use Rattle.editor_views.proofs.Common.{append_assoc, IsSome, ◌↔◌, arith, AllByRecursion, after, without_pin, BlockRef}
+use Rattle.editor_views.proofs.Common.{Sources, refused_if, outside, Ghosts, Fewer, sources_of, IsWhole, Counts}
+use Rattle.editor_views.proofs.Common.{count_of, Track, meant, point_blocks, history_blocks, IsValidPoint, all_append}
+use Rattle.editor_views.proofs.Common.{PinsRise, IsHeld, IsStudio, pin_at, pin_blocks, pin_tracks, clip_blocks}
+use Rattle.editor_views.proofs.Common.{named_blocks, studio_of, studio_tracks, Core, Pin, Took, quietly, silent}
+use Rattle.editor_views.proofs.Common.{AreCounts, IsTally, Tally, AreDrawn, AreNumbered, history_tracks, counts_swapped}
+use Rattle.editor_views.proofs.Common.{LacksPin, MayFind, renamed, Renames, renamed_took, IsQuiet, quiet_passes}
+use Rattle.editor_views.proofs.Common.{carried, room_of, refused_own, all_left, all_right, fits, may_read}
+use Rattle.std.proofs.Common.{Contains}
+use Rattle.std.specs.{Prelude.is_none}
+use Rattle.pcm_base.specs.{declared.answer.Reply.TheVariants.Done, declared.command.Call.TheVariants.Unpin}
+use Rattle.sample_block.specs.Sources.{AllNamed, AllWhole}
+use Rattle.editor_state.specs.{Edits.AreAmong}
+use Rattle.layout_uses.specs.Tallies.{Goes, Has}
+use Rattle.layout_uses.proofs.Moves.{drawn_without, numbered_without}
+use Rattle.editor_views.specs.Pins.{TakesPin}
+use Rattle.editor_state.proofs.{Blocks.BlockLists.among_itself, Blocks.NamedBlocks.tracks_around}
 use Rattle.editor_views.proofs.PinNumbers.{rise_less, lacks_none, without_one, found_at, all_but, that_one, blocks_but}
 use Rattle.editor_views.proofs.PinNumbers.{blocks_of_one}
 use Rattle.pcm_base.specs.declared.refusal.Refusal.TheVariants as refusal

@@ -4,6 +4,8 @@ use Rattle.std.specs.List.{AllByRecursion}
 use Rattle.pcm_base.specs.{declared.refusal.Refusal.Refusal, declared.refusal.Refusal.TheVariants.NoPin}
 use Rattle.project_state.specs.declared.track.Track.{Track}
 use Rattle.record_body.specs.Saved.{current_tracks}
+use Rattle.block_cache.specs.Caches.{Entries}
+use Rattle.mix_reader.specs.Heard.{HasHeard}
 use Rattle.editor_state.specs.{Core.Core, declared.pin.Pin.Pin}
 
 -- the pin with this number is taken out of the others
@@ -28,6 +30,11 @@ abbrev pub MayFind : List Pin → ℕ → Option (List Track) → Type 0
 MayFind pins number (Some point) = (front : List Pin) × (back : List Pin)
     × (pins ≡ front ++ record { number = number; point = point } ∷ back)
 MayFind pins number None = LacksPin number pins
+
+-- a pin has the number, and the cache has all pages of its tracks that are heard, from one place to another
+pub record HasPin (c : Entries) (pins : List Pin) (number from to : ℕ) : Type 0 where
+  pub there : LacksPin number pins → ⊥
+  pub heard : (point : List Track) → MayFind pins number (Some point) → HasHeard c from to point
 
 -- ---- what changes, whatever the disk tells
 

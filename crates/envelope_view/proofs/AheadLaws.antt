@@ -1,27 +1,25 @@
 -- The cells of what is left, and the samples among them.
-use Rattle.std.proofs.Common.{◌≡◌, ℕ, zero, suc, ◌+◌, ◌-◌, ◌≤◌, ℤ, List, [], ◌∷◌, ◌++◌, length, take, drop, map, Some}
-use Rattle.std.proofs.Common.{refl, sym, ap, ap₂, subst, ◌∙◌, arith, length-drop}
-use Rattle.std.proofs.lemmas.List.{take-append-le, drop-append-le, drop-drop, take-map, take-replicate, length-take}
-use Rattle.std.proofs.lemmas.List.{take_rest, nil_from_length}
-use Rattle.std.proofs.lemmas.List.Elements.{All-take, All-drop, All-nil, Contains-append_right}
+use Rattle.envelope_view.proofs.Common.{◌≡◌, ℕ, zero, suc, ◌+◌, ◌-◌, ◌≤◌, ℤ, List, [], ◌∷◌, ◌++◌, length, take, drop}
+use Rattle.envelope_view.proofs.Common.{map, Some, refl, sym, ap, ap₂, subst, ◌∙◌, arith, length-drop, drop-drop}
+use Rattle.envelope_view.proofs.Common.{take_rest, All-take, All-drop, All-nil, Contains, FitsSigned, w16, Files}
+use Rattle.envelope_view.proofs.Common.{Sources, BlockRef, Cell, part, blocks, sources_of, IsNamed, blocks_have}
+use Rattle.envelope_view.proofs.Common.{samples_among, Summary, AreSamples, summary_of, Block, item_len, part_of_item}
+use Rattle.envelope_view.proofs.Common.{strip_blocks, strip_cells, Stretch, Item, stretch_item, IsInBlock}
+use Rattle.envelope_view.proofs.Common.{stretch_blocks, stretch_cells, stretch_len, AreWhole}
+use Rattle.std.proofs.lemmas.List.{take-append-le, drop-append-le, take-map, take-replicate, length-take}
+use Rattle.std.proofs.lemmas.List.{nil_from_length}
+use Rattle.std.proofs.lemmas.List.Elements.{Contains-append_right}
 use Rattle.std.proofs.Math.Seq.{take-add}
-use Rattle.std.specs.{Prelude.replicate, Prelude.Contains, Prelude.FitsSigned, Int.w16}
-use Rattle.disk_model.specs.Disk.{Files}
+use Rattle.std.specs.{Prelude.replicate}
 use Rattle.pcm_base.specs.declared.sound.Cell.TheVariants.{Gap, Sample}
-use Rattle.pcm_base.specs.Pieces.{Sources, stretch}
-use Rattle.pcm_base.specs.{declared.block.BlockRef.BlockRef, declared.sound.Cell.Cell, Edits.part}
+use Rattle.pcm_base.specs.Pieces.{stretch}
 use Rattle.pcm_base.proofs.Pieces.{take-stretch}
-use Rattle.sample_block.specs.{Blocks.blocks, Sources.samples_on, Sources.sources_of, Sources.IsNamed}
-use Rattle.sample_block.proofs.BlockLaws.{blocks_have}
-use Rattle.block_store.specs.Scans.{samples_among}
+use Rattle.sample_block.specs.{Sources.samples_on}
 use Rattle.block_store.proofs.StretchLaws.{block_stretch}
-use Rattle.peak_summary.specs.{declared.stretch.Summary.Summary, Peaks.AreSamples, Peaks.summary_of}
-use Rattle.clip_track.specs.declared.rest.Stretch.TheVariants.{Gaps, Block}
-use Rattle.clip_track.specs.Items.{item_blocks, item_cells, item_len, part_of_item, strip_blocks, strip_cells}
-use Rattle.clip_track.specs.{declared.rest.Stretch.Stretch, declared.items.Item.Item, Rests.stretch_item}
+use Rattle.clip_track.specs.declared.rest.Stretch.TheVariants.{Gaps}
+use Rattle.clip_track.specs.Items.{item_blocks, item_cells}
 use Rattle.clip_track.proofs.Strips.{item_part_cells, length-item_cells}
-use Rattle.envelope_view.specs.Ahead.{IsInBlock, stretch_blocks, stretch_cells, stretch_len}
-use Rattle.envelope_view.specs.Named.{AreNamed, AreWhole}
+use Rattle.envelope_view.specs.Named.{AreNamed}
 use Rattle.envelope_view.proofs.NamedLaws.{one_there}
 
 -- samples among cells

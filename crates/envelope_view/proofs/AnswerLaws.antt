@@ -1,15 +1,16 @@
 -- The reasons of tests and of faults.
-use Rattle.std.proofs.Common.{◌≡◌, ℕ, List, Result, Ok, Err, refl, sym, subst, arith}
-use Rattle.std.specs.Prelude.{IfErr}
-use Rattle.disk_model.specs.{Disk.Files, Disk.bytes_of, declared.store.Store.Ghosts}
-use Rattle.pcm_base.specs.{declared.block.BlockRef.BlockRef, declared.refusal.Refusal.Refusal}
-use Rattle.sample_block.specs.{Spelling.size_of, Sources.AllWhole, Sources.IsWhole}
+use Rattle.envelope_view.proofs.Common.{◌≡◌, true, ℕ, List, Result, Ok, Err, refl, sym, subst, arith, Files, Ghosts}
+use Rattle.envelope_view.proofs.Common.{BlockRef, AllWhole, IsWhole, BlockFault, BlockReader, Entries, SameCache, Reads}
+use Rattle.envelope_view.proofs.Common.{reads_err}
+use Rattle.std.specs.Prelude.{IfErr, IsOk}
+use Rattle.disk_model.specs.{Disk.bytes_of}
+use Rattle.pcm_base.specs.{declared.refusal.Refusal.Refusal}
+use Rattle.sample_block.specs.{Spelling.size_of}
 use Rattle.block_store.specs.Reads.{Counted, IsFault, IsFaultIn}
-use Rattle.block_store.specs.{declared.fault.BlockFault.BlockFault, Reasons.reason_of}
+use Rattle.block_store.specs.{Reasons.reason_of}
 use Rattle.block_store.proofs.FaultLaws.{block_valid}
-use Rattle.block_cache.specs.{declared.reader.BlockReader.BlockReader, Readers.Reads}
-use Rattle.block_cache.proofs.ReaderLaws.{reads_err}
 use Rattle.envelope_view.specs.Answers.{IsOfTests, IsOfReads, IsDamagedIn, IsUndamaged, IsCountedBy, read_part}
+use Rattle.envelope_view.proofs.BlockReads.{hits_none}
 use Rattle.envelope_view.proofs.NamedLaws.{each_of}
 use Rattle.pcm_base.specs.declared.refusal.Refusal.TheVariants as refusal
 use Rattle.block_store.specs.declared.fault.BlockFault.TheVariants as fault
@@ -51,6 +52,13 @@ module _ {D : Type 0} {disk : Ghosts D} where
       → Reads {T = T} bs a b (Err why) → Reads bs a b (read_part (reason_of why))
   reads_reason {bs = bs} {a = a} {b = b} {why = why} f =
       subst (λ (r : Result (Unit {0}) BlockFault). Reads bs a b r) (sym (reason_part why)) (reads_err f)
+
+-- a test that refuses asks the store nothing
+pub hits_tests : {D P : Type 0} {s : D} {c : Entries} (e : Refusal) → IsOfTests e → P
+    → IsOk (read_part e) × (s ≡ s) × SameCache c c
+hits_tests refusal.BadRange own = hits_none
+hits_tests refusal.BadColumns own = hits_none
+hits_tests _ own = absurd own
 
 -- the same by reasons of lines, for the crates above
 pub counted_of : (why : Refusal) (old new : ℕ) → Counted (read_part why) old new → IsCountedBy why old new

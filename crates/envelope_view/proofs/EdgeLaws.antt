@@ -1,7 +1,7 @@
 -- Where columns begin, and one column more.
-use Rattle.std.proofs.Common.{◌≡◌, ℕ, ◌+◌, ◌*◌, ◌/◌, ◌-◌, ◌≤◌, [], ◌∷◌, ◌++◌, map, ap, ◌∙◌, arith}
+use Rattle.envelope_view.proofs.Common.{◌≡◌, ℕ, ◌+◌, ◌*◌, ◌/◌, ◌-◌, ◌≤◌, [], ◌∷◌, ◌++◌, map, ap, ◌∙◌, arith}
+use Rattle.envelope_view.proofs.Common.{counted_from, edge}
 use Rattle.std.proofs.{Math.Nat.div-le_of_le-mul, Math.Nat.mul-le-mul_left, Math.Nat.mul_comm, lemmas.List.map-append}
-use Rattle.pcm_base.specs.{Arithmetic.counted_from, Envelope.edge}
 use Rattle.pcm_base.proofs.ListFacts.{counted_more}
 
 -- i parts of w are no more than the whole

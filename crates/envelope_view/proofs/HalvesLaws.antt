@@ -1,13 +1,11 @@
 -- A whole, a part of it, and the rest.
-use Rattle.std.proofs.Common.{◌≡◌, ℕ, ◌+◌, ◌-◌, ◌^◌, ◌≤◌, ◌<◌, min, ℤ, List, length, take, drop, sym, ap, subst, ◌∙◌}
-use Rattle.std.proofs.Common.{refl, arith}
-use Rattle.std.proofs.lemmas.List.{take-take, drop-drop, drop-take}
+use Rattle.envelope_view.proofs.Common.{◌≡◌, ℕ, ◌+◌, ◌-◌, ◌^◌, ◌≤◌, ◌<◌, min, ℤ, List, length, take, drop, sym, ap}
+use Rattle.envelope_view.proofs.Common.{subst, ◌∙◌, refl, arith, drop-drop, part, Summary, AreSamples, joined}
+use Rattle.envelope_view.proofs.Common.{summary_of, length-part}
+use Rattle.std.proofs.lemmas.List.{take-take, drop-take}
 use Rattle.std.proofs.{lemmas.Int.ints, lemmas.Int.clamps, lemmas.Bool.ne_eqb}
 use Rattle.std.specs.Int.{int_min, int_max}
-use Rattle.pcm_base.specs.Edits.{part}
-use Rattle.peak_summary.specs.{declared.stretch.Summary.Summary, Peaks.AreSamples, Peaks.joined, Peaks.summary_of}
 use Rattle.peak_summary.proofs.Joins.{squares_le}
-use Rattle.block_store.proofs.StretchLaws.{length-part}
 use Rattle.envelope_view.specs.Halves.{IsRest}
 use Rattle.envelope_view.proofs.SumLaws.{fits_part, part_joined}
 

@@ -1,6 +1,6 @@
 -- Facts on the blocks of a list.
-use Rattle.std.proofs.Common.{List, [], ◌∷◌, refl, arith}
-use Rattle.std.specs.{Prelude.Contains, List.AllByRecursion}
+use Rattle.envelope_view.proofs.Common.{List, [], ◌∷◌, refl, arith, Contains}
+use Rattle.std.specs.{List.AllByRecursion}
 use Rattle.pcm_base.proofs.ListFacts.{each_at}
 
 pub each_of : {X : Type 0} (P : X → Type 0) (xs : List X) → AllByRecursion P xs → (x : X) → Contains xs x → P x

@@ -1,11 +1,9 @@
 -- A summary of the first of some samples, with those that are left.
-use Rattle.std.proofs.Common.{◌≡◌, ℕ, ◌+◌, ◌-◌, ◌^◌, ◌≤◌, ℤ, List, [], ◌++◌, length, refl, sym, ap, ap₂, ◌∙◌, arith}
+use Rattle.envelope_view.proofs.Common.{◌≡◌, ℕ, ◌+◌, ◌-◌, ◌^◌, ◌≤◌, ℤ, List, [], ◌++◌, length, refl, sym, ap, ap₂, ◌∙◌}
+use Rattle.envelope_view.proofs.Common.{arith, All-nil, FitsSigned, w16, Summary, summary_of, joined, nothing}
+use Rattle.envelope_view.proofs.Common.{AreSamples, joined_two}
 use Rattle.std.proofs.Common.{append_assoc, append-nil, length-append}
-use Rattle.std.proofs.lemmas.List.Elements.{All-append, All-nil}
-use Rattle.std.specs.{Prelude.FitsSigned, Int.w16}
-use Rattle.peak_summary.specs.declared.stretch.Summary.{Summary}
-use Rattle.peak_summary.specs.Peaks.{summary_of, joined, nothing, AreSamples}
-use Rattle.peak_summary.proofs.Joins.{joined_two}
+use Rattle.std.proofs.lemmas.List.Elements.{All-append}
 
 -- of this many cells this many are left, and among them these samples
 pub record Running (all : Summary) (count left : ℕ) (more target : List ℤ) : Type 0 where

@@ -1,17 +1,14 @@
 -- Summaries of parts of a block.
-use Rattle.std.proofs.Common.{◌≡◌, ℕ, zero, suc, ◌+◌, ◌-◌, ◌*◌, ◌^◌, ◌≤◌, ◌<◌, ⊎_elim, min, ℤ, List, [], ◌∷◌, length}
-use Rattle.std.proofs.Common.{take, drop, map, Some, refl, sym, ap, ap₂, ◌∙◌, arith, length-drop}
-use Rattle.std.proofs.lemmas.List.Elements.{All-take, All-drop}
-use Rattle.std.proofs.{lemmas.Bool.cases_lt, lemmas.List.take_min}
-use Rattle.std.specs.{Prelude.fold, Prelude.FitsSigned, Int.w16, List.range_with_len}
-use Rattle.disk_model.specs.Disk.{Files}
-use Rattle.sample_block.specs.Blocks.{blocks}
-use Rattle.sample_block.proofs.BlockLaws.{blocks_have}
-use Rattle.pcm_base.specs.Edits.{part}
-use Rattle.peak_summary.specs.declared.stretch.Summary.{Summary}
-use Rattle.peak_summary.specs.Peaks.{summary_of, joined, nothing, frame_of, frames_of, frame_count, AreSamples}
-use Rattle.peak_summary.proofs.Joins.{joined_two}
-use Rattle.block_store.proofs.StretchLaws.{part-join, length-part}
+use Rattle.envelope_view.proofs.Common.{◌≡◌, ℕ, zero, suc, ◌+◌, ◌-◌, ◌*◌, ◌^◌, ◌≤◌, ◌<◌, min, ℤ, List, [], ◌∷◌, length}
+use Rattle.envelope_view.proofs.Common.{take, drop, map, Some, refl, sym, ap, ap₂, ◌∙◌, arith, length-drop, All-take}
+use Rattle.envelope_view.proofs.Common.{All-drop, cases_lt, fold, FitsSigned, w16, Files, blocks, blocks_have, part}
+use Rattle.envelope_view.proofs.Common.{Summary, summary_of, joined, nothing, frames_of, frame_count, AreSamples}
+use Rattle.envelope_view.proofs.Common.{joined_two, length-part}
+use Rattle.std.proofs.Common.{⊎_elim}
+use Rattle.std.proofs.{lemmas.List.take_min}
+use Rattle.std.specs.{List.range_with_len}
+use Rattle.peak_summary.specs.Peaks.{frame_of}
+use Rattle.block_store.proofs.StretchLaws.{part-join}
 
 pub fits_part : (from to : ℕ) (xs : List ℤ) → AreSamples xs → AreSamples (part from to xs)
 fits_part from to xs fit =

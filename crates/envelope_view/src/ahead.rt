@@ -1,10 +1,13 @@
 // What is left of a layout after the cells that were passed.
-ghost use Rattle.std.specs.Prelude.{◌≡◌, ◌≤◌, ◌<◌, ◌-◌, [], Contains, MatchOption};
+ghost use Rattle.std.specs.Prelude.{ℕ, ◌≡◌, ◌≤◌, ◌<◌, ◌-◌, [], Contains, MatchOption};
 ghost use Rattle.pcm_base.specs.Pieces.{Sources};
 ghost use Rattle.pcm_base.specs.declared.block.BlockRef.{BlockRef};
 ghost use Rattle.clip_track.specs.Items.{part_of_item};
 ghost use Rattle.clip_track.specs.Rests.{stretch_item};
-ghost use Rattle.envelope_view.specs.Ahead.{IsInBlock, ahead_blocks, ahead_cells, stretch_blocks, stretch_len};
+ghost use Rattle.envelope_view.specs.Ahead.{IsInBlock, ahead_blocks, ahead_cells, ahead_items};
+ghost use Rattle.envelope_view.specs.Ahead.{stretch_blocks, stretch_len};
+ghost use Rattle.envelope_view.specs.Kept.{HasItems};
+ghost use Rattle.block_cache.specs.Caches.{Entries};
 
 use clip_track::{Rest, Stretch};
 
@@ -50,6 +53,8 @@ impl<'a> Ahead<'a> {
         ensures stretch { IsInBlock self.new.stretch }
         ensures found { MatchOption result ((src : Sources) → ahead_cells src self.new ≡ [])
             (λ s. (s ≡ self.new.stretch) × (0 < stretch_len s)) }
+        ensures kept { (c : Entries) → (n : ℕ) → HasItems c 0 n (ahead_items self.old)
+            → HasItems c 0 n (ahead_items self.new) }
         ensures cells { (src : Sources) → ahead_cells src self.new ≡ ahead_cells src self.old }
         ensures blocks { (b : BlockRef) → Contains (ahead_blocks self.new) b → Contains (ahead_blocks self.old) b }
     {

@@ -1,16 +1,15 @@
 // The two sides of an edge inside a long frame: the shorter side is read, and the frame's own summary tells the other.
-ghost use Rattle.std.specs.Prelude.{◌≡◌, ◌≤◌, ◌<◌, ◌+◌, ◌*◌, [], ◌∷◌, length, List, ℤ, Some, IsTrue, IfSome};
-ghost use Rattle.sample_block.specs.Blocks.{blocks};
+ghost use Rattle.std.specs.Prelude.{◌≡◌, ◌≤◌, ◌<◌, ◌+◌, ◌-◌, ◌*◌, IfSome};
 ghost use Rattle.sample_block.specs.Spelling.{IsBlock};
-ghost use Rattle.block_cache.specs.Readers.{Reads};
-ghost use Rattle.pcm_base.specs.Edits.{part as part_of};
-ghost use Rattle.peak_summary.specs.Peaks.{frame_count, summary_of};
+ghost use Rattle.block_store.specs.declared.frames.Level.TheVariants.{Long};
+ghost use Rattle.block_cache.specs.Caches.{HasFrames};
+ghost use Rattle.peak_summary.specs.Peaks.{frame_count};
 ghost use Rattle.peak_summary.specs.declared.stretch.Summary.{Summary as Sum};
-ghost use Rattle.envelope_view.specs.Parts.{Summarizes};
-ghost use Rattle.envelope_view.specs.Halves.{AreHalves, IsRest};
+ghost use Rattle.envelope_view.specs.Parts.{IsSum, OfBlock, ReadsBlock, Sums};
+ghost use Rattle.envelope_view.specs.Halves.{AreHalves, IsRest, SumsHalves};
 
 use super::parts::{by_short, join_all, summarize};
-use super::reads::read_samples;
+use super::reads::{read_frames, read_samples};
 use block_cache::BlockReader;
 use block_store::{BlockFault, Level};
 use disk_model::Store;
@@ -66,11 +65,8 @@ fn other_side<S: Store>(
     requires rising { from ≤ to }
     requires within { to ≤ block.len }
     requires few { to ≤ from + LONG_FRAME }
-    requires rest { IsTrue (S.tells reader.old.store) → (xs : List ℤ)
-        → blocks (S.reads reader.old.store) block.id ≡ Some xs → length xs ≡ block.len
-        → IfSome rest (λ s. s ≡ summary_of (part_of from to xs)) }
-    ensures reads { Reads (block ∷ []) reader.old reader.new result }
-    ensures read { IsTrue (S.tells reader.old.store) → Summarizes (S.reads reader.old.store) block from to result }
+    requires rest { OfBlock reader.old block (λ xs. IfSome rest (IsSum from to xs)) }
+    ensures { Sums block from to to reader.old reader.new result }
 {
     match rest {
         Some(summary) => Ok(summary),
@@ -91,11 +87,8 @@ fn before_first<S: Store>(
     requires behind { at.edge < at.to }
     requires within { at.to ≤ block.len }
     requires few { at.to ≤ at.from + LONG_FRAME }
-    requires whole { IsTrue (S.tells reader.old.store) → (xs : List ℤ)
-        → blocks (S.reads reader.old.store) block.id ≡ Some xs → length xs ≡ block.len
-        → whole ≡ summary_of (part_of at.from at.to xs) }
-    ensures reads { Reads (block ∷ []) reader.old reader.new result }
-    ensures read { IsTrue (S.tells reader.old.store) → AreHalves (S.reads reader.old.store) block at result }
+    requires whole { OfBlock reader.old block (λ xs. IsSum at.from at.to xs whole) }
+    ensures { SumsHalves block at reader.old reader.new result }
 {
     let before = by_short(reader, block, reach, at.from, at.edge)?;
     let rest = rest_of(whole, before);
@@ -116,11 +109,8 @@ fn after_first<S: Store>(
     requires behind { at.edge < at.to }
     requires within { at.to ≤ block.len }
     requires few { at.to ≤ at.from + LONG_FRAME }
-    requires whole { IsTrue (S.tells reader.old.store) → (xs : List ℤ)
-        → blocks (S.reads reader.old.store) block.id ≡ Some xs → length xs ≡ block.len
-        → whole ≡ summary_of (part_of at.from at.to xs) }
-    ensures reads { Reads (block ∷ []) reader.old reader.new result }
-    ensures read { IsTrue (S.tells reader.old.store) → AreHalves (S.reads reader.old.store) block at result }
+    requires whole { OfBlock reader.old block (λ xs. IsSum at.from at.to xs whole) }
+    ensures { SumsHalves block at reader.old reader.new result }
 {
     let after = by_short(reader, block, reach, at.edge, at.to)?;
     let rest = rest_of(whole, after);
@@ -141,11 +131,8 @@ fn sides<S: Store>(
     requires behind { at.edge < at.to }
     requires within { at.to ≤ block.len }
     requires few { at.to ≤ at.from + LONG_FRAME }
-    requires whole { IsTrue (S.tells reader.old.store) → (xs : List ℤ)
-        → blocks (S.reads reader.old.store) block.id ≡ Some xs → length xs ≡ block.len
-        → whole ≡ summary_of (part_of at.from at.to xs) }
-    ensures reads { Reads (block ∷ []) reader.old reader.new result }
-    ensures read { IsTrue (S.tells reader.old.store) → AreHalves (S.reads reader.old.store) block at result }
+    requires whole { OfBlock reader.old block (λ xs. IsSum at.from at.to xs whole) }
+    ensures { SumsHalves block at reader.old reader.new result }
 {
     if at.edge - at.from <= at.to - at.edge {
         return before_first(reader, block, reach, at, whole);
@@ -163,15 +150,14 @@ fn long_frames<S: Store>(
     requires block { IsBlock block.id block.len }
     requires rising { first ≤ last }
     requires within { last < frame_count LONG_FRAME block.len }
-    ensures reads { Reads (block ∷ []) reader.old reader.new result }
-    ensures read { IsTrue (S.tells reader.old.store)
-        → AreHalves (S.reads reader.old.store) block
-        (record { from = LONG_FRAME * first; edge = LONG_FRAME * last; to = LONG_FRAME * last + LONG_FRAME }) result }
+    ensures { ReadsBlock block (λ c. HasFrames c Long block first (last + 1 - first)) (AreHalves
+        (record { from = LONG_FRAME * first; edge = LONG_FRAME * last; to = LONG_FRAME * last + LONG_FRAME }))
+        reader.old reader.new result }
 {
     let mut buf = [NOTHING; MOST];
     let count = (last - first) as usize;
     let page = &mut buf[..count + 1];
-    reader.frames(block, Level::Long, first, page)?;
+    read_frames(reader, block, 0, Level::Long, first, page)?;
     let before = join_all(&page[..count]);
     let after = join_all(&page[count..]);
     Ok(Halves { before, after })
@@ -193,8 +179,7 @@ pub(crate) fn up_to_edge<S: Store>(
     requires within { at.to ≤ block.len }
     requires few { at.to ≤ LONG_FRAME * frame + LONG_FRAME }
     requires last { at.to < LONG_FRAME * frame + LONG_FRAME → at.to ≡ block.len }
-    ensures reads { Reads (block ∷ []) reader.old reader.new result }
-    ensures read { IsTrue (S.tells reader.old.store) → AreHalves (S.reads reader.old.store) block at result }
+    ensures { SumsHalves block at reader.old reader.new result }
 {
     let first = at.from.div_ceil(LONG_FRAME);
     let front = by_short(reader, block, reach, at.from, LONG_FRAME * first)?;
@@ -227,8 +212,7 @@ pub(crate) fn up_to_short_edge<S: Store>(
     requires behind { at.edge < at.to }
     requires within { at.to ≤ block.len }
     requires few { at.to ≤ start + 256 }
-    ensures reads { Reads (block ∷ []) reader.old reader.new result }
-    ensures read { IsTrue (S.tells reader.old.store) → AreHalves (S.reads reader.old.store) block at result }
+    ensures { SumsHalves block at reader.old reader.new result }
 {
     let front = summarize(reader, block, reach, at.from, start)?;
     let mut buf = [0i16; 256];

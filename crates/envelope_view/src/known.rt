@@ -1,11 +1,10 @@
 // What is known of a block after the part that was summarized last.
-ghost use Rattle.std.specs.Prelude.{◌≡◌, ◌≤◌, ◌<◌, ◌+◌, ◌*◌, [], ◌∷◌, IsTrue, IfSome, Some};
+ghost use Rattle.std.specs.Prelude.{◌≡◌, ◌≤◌, ◌<◌, ◌+◌, ◌*◌, min, IsTrue, IfSome, Some};
 ghost use Rattle.pcm_base.specs.declared.limits.TheConstants.{MAX_BLOCK_SAMPLES};
 ghost use Rattle.disk_model.specs.Disk.{Files};
 ghost use Rattle.sample_block.specs.Spelling.{IsBlock};
-ghost use Rattle.block_cache.specs.Readers.{Reads};
 ghost use Rattle.envelope_view.specs.Halves.{IsEdgeIn, IsKnown, IsShortEdge};
-ghost use Rattle.envelope_view.specs.Parts.{Summarizes};
+ghost use Rattle.envelope_view.specs.Parts.{Sums};
 
 use super::halves::{Split, up_to_edge, up_to_short_edge};
 use super::parts::summarize;
@@ -62,7 +61,7 @@ fn frame_stop(len: u32, frame: u32) -> u32
 fn frame_at(len: u32, from: u32, to: u32, reach: u64) -> Option<u32>
     requires within { to ≤ len }
     requires few { len ≤ MAX_BLOCK_SAMPLES }
-    ensures { IfSome result (IsEdgeIn len from to) }
+    ensures { IfSome result (IsEdgeIn len from to reach) }
 {
     let frame = to / LONG_FRAME;
     let start = LONG_FRAME * frame;
@@ -76,7 +75,7 @@ fn frame_at(len: u32, from: u32, to: u32, reach: u64) -> Option<u32>
 /// Where the short frame begins inside which a part ends, on the same conditions.
 fn short_start(len: u32, from: u32, to: u32, reach: u64) -> Option<u32>
     requires within { to ≤ len }
-    ensures { IfSome result (IsShortEdge len from to) }
+    ensures { IfSome result (IsShortEdge len from to reach) }
 {
     let start = to / 256 * 256;
     let stop = short_stop(len, start);
@@ -113,9 +112,8 @@ fn summarize_narrow<S: Store>(
     requires rising { from ≤ to }
     requires within { to ≤ block.len }
     requires known { IsTrue (S.tells reader.old.store) → IsKnown (S.reads reader.old.store) known.old }
-    ensures reads { Reads (block ∷ []) reader.old reader.new result }
     ensures known { IsTrue (S.tells reader.old.store) → IsKnown (S.reads reader.old.store) known.new }
-    ensures read { IsTrue (S.tells reader.old.store) → Summarizes (S.reads reader.old.store) block from to result }
+    ensures sum { Sums block from to (min block.len (to + reach)) reader.old reader.new result }
 {
     let Some(start) = short_start(block.len, from, to, reach) else {
         return summarize(reader, block, reach, from, to);
@@ -150,9 +148,8 @@ pub(crate) fn summarize_on<S: Store>(
     requires rising { from ≤ to }
     requires within { to ≤ block.len }
     requires known { IsTrue (S.tells reader.old.store) → IsKnown (S.reads reader.old.store) known.old }
-    ensures reads { Reads (block ∷ []) reader.old reader.new result }
     ensures known { IsTrue (S.tells reader.old.store) → IsKnown (S.reads reader.old.store) known.new }
-    ensures read { IsTrue (S.tells reader.old.store) → Summarizes (S.reads reader.old.store) block from to result }
+    ensures sum { Sums block from to (min block.len (to + reach)) reader.old reader.new result }
 {
     let Some(frame) = frame_at(block.len, from, to, reach) else {
         return summarize_narrow(reader, known, block, from, to, reach);

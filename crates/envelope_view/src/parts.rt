@@ -1,12 +1,11 @@
 // The summary of a part of a block, from whole frames and the samples at its edges.
-ghost use Rattle.std.specs.Prelude.{◌≡◌, ◌≤◌, ◌<◌, ◌+◌, ◌-◌, ◌*◌, [], ◌∷◌, length, fold, IsTrue};
+ghost use Rattle.std.specs.Prelude.{◌≡◌, ◌≤◌, ◌<◌, ◌+◌, ◌*◌, fold};
 ghost use Rattle.pcm_base.specs.declared.limits.TheConstants.{MAX_BLOCK_SAMPLES};
 ghost use Rattle.sample_block.specs.Spelling.{IsBlock};
 ghost use Rattle.block_store.specs.Reads.{frame_len};
 ghost use Rattle.block_store.specs.declared.frames.Level.TheVariants.{Short, Long};
-ghost use Rattle.block_cache.specs.Readers.{Reads};
 ghost use Rattle.peak_summary.specs.Peaks.{joined, nothing, frame_count};
-ghost use Rattle.envelope_view.specs.Parts.{Summarizes};
+ghost use Rattle.envelope_view.specs.Parts.{Sums, SumsFrames};
 
 use super::reads::{read_frames, read_samples};
 use block_cache::BlockReader;
@@ -76,8 +75,7 @@ fn by_samples<S: Store>(
     requires rising { from ≤ to }
     requires within { to ≤ block.len }
     requires few { to ≤ from + 512 }
-    ensures reads { Reads (block ∷ []) reader.old reader.new result }
-    ensures read { IsTrue (S.tells reader.old.store) → Summarizes (S.reads reader.old.store) block from to result }
+    ensures { Sums block from to to reader.old reader.new result }
 {
     if from == to {
         return Ok(NOTHING);
@@ -102,9 +100,7 @@ fn by_few_frames<S: Store>(
     requires rising { first ≤ end }
     requires within { end ≤ frame_count (frame_len level) block.len }
     requires few { end ≤ first + 128 }
-    ensures reads { Reads (block ∷ []) reader.old reader.new result }
-    ensures read { IsTrue (S.tells reader.old.store)
-        → Summarizes (S.reads reader.old.store) block (frame_len level * first) (frame_len level * end) result }
+    ensures { SumsFrames block level first end reader.old reader.new result }
 {
     let mut buf = [NOTHING; FEW];
     let frames = &mut buf[..(end - first) as usize];
@@ -127,9 +123,7 @@ fn by_frames<S: Store>(
     requires rising { first ≤ end }
     requires within { end ≤ frame_count (frame_len level) block.len }
     requires few { end ≤ first + 512 }
-    ensures reads { Reads (block ∷ []) reader.old reader.new result }
-    ensures read { IsTrue (S.tells reader.old.store)
-        → Summarizes (S.reads reader.old.store) block (frame_len level * first) (frame_len level * end) result }
+    ensures { SumsFrames block level first end reader.old reader.new result }
 {
     if end - first <= FEW as u32 {
         return by_few_frames(reader, block, reach, level, first, end);
@@ -157,9 +151,7 @@ fn short_then_samples<S: Store>(
     requires behind { 256 * end < to + 256 }
     requires rest { to < 256 * end + 256 }
     requires last { to < 256 * end → to ≡ block.len }
-    ensures reads { Reads (block ∷ []) reader.old reader.new result }
-    ensures read { IsTrue (S.tells reader.old.store)
-        → Summarizes (S.reads reader.old.store) block (256 * first) to result }
+    ensures { Sums block (256 * first) to to reader.old reader.new result }
 {
     let front = by_frames(reader, block, reach, Level::Short, first, end)?;
     let from = to.min(256 * end);
@@ -179,8 +171,7 @@ pub(crate) fn by_short<S: Store>(
     requires rising { from ≤ to }
     requires within { to ≤ block.len }
     requires few { to ≤ from + 131072 }
-    ensures reads { Reads (block ∷ []) reader.old reader.new result }
-    ensures read { IsTrue (S.tells reader.old.store) → Summarizes (S.reads reader.old.store) block from to result }
+    ensures { Sums block from to to reader.old reader.new result }
 {
     let first = from.div_ceil(256);
     let end = short_end(block.len, to);
@@ -208,9 +199,7 @@ fn long_then_short<S: Store>(
     requires behind { LONG_FRAME * end < to + LONG_FRAME }
     requires rest { to < LONG_FRAME * end + LONG_FRAME }
     requires last { to < LONG_FRAME * end → to ≡ block.len }
-    ensures reads { Reads (block ∷ []) reader.old reader.new result }
-    ensures read { IsTrue (S.tells reader.old.store)
-        → Summarizes (S.reads reader.old.store) block (LONG_FRAME * first) to result }
+    ensures { Sums block (LONG_FRAME * first) to to reader.old reader.new result }
 {
     let front = by_frames(reader, block, reach, Level::Long, first, end)?;
     let from = to.min(LONG_FRAME * end);
@@ -230,8 +219,7 @@ pub(crate) fn summarize<S: Store>(
     requires block { IsBlock block.id block.len }
     requires rising { from ≤ to }
     requires within { to ≤ block.len }
-    ensures reads { Reads (block ∷ []) reader.old reader.new result }
-    ensures read { IsTrue (S.tells reader.old.store) → Summarizes (S.reads reader.old.store) block from to result }
+    ensures { Sums block from to to reader.old reader.new result }
 {
     let first = from.div_ceil(LONG_FRAME);
     let end = long_end(block.len, to);

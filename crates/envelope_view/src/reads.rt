@@ -1,12 +1,10 @@
 // How much is read of a block at once.
-ghost use Rattle.std.specs.Prelude.{◌≡◌, ◌+◌, ◌≤◌, [], ◌∷◌, length, take, drop, List, ℤ, Some, IsTrue, IsOkUnless};
-ghost use Rattle.std.specs.Prelude.{OnOk};
+ghost use Rattle.std.specs.Prelude.{◌≡◌, ◌+◌, ◌≤◌, length, take, drop};
 ghost use Rattle.peak_summary.specs.Peaks.{frame_count, frames_of};
-ghost use Rattle.sample_block.specs.Blocks.{blocks};
 ghost use Rattle.sample_block.specs.Spelling.{IsBlock};
-ghost use Rattle.block_store.specs.declared.fault.BlockFault.TheVariants as fault;
 ghost use Rattle.block_store.specs.Reads.{frame_len};
-ghost use Rattle.block_cache.specs.Readers.{Reads};
+ghost use Rattle.block_cache.specs.Caches.{HasFrames, HasSamples};
+ghost use Rattle.envelope_view.specs.Parts.{ReadsBlock};
 
 use block_cache::BlockReader;
 use block_store::{BlockFault, Level};
@@ -29,13 +27,8 @@ pub(crate) fn read_samples<S: Store>(
 ) -> Result<(), BlockFault>
     requires block { IsBlock block.id block.len }
     requires within { from + length out.old ≤ block.len }
-    ensures reads { Reads (block ∷ []) reader.old reader.new result }
-    ensures read { (xs : List ℤ) → IsTrue (S.tells reader.old.store)
-        → blocks (S.reads reader.old.store) block.id ≡ Some xs → length xs ≡ block.len
-        → OnOk result (out.new ≡ take (length out.old) (drop from xs)) }
-    ensures valid { (xs : List ℤ) → IsTrue (S.tells reader.old.store)
-        → blocks (S.reads reader.old.store) block.id ≡ Some xs → length xs ≡ block.len
-        → IsOkUnless result fault.DiskFault }
+    ensures { ReadsBlock block (λ c. HasSamples c block from (length out.old))
+        (λ xs read. out.new ≡ take (length out.old) (drop from xs)) reader.old reader.new result }
 {
     if reach < SAMPLE_PAGE {
         return reader.samples(block, from, out);
@@ -54,13 +47,9 @@ pub(crate) fn read_frames<S: Store>(
 ) -> Result<(), BlockFault>
     requires block { IsBlock block.id block.len }
     requires within { from + length out.old ≤ frame_count (frame_len level) block.len }
-    ensures reads { Reads (block ∷ []) reader.old reader.new result }
-    ensures read { (xs : List ℤ) → IsTrue (S.tells reader.old.store)
-        → blocks (S.reads reader.old.store) block.id ≡ Some xs → length xs ≡ block.len
-        → OnOk result (out.new ≡ take (length out.old) (drop from (frames_of (frame_len level) xs))) }
-    ensures valid { (xs : List ℤ) → IsTrue (S.tells reader.old.store)
-        → blocks (S.reads reader.old.store) block.id ≡ Some xs → length xs ≡ block.len
-        → IsOkUnless result fault.DiskFault }
+    ensures { ReadsBlock block (λ c. HasFrames c level block from (length out.old))
+        (λ xs read. out.new ≡ take (length out.old) (drop from (frames_of (frame_len level) xs)))
+        reader.old reader.new result }
 {
     if reach < u64::from(LONG_FRAME) || level == Level::Long {
         return reader.frames(block, level, from, out);

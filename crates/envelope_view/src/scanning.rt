@@ -2,9 +2,10 @@
 ghost use Rattle.std.specs.Prelude.{◌≡◌, ◌≤◌, ◌<◌, IsTrue, IfOk, IfErr};
 ghost use Rattle.pcm_base.specs.declared.limits.TheConstants.{MAX_CELLS, MAX_VIEW};
 ghost use Rattle.sample_block.specs.Sources.{AllNamed, AllWhole, sources_of};
-ghost use Rattle.block_cache.specs.Readers.{Reads};
+ghost use Rattle.block_cache.specs.Readers.{Hits, Reads};
 ghost use Rattle.pcm_base.specs.Envelope.{columns_of};
 ghost use Rattle.clip_track.specs.Clips.{end_of, layout_blocks, layout_cells};
+ghost use Rattle.envelope_view.specs.Kept.{HasColumns};
 ghost use Rattle.envelope_view.specs.Answers.{AnswersTest, IsOfReads, IsUndamaged, column_tests, disk_part};
 
 use super::ahead::Ahead;
@@ -32,6 +33,7 @@ fn scan_columns<S: Store>(
     requires some { 0 < columns }
     requires few { columns ≤ MAX_VIEW }
     ensures reads { Reads (layout_blocks layout.now) reader.old reader.new (disk_part result) }
+    ensures hit { Hits (HasColumns reader.old.cache from to layout.now) reader.old reader.new (disk_part result) }
     ensures read { IsTrue (S.tells reader.old.store) → AllWhole (S.reads reader.old.store) (layout_blocks layout.now)
         → IfOk result
         (λ v. v.items ≡ columns_of from to columns (layout_cells (sources_of (S.reads reader.old.store)) layout.now)) }
@@ -74,6 +76,10 @@ pub fn columns<S: Store>(
     requires named { AllNamed (layout_blocks layout.now) }
     // Nothing of the disk changes. Only damage of a block of the layout is reported, as it stands in its file.
     ensures reads { Reads (layout_blocks layout.now) reader.old reader.new (disk_part result) }
+    // Where the cache has all pages of what stands in the range no read fails, whatever the store would answer, and
+    // it is
+    // asked nothing.
+    ensures hit { Hits (HasColumns reader.old.cache from to layout.now) reader.old reader.new (disk_part result) }
     ensures read { IsTrue (S.tells reader.old.store) → AllWhole (S.reads reader.old.store) (layout_blocks layout.now)
         → IfOk result
         (λ v. v.items ≡ columns_of from to columns (layout_cells (sources_of (S.reads reader.old.store)) layout.now)) }

@@ -1,17 +1,20 @@
 // The summary of the next cells of a layout.
-ghost use Rattle.std.specs.Prelude.{◌≡◌, ◌≤◌, [], ◌∷◌, take, drop, Contains, IsTrue, IfOk, OnOk};
+ghost use Rattle.std.specs.Prelude.{ℕ, ◌≡◌, ◌≤◌, ◌+◌, min, take, drop, Contains, IsTrue, IfOk, OnOk};
 ghost use Rattle.pcm_base.specs.declared.limits.TheConstants.{MAX_CELLS};
 ghost use Rattle.sample_block.specs.Spelling.{IsBlock};
 ghost use Rattle.sample_block.specs.Sources.{sources_of};
-ghost use Rattle.block_cache.specs.Readers.{Reads};
+ghost use Rattle.block_cache.specs.Readers.{Hits, Reads};
 ghost use Rattle.block_store.specs.Scans.{samples_among};
 ghost use Rattle.peak_summary.specs.Peaks.{summary_of};
 ghost use Rattle.pcm_base.specs.Pieces.{Sources};
-ghost use Rattle.envelope_view.specs.Ahead.{IsInBlock, ahead_blocks, ahead_cells, stretch_blocks, stretch_cells};
-ghost use Rattle.envelope_view.specs.Ahead.{stretch_len};
+ghost use Rattle.envelope_view.specs.Ahead.{IsInBlock, ahead_blocks, ahead_cells, ahead_items};
+ghost use Rattle.envelope_view.specs.Ahead.{stretch_blocks, stretch_cells, stretch_len};
+ghost use Rattle.envelope_view.specs.Kept.{HasItem, HasItems};
+ghost use Rattle.block_cache.specs.Caches.{Entries};
+ghost use Rattle.clip_track.specs.Rests.{stretch_item};
 ghost use Rattle.envelope_view.specs.Halves.{IsKnown};
 ghost use Rattle.envelope_view.specs.Named.{AreNamed, AreWhole};
-ghost use Rattle.envelope_view.specs.Parts.{Summarizes};
+ghost use Rattle.envelope_view.specs.Parts.{Sums};
 
 use super::ahead::{Ahead, behind, len_of};
 use super::known::{Known, front_of, summarize_on};
@@ -35,9 +38,8 @@ fn summarize_block<S: Store>(
     requires rising { from ≤ to }
     requires within { to ≤ block.len }
     requires known { IsTrue (S.tells reader.old.store) → IsKnown (S.reads reader.old.store) known.old }
-    ensures reads { Reads (block ∷ []) reader.old reader.new result }
     ensures known { IsTrue (S.tells reader.old.store) → IsKnown (S.reads reader.old.store) known.new }
-    ensures read { IsTrue (S.tells reader.old.store) → Summarizes (S.reads reader.old.store) block from to result }
+    ensures sum { Sums block from to (min block.len (to + reach)) reader.old reader.new result }
 {
     let front = front_of(*known, block, from, to);
     let back = summarize_on(reader, known, block, front.to, to, reach)?;
@@ -57,6 +59,8 @@ fn summarize_stretch<S: Store>(
     requires named { AreNamed (stretch_blocks stretch) }
     requires known { IsTrue (S.tells reader.old.store) → IsKnown (S.reads reader.old.store) known.old }
     ensures reads { Reads (stretch_blocks stretch) reader.old reader.new result }
+    ensures hit { Hits (HasItem reader.old.cache 0 (count + reach) (stretch_item stretch)) reader.old reader.new
+        result }
     ensures known { IsTrue (S.tells reader.old.store) → IsKnown (S.reads reader.old.store) known.new }
     ensures read { IsTrue (S.tells reader.old.store) → AreWhole (S.reads reader.old.store) (stretch_blocks stretch)
         → IfOk result (λ s. s ≡ summary_of (samples_among (take count (stretch_cells
@@ -86,6 +90,10 @@ pub(crate) fn sweep<S: Store>(
     requires named { AreNamed (ahead_blocks ahead.old) }
     requires known { IsTrue (S.tells reader.old.store) → IsKnown (S.reads reader.old.store) known.old }
     ensures reads { Reads (ahead_blocks ahead.old) reader.old reader.new result }
+    ensures hit { Hits (HasItems reader.old.cache 0 (count + reach) (ahead_items ahead.old)) reader.old reader.new
+        result }
+    ensures kept { OnOk result ((c : Entries) → (n : ℕ) → HasItems c 0 (count + n) (ahead_items ahead.old)
+        → HasItems c 0 n (ahead_items ahead.new)) }
     ensures known { IsTrue (S.tells reader.old.store) → IsKnown (S.reads reader.old.store) known.new }
     ensures stretch { IsInBlock ahead.new.stretch }
     ensures blocks { (b : BlockRef) → Contains (ahead_blocks ahead.new) b → Contains (ahead_blocks ahead.old) b }

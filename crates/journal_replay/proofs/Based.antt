@@ -1,20 +1,14 @@
 -- The project that a header brings is valid.
-use Rattle.std.proofs.Common.{◌≡◌, ◌≤◌, ℕ, List, [], ◌∷◌, None, length, map, refl, sym, ap, subst, arith, Result, Ok}
-use Rattle.std.proofs.Common.{Err}
+use Rattle.journal_replay.proofs.Common.{◌≡◌, ◌≤◌, ℕ, List, [], ◌∷◌, None, length, map, refl, sym, ap, subst, arith}
+use Rattle.journal_replay.proofs.Common.{Result, Ok, Err, MatchResult, AllByRecursion, History, Ghosts, IsHeading}
+use Rattle.journal_replay.proofs.Common.{contents, reader_form, Base, JournalFault, Reader, Log, log_of, HasBase}
+use Rattle.journal_replay.proofs.Common.{form_known, BeginsBy, IsHeaderBase, Saved, new_project, point_at, point_count}
+use Rattle.journal_replay.proofs.Common.{IsValidTagged, Track, AreUnnumbered, tracks_unnumbered, saved_of, IsBrought}
+use Rattle.journal_replay.proofs.Common.{IsValid, base_by, HasPoints, Project}
 use Rattle.std.proofs.lemmas.List.Elements.{All-from_recursion}
-use Rattle.std.specs.{Prelude.MatchResult, List.AllByRecursion}
-use Rattle.pcm_base.specs.History.{History}
-use Rattle.disk_model.specs.declared.store.Store.{Ghosts}
-use Rattle.project_journal.specs.Reader.{IsHeading, contents, reader_form}
-use Rattle.project_journal.specs.{declared.base.Base.Base, declared.fault.JournalFault.JournalFault}
-use Rattle.project_journal.specs.{declared.reader.Reader.Reader, Journal.Log, Journal.log_of}
-use Rattle.project_journal.proofs.{AnyFormats.HasBase, AnyFormats.base_valid, Parses.form_known, Readings.heading_read}
-use Rattle.record_body.specs.Saved.{BeginsBy, IsHeaderBase, Saved, new_project}
-use Rattle.record_body.specs.{PointTests.point_at, PointTests.point_count, Valid.IsValidTagged}
-use Rattle.project_state.specs.{declared.track.Track.Track, Numbers.AreUnnumbered}
-use Rattle.record_body.proofs.{ValidBodies.tracks_unnumbered, SavedBounds.new_valid}
-use Rattle.journal_replay.specs.Folds.{saved_of, Brings, IsBrought, IsValid}
-use Rattle.journal_replay.specs.{Bases.base_by, Heads.HasPoints, declared.project.Project.Project}
+use Rattle.project_journal.proofs.{AnyFormats.base_valid, Readings.heading_read}
+use Rattle.record_body.proofs.{SavedBounds.new_valid}
+use Rattle.journal_replay.specs.Folds.{Brings}
 use Rattle.project_journal.specs.declared.fault.JournalFault.TheVariants as journal
 
 headed_valid : (log : Log) (base : Saved) → HasBase log.base → IsHeaderBase log base → IsValid log.block_size base

@@ -1,8 +1,6 @@
 -- How many commits records lead to.
-use Rattle.std.proofs.Common.{◌≡◌, ℕ, zero, suc, ◌+◌, ◌≤◌, ◌^◌, List, [], ◌∷◌, length, ap, arith}
-use Rattle.record_body.specs.ChangeTests.{delta_tests}
-use Rattle.record_body.specs.Saved.{Saved, LeadIn, after_body, before_of, current_tracks}
-use Rattle.project_journal.proofs.AnyFormats.{all_pass}
+use Rattle.journal_replay.proofs.Common.{◌≡◌, ℕ, zero, suc, ◌+◌, ◌≤◌, ◌^◌, List, [], ◌∷◌, length, ap, arith}
+use Rattle.journal_replay.proofs.Common.{delta_tests, Saved, LeadIn, after_body, before_of, current_tracks, all_pass}
 use Rattle.journal_replay.proofs.Stepping.{after_commit}
 
 pub lead_commits : (version m : ℕ) (k end : Saved) (bodies : List (List ℕ)) → LeadIn version m k bodies end

@@ -1,17 +1,13 @@
 -- For each number of a layout that is drawn the journal has 9 bytes.
-use Rattle.std.proofs.Common.{◌≡◌, ℕ, ◌+◌, ◌*◌, ◌≤◌, ◌^◌, List, [], ◌∷◌, ◌++◌, length, map, None, Result, Ok, Err, refl}
-use Rattle.std.proofs.Common.{ap, ◌∙◌, arith, length-append}
-use Rattle.std.specs.{Prelude.IfOk, List.AllByRecursion, List.flat_map}
-use Rattle.disk_model.specs.declared.store.Store.{Ghosts}
-use Rattle.project_journal.specs.Journal.{Entry, IsEntry, IsLog, Log, body_at, body_of, entry, log_of, points_size}
-use Rattle.project_journal.specs.{declared.base.Base.Base, declared.fault.JournalFault.JournalFault}
-use Rattle.project_journal.specs.{declared.reader.Reader.Reader, declared.records.Next.TheVariants.Shut, Header.Form}
-use Rattle.project_journal.specs.{Header.form_of, Reader.Goes, Reader.IsHeading, Reader.IsLater, Reader.IsPlaced}
-use Rattle.project_journal.specs.{Reader.IsReading, Reader.contents, Reader.last_record, Reader.reader_form}
+use Rattle.journal_replay.proofs.Common.{◌≡◌, ℕ, ◌+◌, ◌*◌, ◌≤◌, ◌^◌, List, [], ◌∷◌, ◌++◌, length, map, None, Result, Ok}
+use Rattle.journal_replay.proofs.Common.{Err, refl, ap, ◌∙◌, arith, length-append, IfOk, AllByRecursion, Ghosts, Log}
+use Rattle.journal_replay.proofs.Common.{body_at, log_of, points_size, Base, JournalFault, Reader, Shut, Form, form_of}
+use Rattle.journal_replay.proofs.Common.{Goes, IsHeading, IsLater, IsPlaced, IsReading, contents, last_record}
+use Rattle.journal_replay.proofs.Common.{reader_form, Track, Project, DrawsFew, MetOne, TellsPoint}
+use Rattle.std.specs.{List.flat_map}
+use Rattle.project_journal.specs.Journal.{Entry, IsEntry, IsLog, body_of, entry}
 use Rattle.project_journal.proofs.{Bases.length-head, Found.read_whole}
-use Rattle.project_state.specs.declared.track.Track.{Track}
 use Rattle.record_body.proofs.NineBytes.{point_nine}
-use Rattle.journal_replay.specs.{declared.project.Project.Project, Heads.DrawsFew, Heads.MetOne, Heads.TellsPoint}
 use Rattle.journal_replay.proofs.Pointed.{heading_at, size_more}
 
 -- ---- how many bytes a journal has

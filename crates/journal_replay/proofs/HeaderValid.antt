@@ -1,15 +1,10 @@
 -- The points of a header that brings a project have no fault, and are those of that project.
-use Rattle.std.proofs.Common.{◌≡◌, ℕ, ◌+◌, ◌<◌, ◌≤◌, ◌^◌, List, [], ◌∷◌, length, map, Option, None, refl, sym, ap}
-use Rattle.std.proofs.Common.{subst, ◌∙◌}
-use Rattle.std.specs.{List.AllByRecursion, Option.option_or}
-use Rattle.project_journal.specs.Journal.{Contents, log_of}
-use Rattle.project_journal.specs.{declared.base.Base.Base, declared.fault.Damaged.Damaged, Header.Form}
-use Rattle.project_journal.proofs.AnyFormats.{HasBase}
-use Rattle.project_state.specs.{declared.track.Track.Track, Numbers.AreUnnumbered}
-use Rattle.record_body.specs.Saved.{Begins, BeginsBy, IsHeaderBase, Saved, point_bytes}
-use Rattle.record_body.specs.{PointTests.point_at, Valid.IsValidTagged}
+use Rattle.journal_replay.proofs.Common.{◌≡◌, ℕ, ◌+◌, ◌<◌, ◌≤◌, ◌^◌, List, [], ◌∷◌, length, map, Option, None, refl}
+use Rattle.journal_replay.proofs.Common.{sym, ap, subst, ◌∙◌, AllByRecursion, option_or, Contents, log_of, Base}
+use Rattle.journal_replay.proofs.Common.{Damaged, Form, HasBase, Track, AreUnnumbered, Begins, BeginsBy, IsHeaderBase}
+use Rattle.journal_replay.proofs.Common.{Saved, point_bytes, point_at, IsValidTagged, base_by, base_of, point_before}
+use Rattle.journal_replay.proofs.Common.{points_fault}
 use Rattle.record_body.proofs.HeaderPoints.{point_back, point_is}
-use Rattle.journal_replay.specs.Bases.{base_by, base_of, point_before, points_fault}
 
 module _ (m : ℕ) (b : Base) (large : 4 ≤ m) (small : m < 2 ^ 32) (bounds : HasBase b) where
   abbrev AllValidPoints : List (List Track × ℕ) → Type 0

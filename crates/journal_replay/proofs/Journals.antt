@@ -1,19 +1,15 @@
 -- A fold of records as they are read.
-use Rattle.std.proofs.Common.{◌≡◌, ℕ, List, [], ◌∷◌, ◌++◌, map, Option, Some, None, Ok, Err, refl, sym, ap, subst, ◌∙◌}
-use Rattle.std.proofs.Common.{arith, inl, Result}
-use Rattle.std.specs.{List.AllByRecursion, Option.option_or}
-use Rattle.disk_model.specs.declared.store.Store.{Ghosts}
-use Rattle.project_journal.specs.Reader.{IsReading, IsLater, Goes, contents, last_record, reader_form}
-use Rattle.project_journal.specs.{Answer.NoFault, declared.base.Base.Base, declared.fault.Damaged.Damaged}
-use Rattle.project_journal.specs.{declared.fault.JournalFault.JournalFault, declared.reader.Reader.Reader}
-use Rattle.project_journal.specs.{declared.records.Next.TheVariants.Shut, declared.records.Next.TheVariants.Early}
-use Rattle.project_journal.specs.{Header.form_of, Journal.Contents, Journal.body_at, Journal.log_of}
-use Rattle.project_journal.proofs.{Begun.continued, Parses.form_known}
-use Rattle.record_body.specs.Saved.{Begins, BeginsBy, Saved, LeadIn, new_project, version_of}
-use Rattle.record_body.specs.Valid.{IsValidTagged}
-use Rattle.journal_replay.specs.Folds.{saved_of, FoldsOne, FoldsStored, HasLayoutNumbers, IsBrought, Leads}
-use Rattle.journal_replay.specs.{declared.project.Project.Project, Bases.base_by, Bases.base_of, Bases.points_fault}
-use Rattle.journal_replay.specs.{Faults.first_fault_in, Faults.journal_fault, Heads.DrawsFew, Heads.ReadsOn}
+use Rattle.journal_replay.proofs.Common.{◌≡◌, ℕ, List, [], ◌∷◌, ◌++◌, map, Option, Some, None, Ok, Err, refl, sym, ap}
+use Rattle.journal_replay.proofs.Common.{subst, ◌∙◌, arith, inl, Result, AllByRecursion, option_or, Ghosts, IsReading}
+use Rattle.journal_replay.proofs.Common.{IsLater, Goes, contents, last_record, reader_form, NoFault, Base, Damaged}
+use Rattle.journal_replay.proofs.Common.{JournalFault, Reader, Shut, form_of, Contents, body_at, log_of, form_known}
+use Rattle.journal_replay.proofs.Common.{Begins, BeginsBy, Saved, LeadIn, new_project, version_of, IsValidTagged}
+use Rattle.journal_replay.proofs.Common.{saved_of, HasLayoutNumbers, IsBrought, Project, base_by, base_of, points_fault}
+use Rattle.journal_replay.proofs.Common.{first_fault_in, DrawsFew, ReadsOn}
+use Rattle.project_journal.specs.{declared.records.Next.TheVariants.Early}
+use Rattle.project_journal.proofs.{Begun.continued}
+use Rattle.journal_replay.specs.Folds.{FoldsOne, FoldsStored, Leads}
+use Rattle.journal_replay.specs.{Faults.journal_fault}
 use Rattle.journal_replay.proofs.Stepping.{came_none, came_more, came_all, came_fault, valid_next, IsStep, SoFar}
 use Rattle.journal_replay.proofs.{Based.brought_valid, Few.few_done}
 use Rattle.project_journal.specs.declared.fault.JournalFault.TheVariants as journal
@@ -196,7 +192,8 @@ module _ {D : Type 0} (disk : Ghosts D) where
         came_fault version m first now so.records all.more r d so.came one.1 in
         let here : Agrees points ((so.records ++ r ∷ []) ++ all.more) (Some d) j.block_size j.base j.depth reader.version =
         agrees_as points ((so.records ++ r ∷ []) ++ all.more) (Some d) reader.block_size j.block_size reader.base j.base
-        reader.depth j.depth reader.version reader.version (sym all.block_size) (sym all.base) (sym all.depth) refl
+        reader.depth j.depth reader.version reader.version (sym all.numbers.block_size) (sym all.numbers.base)
+        (sym all.numbers.depth) refl
         (found ((so.records ++ r ∷ []) ++ all.more) (Some d) fault) in
         let told : Agrees j.points j.records (Some d) j.block_size j.base j.depth reader.version =
         subst (λ (ps : List (List ℕ)). Agrees ps j.records (Some d) j.block_size j.base j.depth reader.version)

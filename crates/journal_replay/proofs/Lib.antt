@@ -1,3 +1,4 @@
+mod Common
 pub mod Said
 pub mod Stepping
 pub mod Based

@@ -1,20 +1,15 @@
 -- Projects whose layouts have numbers, beside the same projects without them.
-use Rattle.std.proofs.Common.{◌≡◌, ℕ, ◌+◌, ◌-◌, ◌*◌, ◌≤◌, List, [], ◌∷◌, length, map, None, Result, Ok, Err, refl, sym}
-use Rattle.std.proofs.Common.{ap, subst, ◌∙◌, arith}
-use Rattle.std.proofs.lemmas.List.{length-map}
-use Rattle.std.specs.Prelude.{⊤, OnOk}
-use Rattle.pcm_base.specs.History.{History, at_cursor, purged}
-use Rattle.project_journal.specs.{declared.fault.Damaged.Damaged, Header.first_failed}
-use Rattle.project_state.specs.{declared.track.Track.Track, Numbers.unnumbered, Numbers.unnumbered_history}
-use Rattle.layout_uses.specs.Drawing.{IsNumbered}
+use Rattle.journal_replay.proofs.Common.{◌≡◌, ℕ, ◌+◌, ◌-◌, ◌*◌, ◌≤◌, List, [], ◌∷◌, length, map, None, Result, Ok, Err}
+use Rattle.journal_replay.proofs.Common.{refl, sym, ap, subst, ◌∙◌, arith, length-map, ⊤, History, at_cursor, purged}
+use Rattle.journal_replay.proofs.Common.{Damaged, first_failed, Track, unnumbered, unnumbered_history, IsNumbered, Edit}
+use Rattle.journal_replay.proofs.Common.{Undo, Redo, Purge, Body, BadBody, Finds, after_body, current_tracks}
+use Rattle.journal_replay.proofs.Common.{unnumbered_body, Project, IsSaid, before_at, field_tests, history_tests}
+use Rattle.journal_replay.proofs.Common.{HasLayoutNumbers, saved_of}
+use Rattle.std.specs.Prelude.{OnOk}
 use Rattle.layout_uses.proofs.InTurn.{purged_numbers}
-use Rattle.record_body.specs.declared.body.Body.TheVariants.{Edit, Undo, Redo, Purge}
-use Rattle.record_body.specs.{declared.body.Body.Body, declared.limits.BadBody.BadBody, FirstFault.Finds}
-use Rattle.record_body.specs.{FirstFault.least, Saved.after_body, Saved.current_tracks, Lengths.body_tracks}
-use Rattle.record_body.specs.{Numbers.unnumbered_body}
+use Rattle.record_body.specs.{FirstFault.least, Lengths.body_tracks}
 use Rattle.record_body.proofs.NineBytes.{next_nine}
-use Rattle.journal_replay.specs.{declared.project.Project.Project, Faults.IsSaid, Faults.before_at, Faults.field_tests}
-use Rattle.journal_replay.specs.{Faults.history_tests, Folds.HasLayoutNumbers, Folds.IsAfter, Folds.saved_of}
+use Rattle.journal_replay.specs.{Folds.IsAfter}
 use Rattle.journal_replay.proofs.{Said.said_next, Valid.may_follow}
 use Rattle.record_body.specs.declared.limits.BadBody.TheVariants as bad
 
@@ -25,6 +20,12 @@ pub moved_numbers : (h g : History (List Track)) (next n : ℕ) → g ≡ at_cur
     → IsNumbered g next
 moved_numbers h g next n is numbers = subst (λ (x : History (List Track)). IsNumbered x next) (sym is)
     (record { numbered = numbers.numbered; drawn = numbers.drawn; least = numbers.least })
+
+pub kept_moved : (p : Project) (g : History (List Track)) (n : ℕ) → g ≡ at_cursor p.numbered.history.history n
+    → record (saved_of p) { history = unnumbered_history g; commit = p.commit + 1 }
+    ≡ record (saved_of p) { history = at_cursor (saved_of p).history n; commit = p.commit + 1 }
+kept_moved p g n is =
+    λ i. record (saved_of p) { history = unnumbered_history (is i); commit = p.commit + 1 }
 
 -- the oldest went
 pub left_numbers : (h g : History (List Track)) (next n : ℕ) → g ≡ purged h n → IsNumbered h next → IsNumbered g next

@@ -1,23 +1,17 @@
 -- The points of a header as they are read.
-use Rattle.std.proofs.Common.{◌≡◌, ℕ, ◌+◌, ◌<◌, ◌≤◌, List, [], ◌∷◌, ◌++◌, length, map, Option, Some, None, Ok, Err, inl}
-use Rattle.std.proofs.Common.{inr, Result, refl, sym, ap, subst, ◌∙◌, arith, append_assoc, length-append}
-use Rattle.std.proofs.lemmas.List.{append-nil, map-append, length-map}
-use Rattle.std.specs.{List.AllByRecursion, Option.option_or}
-use Rattle.disk_model.specs.declared.store.Store.{Ghosts}
-use Rattle.pcm_base.specs.History.{History}
-use Rattle.project_journal.specs.Reader.{IsHeading, IsLater, contents, last_record, reader_form}
-use Rattle.project_journal.specs.{declared.base.Base.Base, declared.fault.Damaged.Damaged}
-use Rattle.project_journal.specs.{declared.fault.JournalFault.JournalFault, declared.reader.Reader.Reader}
-use Rattle.project_journal.specs.{Header.IsFormat, Header.first_failed, Header.form_of, Journal.points_size}
+use Rattle.journal_replay.proofs.Common.{◌≡◌, ℕ, ◌+◌, ◌<◌, ◌≤◌, List, [], ◌∷◌, ◌++◌, length, map, Option, Some, None}
+use Rattle.journal_replay.proofs.Common.{Ok, Err, inl, inr, Result, refl, sym, ap, subst, ◌∙◌, arith, append_assoc}
+use Rattle.journal_replay.proofs.Common.{length-append, append-nil, length-map, AllByRecursion, option_or, Ghosts}
+use Rattle.journal_replay.proofs.Common.{History, IsHeading, IsLater, contents, last_record, reader_form, Base, Damaged}
+use Rattle.journal_replay.proofs.Common.{JournalFault, Reader, first_failed, form_of, points_size, HasBase, form_known}
+use Rattle.journal_replay.proofs.Common.{Track, point_bytes, version_of, point_at, IsValidTagged, HasPoints, MetOne}
+use Rattle.journal_replay.proofs.Common.{ReadsOn, TellsPoint, base_of, point_before, points_fault, first_fault_in}
+use Rattle.std.proofs.lemmas.List.{map-append}
+use Rattle.project_journal.specs.{Header.IsFormat}
 use Rattle.project_journal.proofs.Headed.{headed_base, headed_counts, headed_end, headed_format}
-use Rattle.project_journal.proofs.{AnyFormats.HasBase, AnyFormats.HasCounts, Parses.form_known, Readings.heading_stored}
-use Rattle.project_journal.proofs.{Readings.last_long}
-use Rattle.project_state.specs.declared.track.Track.{Track}
-use Rattle.record_body.specs.{Saved.point_bytes, Saved.version_of, PointTests.point_at, PointTests.point_tests}
-use Rattle.record_body.specs.{Valid.IsValidTagged}
-use Rattle.journal_replay.specs.Heads.{BringsPoints, FailsPoint, HasFault, HasPoints, MetOne, ReadsOn, ReadsPoint}
-use Rattle.journal_replay.specs.Heads.{TakesPoint, TellsPoint, last_tests}
-use Rattle.journal_replay.specs.{Bases.base_of, Bases.point_before, Bases.points_fault, Faults.first_fault_in}
+use Rattle.project_journal.proofs.{AnyFormats.HasCounts, Readings.heading_stored, Readings.last_long}
+use Rattle.record_body.specs.{PointTests.point_tests}
+use Rattle.journal_replay.specs.Heads.{BringsPoints, FailsPoint, HasFault, ReadsPoint, TakesPoint, last_tests}
 use Rattle.project_journal.specs.declared.fault.JournalFault.TheVariants as journal
 
 -- what a reader met, and what it says

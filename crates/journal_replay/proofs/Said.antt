@@ -1,16 +1,13 @@
 -- What bytes say in a journal of a version.
-use Rattle.std.proofs.Common.{◌≡◌, ℕ, zero, suc, ◌≤◌, ◌<◌, ◌^◌, List, [], ◌∷◌, map, Some, None, refl, sym, ap, ◌∙◌}
-use Rattle.std.proofs.Common.{subst, slice_index}
-use Rattle.std.proofs.lemmas.Bool.{eq-eqb}
-use Rattle.project_journal.specs.Header.{first_failed}
-use Rattle.record_body.specs.declared.body.Body.TheVariants.{Edit, Undo, Redo, Purge}
-use Rattle.record_body.specs.Saved.{Saved, MayFollow, IsNextIn, before_of, current_tracks}
+use Rattle.journal_replay.proofs.Common.{◌≡◌, ℕ, zero, suc, ◌≤◌, ◌<◌, ◌^◌, List, [], ◌∷◌, map, Some, None, refl, sym}
+use Rattle.journal_replay.proofs.Common.{ap, ◌∙◌, subst, eq-eqb, first_failed, Edit, Undo, Redo, Purge, Saved}
+use Rattle.journal_replay.proofs.Common.{MayFollow, IsNextIn, before_of, current_tracks, Body, Before, SaysBody}
+use Rattle.journal_replay.proofs.Common.{body_tests, IsValidBody, spelling, Track, field_tests, IsSaid, before_at}
+use Rattle.std.proofs.Common.{slice_index}
 use Rattle.record_body.specs.Places.{body_at, track_count}
-use Rattle.record_body.specs.{declared.body.Body.Body, declared.limits.Before.Before, ChangePlaces.all_diff_at}
-use Rattle.record_body.specs.{DeltaBodies.SaysBody, FirstFault.body_tests, Valid.IsValidBody, Spelling.spelling}
-use Rattle.project_state.specs.declared.track.Track.{Track}
+use Rattle.record_body.specs.{ChangePlaces.all_diff_at}
 use Rattle.record_body.proofs.{ReadBack.read_back, Moved.delta_moved, SaysOnce.same_edit}
-use Rattle.journal_replay.specs.Faults.{known, diff_body, said, says, field_tests, IsSaid, before_at}
+use Rattle.journal_replay.specs.Faults.{known, diff_body, said, says}
 
 known_all : (ts : List Track) → known (map Some ts) ≡ ts
 known_all [] = refl

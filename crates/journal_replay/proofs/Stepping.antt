@@ -1,16 +1,11 @@
 -- One record more.
-use Rattle.std.proofs.Common.{◌≡◌, ℕ, ◌+◌, List, [], ◌∷◌, ◌++◌, map, Some, None, refl, sym, ap, subst, ◌∙◌}
-use Rattle.std.proofs.Common.{append_assoc}
-use Rattle.std.proofs.lemmas.List.{append-nil}
-use Rattle.std.specs.Option.{option_or}
-use Rattle.disk_model.specs.declared.store.Store.{Ghosts}
-use Rattle.project_journal.specs.{declared.fault.Damaged.Damaged, Header.first_failed, declared.reader.Reader.Reader}
-use Rattle.project_journal.specs.{Journal.body_at, Reader.IsReading}
-use Rattle.record_body.specs.declared.body.Body.TheVariants.{Edit, Undo, Redo, Purge}
-use Rattle.record_body.specs.Saved.{Saved, after_body, IsNextIn, LeadIn}
-use Rattle.record_body.specs.{declared.body.Body.Body, SavedValid.IsValidSaved}
+use Rattle.journal_replay.proofs.Common.{◌≡◌, ℕ, ◌+◌, List, [], ◌∷◌, ◌++◌, map, Some, None, refl, sym, ap, subst, ◌∙◌}
+use Rattle.journal_replay.proofs.Common.{append_assoc, append-nil, option_or, Ghosts, Damaged, first_failed, Reader}
+use Rattle.journal_replay.proofs.Common.{body_at, IsReading, Edit, Undo, Redo, Purge, Saved, after_body, IsNextIn}
+use Rattle.journal_replay.proofs.Common.{LeadIn, Body, first_fault_in, IsValid}
+use Rattle.record_body.specs.{SavedValid.IsValidSaved}
 use Rattle.record_body.proofs.SavedBounds.{next_saved}
-use Rattle.journal_replay.specs.{Faults.record_tests, Faults.first_fault_in, Faults.says, Folds.IsValid}
+use Rattle.journal_replay.specs.{Faults.record_tests, Faults.says}
 
 -- where the first record has no fault, the others decide
 pub fault_behind : (version m : ℕ) (k : Saved) (r : ℕ × List ℕ) (rs : List (ℕ × List ℕ))

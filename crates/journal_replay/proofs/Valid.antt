@@ -1,18 +1,14 @@
 -- What the tests of a record mean.
-use Rattle.std.proofs.Common.{◌≡◌, ◌==◌, ℕ, ◌≤◌, ◌<◌, ◌^◌, min, max, inl, inr, ⊎_elim, ◌⊎◌, List, [], ◌∷◌, map, Some}
-use Rattle.std.proofs.Common.{None, Result, Ok, Err, refl, sym, ap, subst, ◌∙◌, arith}
-use Rattle.std.proofs.lemmas.Bool.{eq-eqb, cases_Bool, eqb-true, eqb-false, ne_eqb}
-use Rattle.std.specs.Prelude.{⊤}
-use Rattle.pcm_base.specs.History.{History}
-use Rattle.project_journal.specs.{declared.fault.Damaged.Damaged, Header.first_failed}
-use Rattle.project_state.specs.declared.track.Track.{Track}
-use Rattle.record_body.specs.declared.body.Body.TheVariants.{Edit, Undo, Redo, Purge}
-use Rattle.record_body.specs.FirstFault.{Finds, place}
-use Rattle.record_body.specs.Saved.{Saved, after_body, current_tracks, MayFollow, IsNextIn, LeadIn}
-use Rattle.record_body.specs.{declared.body.Body.Body, declared.limits.BadBody.BadBody}
-use Rattle.project_journal.proofs.{AnyFormats.all_pass, Headers.some_first, Headers.none_first}
-use Rattle.journal_replay.specs.Faults.{record_tests, history_tests, first_fault_in, before_at, out_of_range}
-use Rattle.journal_replay.specs.Faults.{field_tests, says, IsSaid}
+use Rattle.journal_replay.proofs.Common.{◌≡◌, ℕ, ◌≤◌, ◌<◌, ◌^◌, inl, inr, ⊎_elim, List, [], ◌∷◌, map, Some, None}
+use Rattle.journal_replay.proofs.Common.{Result, Ok, Err, refl, sym, ap, subst, ◌∙◌, arith, eq-eqb, ⊤, History, Damaged}
+use Rattle.journal_replay.proofs.Common.{first_failed, Track, Edit, Undo, Redo, Purge, Finds, Saved, after_body}
+use Rattle.journal_replay.proofs.Common.{current_tracks, MayFollow, IsNextIn, LeadIn, Body, BadBody, all_pass}
+use Rattle.journal_replay.proofs.Common.{history_tests, first_fault_in, before_at, out_of_range, field_tests, IsSaid}
+use Rattle.std.proofs.Common.{◌==◌, min, max, ◌⊎◌}
+use Rattle.std.proofs.lemmas.Bool.{cases_Bool, eqb-true, eqb-false, ne_eqb}
+use Rattle.record_body.specs.FirstFault.{place}
+use Rattle.project_journal.proofs.{Headers.some_first, Headers.none_first}
+use Rattle.journal_replay.specs.Faults.{record_tests, says}
 use Rattle.record_body.proofs.Moved.{pass_none}
 use Rattle.journal_replay.proofs.{Said.says_is, Said.said_next, Said.next_read, Stepping.fault_behind}
 use Rattle.project_journal.specs.Journal as journal

@@ -1,17 +1,13 @@
 -- The version of a journal, 1 or else 2, and its current point.
-use Rattle.std.proofs.Common.{◌≡◌, ℕ, zero, suc, ◌≤◌, ◌<◌, List, [], ◌∷◌, map, drop, Some, slice_get, sym, arith}
-use Rattle.std.proofs.Common.{Result, Ok, Err, ap, subst, ◌∙◌}
+use Rattle.journal_replay.proofs.Common.{◌≡◌, ℕ, zero, suc, ◌≤◌, ◌<◌, List, [], ◌∷◌, map, Some, slice_get, sym, arith}
+use Rattle.journal_replay.proofs.Common.{Result, Ok, Err, ap, subst, ◌∙◌, Body, BadBody, Before, Finds, body_tests}
+use Rattle.journal_replay.proofs.Common.{delta_tests, SaysBody, unnumbered_body, IsValidBody, spelling, BodyShares}
+use Rattle.journal_replay.proofs.Common.{first_failed, unnumbered, Track, IfOk, field_tests, IsSaid}
+use Rattle.std.proofs.Common.{drop}
 use Rattle.std.proofs.lemmas.Option.{none-some, same_Some}
 use Rattle.pcm_base.specs.History.{point_of}
-use Rattle.record_body.specs.{declared.body.Body.Body, declared.limits.BadBody.BadBody, declared.limits.Before.Before}
-use Rattle.record_body.specs.FirstFault.{Finds, body_tests}
-use Rattle.record_body.specs.{ChangeTests.delta_tests, DeltaBodies.SaysBody, Saved.first_tracks}
-use Rattle.record_body.specs.{Numbers.unnumbered_body, Valid.IsValidBody, Spelling.spelling, Told.BodyShares}
-use Rattle.project_journal.specs.Header.{first_failed}
-use Rattle.project_state.specs.{Numbers.unnumbered, declared.track.Track.Track}
+use Rattle.record_body.specs.{Saved.first_tracks}
 use Rattle.record_body.proofs.ToldAlike.{body_new, body_plain, says_alike, tests_alike}
-use Rattle.std.specs.Prelude.{IfOk}
-use Rattle.journal_replay.specs.Faults.{field_tests, IsSaid}
 use Rattle.record_body.specs.declared.limits.BadBody.TheVariants as bad
 
 pub at_cursor : (i : ℕ) (ps : List (List Track × ℕ)) (x : List Track) → slice_get (map point_of ps) i ≡ Some x

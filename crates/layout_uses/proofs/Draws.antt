@@ -1,11 +1,9 @@
 -- Numbers that layouts get.
-use Rattle.std.proofs.Common.{◌≡◌, ⊎_elim, inl, inr, refl, sym, ap, ◌∙◌, subst, ℕ, ◌≤◌, ◌<◌, List, [], ◌∷◌, ◌++◌, arith}
-use Rattle.std.proofs.Common.{map, Some, length, slice_get, zero, suc}
-use Rattle.std.proofs.{lemmas.Bool.cases_eq, lemmas.Bool.eq-eqb, lemmas.Bool.ne_eqb, lemmas.List.length-map}
-use Rattle.project_state.specs.{declared.track.Track.Track, Tracks.AllBelow, Tracks.track_of, Numbers.AreNewOrCurrent}
-use Rattle.project_state.specs.{Numbers.unnumbered}
-use Rattle.layout_uses.specs.Layouts.{Agree, AgreesWith, AreDrawn, AreNumbered}
-use Rattle.layout_uses.specs.{Drawing.Draws, Drawing.HasNumbers, Laws.AreAmong, Laws.IsAmong}
+use Rattle.layout_uses.proofs.Common.{◌≡◌, ⊎_elim, inl, inr, refl, sym, ap, ◌∙◌, subst, ℕ, ◌≤◌, ◌<◌, List, [], ◌∷◌}
+use Rattle.layout_uses.proofs.Common.{◌++◌, arith, map, Some, length, slice_get, zero, suc, cases_eq, eq-eqb, ne_eqb}
+use Rattle.layout_uses.proofs.Common.{length-map, Track, AllBelow, track_of, unnumbered, Agree, AgreesWith, AreDrawn}
+use Rattle.layout_uses.proofs.Common.{AreNumbered, Draws, HasNumbers, AreAmong, IsAmong}
+use Rattle.project_state.specs.{Numbers.AreNewOrCurrent}
 use Rattle.layout_uses.proofs.{Numbers.among_agrees, Moves.flipped}
 
 pub found_among : (id : ℕ) (ts : List Track) (t : Track) → track_of id ts ≡ Some t → IsAmong t ts

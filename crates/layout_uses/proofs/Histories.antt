@@ -1,22 +1,18 @@
 -- Points of a history.
-use Rattle.std.proofs.Common.{◌≡◌, refl, sym, ap, ◌∙◌, subst, ℕ, zero, suc, ◌+◌, ◌-◌, ◌^◌, ◌≤◌, ◌<◌, List, [], ◌∷◌}
-use Rattle.std.proofs.Common.{◌++◌, length, map, take, drop, append_assoc, take-append-drop, slice_get, Some, arith}
-use Rattle.std.proofs.Common.{length-append}
-use Rattle.std.proofs.lemmas.List.{append-nil, drop-append-le, drop-map, take-map, length-map, length-take, map-append}
-use Rattle.std.proofs.lemmas.List.{take_all, length-take-le}
-use Rattle.std.proofs.lemmas.Grind.{flat_map-append}
+use Rattle.layout_uses.proofs.Common.{◌≡◌, refl, sym, ap, ◌∙◌, subst, ℕ, zero, suc, ◌+◌, ◌-◌, ◌^◌, ◌≤◌, ◌<◌, List, []}
+use Rattle.layout_uses.proofs.Common.{◌∷◌, ◌++◌, length, map, take, drop, append_assoc, take-append-drop, slice_get}
+use Rattle.layout_uses.proofs.Common.{Some, arith, length-append, append-nil, drop-map, length-map, length-take}
+use Rattle.layout_uses.proofs.Common.{map-append, flat_map-append, BlockRef, History, IsHistory, amended, edited}
+use Rattle.layout_uses.proofs.Common.{point_of, points_of, purged, Track, drop_some, take_some, AreDrawn, AreNumbered}
+use Rattle.layout_uses.proofs.Common.{history_tracks, points_tracks, track_blocks, Comes, Goes, Has, IsTally, Tally}
+use Rattle.layout_uses.proofs.Common.{HasIds, times_named, count_of}
+use Rattle.std.proofs.lemmas.List.{drop-append-le, take-map, take_all, length-take-le}
 use Rattle.std.specs.Prelude.{slice_index}
-use Rattle.pcm_base.specs.declared.block.BlockRef.{BlockRef}
-use Rattle.pcm_base.specs.History.{History, IsHistory, amended, edited, kept, point_of, points_of, purged, tags_of}
-use Rattle.project_state.specs.declared.track.Track.{Track}
-use Rattle.project_state.proofs.Points.{drop_some, take_some}
-use Rattle.layout_uses.specs.Layouts.{AreDrawn, AreNumbered, history_tracks, points_tracks, track_blocks}
-use Rattle.layout_uses.specs.Tallies.{Becomes, Comes, Goes, Has, IsTally, MayBecome}
-use Rattle.layout_uses.specs.{declared.tally.Tally.Tally, Occurrences.HasIds, Occurrences.times_named}
+use Rattle.pcm_base.specs.History.{kept, tags_of}
+use Rattle.layout_uses.specs.Tallies.{Becomes, MayBecome}
 use Rattle.layout_uses.proofs.Moves.{counts_swapped, drawn_swapped, drawn_without, numbered_swapped, numbered_without}
 use Rattle.layout_uses.proofs.Onward.{came_more, has_front, has_rest, times_tracks, went_more, went_none}
 use Rattle.layout_uses.proofs.{Times.Few, Turns.take_take}
-use Rattle.block_ledger.specs.Entries.{count_of}
 
 pub tracks_append : (xs ys : List (List Track)) → points_tracks (xs ++ ys) ≡ points_tracks xs ++ points_tracks ys
 tracks_append xs ys = flat_map-append (λ (p : List Track). p) xs ys
@@ -139,6 +135,12 @@ module _ (h : History (List Track)) where
 
   pub rest_is : (n : ℕ) → points_tracks (drop n (take (length h.points) ps)) ≡ points_tracks (drop n ps)
   rest_is n = ap (λ z. points_tracks (drop n z)) whole
+
+  -- from a place on up to their number
+  pub goes_rest : (n len : ℕ) (a b : Tally) → len ≡ length h.points
+      → Goes (points_tracks (drop n (take len ps))) a b → Goes (points_tracks (drop n ps)) a b
+  goes_rest n len a b is went = subst (λ z. Goes z a b) (rest_is n)
+      (subst (λ (k : ℕ). Goes (points_tracks (drop n (take k ps))) a b) is went)
 
   module _ (is : IsHistory h) (p : List Track) where
     abbrev c : ℕ

@@ -1,12 +1,11 @@
 -- Histories whose layouts get their numbers as points come.
-use Rattle.std.proofs.Common.{◌≡◌, inl, inr, sym, ap, ◌∙◌, subst, ℕ, zero, suc, Bool, true, false, List, [], ◌∷◌, ◌++◌}
-use Rattle.std.proofs.Common.{if◌then◌else◌, map, take, drop, slice_get, Some, ⊎_elim, arith}
-use Rattle.std.proofs.lemmas.List.{append-nil, drop-map, map-append}
-use Rattle.pcm_base.specs.History.{History, IsHistory, amended, edited, history_of_one, is_of_recording, point_of}
-use Rattle.pcm_base.specs.History.{points_of, purged, recorded}
-use Rattle.project_state.specs.{declared.track.Track.Track, Numbers.unnumbered, Numbers.unnumbered_history}
-use Rattle.layout_uses.specs.Layouts.{AreDrawn, AreNumbered, history_tracks, points_tracks}
-use Rattle.layout_uses.specs.{Drawing.DrawsPoint, Drawing.IsNumbered, Laws.AreAmong, Laws.IsAmong}
+use Rattle.layout_uses.proofs.Common.{◌≡◌, inl, inr, sym, ap, ◌∙◌, subst, ℕ, zero, suc, Bool, true, false, List, []}
+use Rattle.layout_uses.proofs.Common.{◌∷◌, ◌++◌, if◌then◌else◌, map, take, drop, slice_get, Some, ⊎_elim, arith}
+use Rattle.layout_uses.proofs.Common.{append-nil, drop-map, map-append, History, IsHistory, amended, edited}
+use Rattle.layout_uses.proofs.Common.{history_of_one, point_of, points_of, purged, recorded, Track, unnumbered}
+use Rattle.layout_uses.proofs.Common.{unnumbered_history, AreDrawn, AreNumbered, history_tracks, points_tracks}
+use Rattle.layout_uses.proofs.Common.{DrawsPoint, IsNumbered, AreAmong, IsAmong}
+use Rattle.pcm_base.specs.History.{is_of_recording}
 use Rattle.layout_uses.proofs.Histories.{points_split, so_amended, so_edited, tracks_append}
 use Rattle.layout_uses.proofs.Moves.{drawn_swapped, drawn_without, numbered_swapped, numbered_without}
 use Rattle.layout_uses.proofs.Putting.{among_self}

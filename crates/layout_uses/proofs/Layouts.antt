@@ -1,12 +1,9 @@
 -- Layouts by their numbers, and how often the blocks of those that are used come.
-use Rattle.std.proofs.Common.{◌≡◌, ◌≢◌, ⊎_elim, refl, sym, ap, ◌∙◌, subst, ℕ, zero, suc, ◌+◌, ◌≤◌, ◌<◌, Bool, true}
-use Rattle.std.proofs.Common.{false, List, [], ◌∷◌, ◌++◌, ◌⊎◌, inl, inr, if◌then◌else◌, eqb, arith}
-use Rattle.std.proofs.lemmas.Bool.{cases_eq, eq-eqb, ne_eqb}
-use Rattle.block_ledger.specs.Counts.{times}
-use Rattle.clip_track.specs.Clips.{layout_blocks}
-use Rattle.project_state.specs.declared.track.Track.{Track}
-use Rattle.layout_uses.specs.Layouts.{numbers_of, has_number, track_blocks, used_blocks, AgreesWith, AreNumbered}
-use Rattle.layout_uses.specs.Occurrences.{times_named}
+use Rattle.layout_uses.proofs.Common.{◌≡◌, ⊎_elim, refl, sym, ap, ◌∙◌, subst, ℕ, zero, suc, ◌+◌, ◌≤◌, ◌<◌, Bool, true}
+use Rattle.layout_uses.proofs.Common.{false, List, [], ◌∷◌, ◌++◌, ◌⊎◌, inl, inr, if◌then◌else◌, eqb, arith, cases_eq}
+use Rattle.layout_uses.proofs.Common.{eq-eqb, ne_eqb, times, layout_blocks, Track, numbers_of, has_number, track_blocks}
+use Rattle.layout_uses.proofs.Common.{used_blocks, AgreesWith, AreNumbered, times_named}
+use Rattle.std.proofs.Common.{◌≢◌}
 use Rattle.layout_uses.proofs.Times.{named_append}
 
 -- how often an id comes in the layouts that are used
@@ -82,67 +79,41 @@ pos_cases (suc n) = inr (omega arith)
 layout_in : (id : ℕ) (t u : Track) → t.layout ≡ u.layout → times_in id t ≡ times_in id u
 layout_in id t u e = ap (λ l. times_named id (layout_blocks l)) e
 
+-- what one track more adds, whether its layout is used again or first
+each_used : (id : ℕ) (t : Track) (ts : List Track) (again : Bool) → has_number t.number ts ≡ again
+    → times_used id (t ∷ ts) ≡ times_used id ts + (if again then 0 else times_in id t)
+each_used id t ts true is = omega (arith, each_again id t ts is)
+each_used id t ts false is = omega (arith, each_first id t ts is)
+
 -- tracks of one layout in front of others
 times_same : (id : ℕ) (t u : Track) (ts : List Track) → t.number ≡ u.number → t.layout ≡ u.layout
     → times_used id (t ∷ ts) ≡ times_used id (u ∷ ts)
-times_same id t u ts number layout = ⊎_elim
-    (λ is. omega (
-      arith,
-      each_again id t ts is,
-      each_again id u ts (subst (λ (n : ℕ). has_number n ts ≡ true) number is),
-    ))
-    (λ is. omega (
-      arith,
-      each_first id t ts is,
-      layout_in id t u layout,
-      each_first id u ts (subst (λ (n : ℕ). has_number n ts ≡ false) number is),
-    ))
-    (number_cases (has_number t.number ts))
+times_same id t u ts number layout =
+    let again : Bool = has_number t.number ts in
+    each_used id t ts again refl
+    ∙ ap (λ (n : ℕ). times_used id ts + (if again then 0 else n)) (layout_in id t u layout)
+    ∙ sym (each_used id u ts again (ap (λ (n : ℕ). has_number n ts) (sym number)))
 
 -- two tracks of different layouts in front of others
 times_swapped : (id : ℕ) (t x : Track) (ts m : List Track) → x.number ≢ t.number
     → has_number x.number m ≡ has_number x.number ts → times_used id m ≡ times_used id (t ∷ ts)
     → times_used id (x ∷ m) ≡ times_used id (t ∷ x ∷ ts)
-times_swapped id t x ts m ne number used =
-    let other = number_other t.number x ts ne in
-    ⊎_elim
-    (λ xs. ⊎_elim
-    (λ is. omega (
-      arith,
-      used,
-      each_again id x m (number ∙ xs),
-      each_again id x ts xs,
-      each_again id t ts is,
-      each_again id t (x ∷ ts) (other ∙ is),
-    ))
-    (λ is. omega (
-      arith,
-      used,
-      each_again id x m (number ∙ xs),
-      each_again id x ts xs,
-      each_first id t ts is,
-      each_first id t (x ∷ ts) (other ∙ is),
-    ))
-    (number_cases (has_number t.number ts)))
-    (λ xs. ⊎_elim
-    (λ is. omega (
-      arith,
-      used,
-      each_first id x m (number ∙ xs),
-      each_first id x ts xs,
-      each_again id t ts is,
-      each_again id t (x ∷ ts) (other ∙ is),
-    ))
-    (λ is. omega (
-      arith,
-      used,
-      each_first id x m (number ∙ xs),
-      each_first id x ts xs,
-      each_first id t ts is,
-      each_first id t (x ∷ ts) (other ∙ is),
-    ))
-    (number_cases (has_number t.number ts)))
-    (number_cases (has_number x.number ts))
+times_swapped id t x ts m ne number used = swapped (has_number t.number ts) (has_number x.number ts) refl number refl
+  where
+    over : (u n k : ℕ) → u + n + k ≡ u + k + n
+    over u n k = omega arith
+
+    swapped : (a b : Bool) → has_number t.number ts ≡ a → has_number x.number m ≡ b → has_number x.number ts ≡ b
+        → times_used id (x ∷ m) ≡ times_used id (t ∷ x ∷ ts)
+    swapped a b first more is =
+        let n : ℕ = if a then 0 else times_in id t in
+        let k : ℕ = if b then 0 else times_in id x in
+        let one = each_used id x m b more in
+        let two = each_used id x ts b is in
+        let three = each_used id t ts a first in
+        let four = each_used id t (x ∷ ts) a (number_other t.number x ts ne ∙ first) in
+        one ∙ ap (λ (z : ℕ). z + k) (used ∙ three) ∙ over (times_used id ts) n k ∙ ap (λ (z : ℕ). z + n) (sym two)
+        ∙ sym four
 
 pub times_moved : (id : ℕ) (t : Track) (xs ys : List Track) → AgreesWith t xs
     → times_used id (xs ++ t ∷ ys) ≡ times_used id (t ∷ (xs ++ ys))

@@ -1,13 +1,8 @@
 -- The order of tracks does not matter to what is counted over them.
-use Rattle.std.proofs.Common.{◌≡◌, ⊎_elim, refl, sym, ap, ◌∙◌, ℕ, ◌+◌, Bool, true, List, [], ◌∷◌, ◌++◌, if◌then◌else◌}
-use Rattle.std.proofs.Common.{eqb, arith}
-use Rattle.std.proofs.lemmas.List.{map-append}
-use Rattle.pcm_base.specs.declared.block.BlockRef.{BlockRef}
-use Rattle.block_ledger.specs.Counts.{Counts, times}
+use Rattle.layout_uses.proofs.Common.{◌≡◌, ⊎_elim, refl, sym, ap, ◌∙◌, ℕ, ◌+◌, Bool, true, List, [], ◌∷◌, ◌++◌}
+use Rattle.layout_uses.proofs.Common.{if◌then◌else◌, eqb, arith, map-append, BlockRef, Counts, times, Track, numbers_of}
+use Rattle.layout_uses.proofs.Common.{has_number, Agree, AgreesWith, AreDrawn, AreNumbered, AreCounts}
 use Rattle.block_ledger.proofs.Times.{times_append}
-use Rattle.project_state.specs.declared.track.Track.{Track}
-use Rattle.layout_uses.specs.Layouts.{numbers_of, has_number, Agree, AgreesWith, AreDrawn, AreNumbered}
-use Rattle.layout_uses.specs.Tallies.{AreCounts}
 use Rattle.layout_uses.proofs.Layouts.{times_used, each_again, each_first, number_cases, number_moved, times_moved}
 use Rattle.layout_uses.proofs.Tracks.{times_counted}
 

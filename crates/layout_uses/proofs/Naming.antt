@@ -1,11 +1,9 @@
 -- The ids that counts over layouts name.
-use Rattle.std.proofs.Common.{◌≡◌, ℕ, ◌+◌, ◌≤◌, ◌<◌, List, ◌++◌, ⊎_elim, ap, Option, Some, None, IsSome, IfSome, IfNone}
-use Rattle.std.proofs.Common.{arith}
-use Rattle.pcm_base.specs.declared.block.BlockRef.{BlockRef}
-use Rattle.block_ledger.specs.Counts.{Counts, IsNamed, occurrences}
-use Rattle.project_state.specs.declared.track.Track.{Track}
-use Rattle.layout_uses.specs.Occurrences.{Dropped, HasAll, Held, times_named}
-use Rattle.layout_uses.specs.{Laws.SameNames, Layouts.AreNumbered, Layouts.track_blocks, Tallies.AreCounts}
+use Rattle.layout_uses.proofs.Common.{◌≡◌, ℕ, ◌+◌, ◌≤◌, ◌<◌, List, ◌++◌, ⊎_elim, ap, Option, Some, None, IsSome, arith}
+use Rattle.layout_uses.proofs.Common.{BlockRef, Counts, IsNamed, occurrences, Track, Dropped, HasAll, Held, times_named}
+use Rattle.layout_uses.proofs.Common.{AreNumbered, track_blocks, AreCounts}
+use Rattle.std.proofs.Common.{IfSome, IfNone}
+use Rattle.layout_uses.specs.{Laws.SameNames}
 use Rattle.layout_uses.proofs.Layouts.{used_all, used_most, pos_cases}
 use Rattle.layout_uses.proofs.{Times.named_append, Times.named_of, Tracks.not_free, Tracks.times_counted}
 

@@ -1,11 +1,11 @@
 -- Layouts that get their numbers.
-use Rattle.std.proofs.Common.{◌≡◌, ⊎_elim, inl, inr, sym, ap, subst, ℕ, ◌+◌, ◌<◌, ◌==◌, List, [], ◌∷◌, ◌++◌, arith}
-use Rattle.std.proofs.lemmas.Bool.{cases_Bool, cases_eq, ne_eqb}
-use Rattle.project_state.specs.{declared.track.Track.Track, Numbers.AgreeById, Numbers.AgreesIfAny, Tracks.put_in}
-use Rattle.project_state.specs.{Tracks.track_of}
-use Rattle.project_state.proofs.Points.{put_same, put_other}
-use Rattle.layout_uses.specs.Laws.{AreAmong, IsAmong, NewAgrees, SharedAgree, AnyOrder}
-use Rattle.layout_uses.specs.Layouts.{Agree, AgreesWith, AreDrawn, AreNumbered}
+use Rattle.layout_uses.proofs.Common.{◌≡◌, ⊎_elim, inl, inr, sym, ap, subst, ℕ, ◌+◌, ◌<◌, List, [], ◌∷◌, ◌++◌, arith}
+use Rattle.layout_uses.proofs.Common.{cases_eq, ne_eqb, Track, put_in, track_of, put_same, put_other, AreAmong, IsAmong}
+use Rattle.layout_uses.proofs.Common.{Agree, AgreesWith, AreDrawn, AreNumbered}
+use Rattle.std.proofs.Common.{◌==◌}
+use Rattle.std.proofs.lemmas.Bool.{cases_Bool}
+use Rattle.project_state.specs.{Numbers.AgreeById, Numbers.AgreesIfAny}
+use Rattle.layout_uses.specs.Laws.{NewAgrees, SharedAgree, AnyOrder}
 use Rattle.layout_uses.proofs.Moves.{agrees_back, agrees_both, counts_swapped}
 
 -- a track that is there agrees with all

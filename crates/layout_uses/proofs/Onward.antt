@@ -1,14 +1,10 @@
 -- Tracks that come or go one after another.
-use Rattle.std.proofs.Common.{◌≡◌, ◌↔◌, refl, sym, ap, ◌∙◌, subst, ℕ, ◌+◌, ◌≤◌, List, [], ◌∷◌, ◌++◌, take, drop}
-use Rattle.std.proofs.Common.{append_assoc, take-append-drop, slice_get, Some, IsSome, arith, length-append}
-use Rattle.pcm_base.specs.declared.block.BlockRef.{BlockRef}
-use Rattle.block_ledger.specs.{Counts.Counts, Counts.occurrences, Entries.count_of}
-use Rattle.clip_track.specs.Clips.{layout_blocks}
-use Rattle.project_state.specs.declared.track.Track.{Track}
-use Rattle.project_state.proofs.Points.{take_some, drop_some}
-use Rattle.layout_uses.specs.Occurrences.{HasIds, times_named}
-use Rattle.layout_uses.specs.Tallies.{AreCounts, IsTally, Comes, Goes, Has}
-use Rattle.layout_uses.specs.{declared.tally.Tally.Tally, Layouts.track_blocks}
+use Rattle.layout_uses.proofs.Common.{◌≡◌, refl, sym, ap, ◌∙◌, subst, ℕ, ◌+◌, ◌≤◌, List, [], ◌∷◌, ◌++◌, take, drop}
+use Rattle.layout_uses.proofs.Common.{append_assoc, take-append-drop, slice_get, Some, IsSome, arith, length-append}
+use Rattle.layout_uses.proofs.Common.{BlockRef, Counts, occurrences, count_of, layout_blocks, Track, take_some}
+use Rattle.layout_uses.proofs.Common.{drop_some, HasIds, times_named, AreCounts, IsTally, Comes, Goes, Has, Tally}
+use Rattle.layout_uses.proofs.Common.{track_blocks}
+use Rattle.std.proofs.Common.{◌↔◌}
 use Rattle.layout_uses.proofs.Times.{named_append, Few}
 
 pub times_tracks : (id : ℕ) (xs ys : List Track)

@@ -1,13 +1,10 @@
 -- Points that differ from the current one in some tracks, by the numbers of their layouts.
-use Rattle.std.proofs.Common.{◌≡◌, ◌⊎◌, ⊎_elim, inl, inr, refl, sym, subst, ◌∙◌, ℕ, ◌+◌, ◌<◌, List, [], ◌∷◌, ◌++◌}
-use Rattle.std.proofs.Common.{arith}
-use Rattle.std.proofs.lemmas.Bool.{cases_eq, ne_eqb}
+use Rattle.layout_uses.proofs.Common.{◌≡◌, ◌⊎◌, ⊎_elim, inl, inr, refl, sym, subst, ◌∙◌, ℕ, ◌+◌, ◌<◌, List, [], ◌∷◌}
+use Rattle.layout_uses.proofs.Common.{◌++◌, arith, cases_eq, ne_eqb, Clip, Track, put_in, put_same, put_other}
+use Rattle.layout_uses.proofs.Common.{AgreesWith, AreDrawn, AreNumbered, HasNumbers, AreAmong, IsAmong}
 use Rattle.std.specs.List.{AllByRecursion}
-use Rattle.clip_track.specs.declared.clips.Clip.{Clip}
-use Rattle.project_state.specs.{declared.track.Track.Track, Tracks.put_in, Tracks.without}
-use Rattle.project_state.proofs.Points.{other_keeps, other_same, put_same, put_other}
-use Rattle.layout_uses.specs.Layouts.{AgreesWith, AreDrawn, AreNumbered}
-use Rattle.layout_uses.specs.{Drawing.HasNumbers, Laws.AreAmong, Laws.IsAmong}
+use Rattle.project_state.specs.{Tracks.without}
+use Rattle.project_state.proofs.Points.{other_keeps, other_same}
 use Rattle.layout_uses.proofs.Draws.{above_agrees, among_all, among_behind, drawn_one, like_agrees}
 use Rattle.layout_uses.proofs.Numbers.{among_agrees}
 

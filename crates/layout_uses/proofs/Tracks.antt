@@ -1,13 +1,10 @@
 -- A use of a layout that comes or goes.
-use Rattle.std.proofs.Common.{◌≡◌, ⊎_elim, refl, sym, ap, ◌∙◌, subst, ℕ, zero, suc, ◌+◌, ◌<◌, true, length, false, List}
-use Rattle.std.proofs.Common.{[], ◌∷◌, ◌++◌, Option, Some, None, IsSome, is_none, arith}
-use Rattle.std.proofs.lemmas.Bool.{cases_eq}
-use Rattle.pcm_base.specs.declared.block.BlockRef.{BlockRef}
-use Rattle.block_ledger.specs.Counts.{Counts, SetsCount, IsFreshCount, occurrences, one_more, one_less}
-use Rattle.clip_track.specs.Clips.{layout_blocks}
-use Rattle.project_state.specs.declared.track.Track.{Track}
-use Rattle.layout_uses.specs.Occurrences.{HasAll, Dropped, Held, times_named}
-use Rattle.layout_uses.specs.{Layouts.numbers_of, Layouts.has_number, Layouts.used_blocks, Tallies.AreCounts}
+use Rattle.layout_uses.proofs.Common.{◌≡◌, ⊎_elim, refl, sym, ap, ◌∙◌, subst, ℕ, zero, suc, ◌+◌, ◌<◌, true, length}
+use Rattle.layout_uses.proofs.Common.{false, List, [], ◌∷◌, ◌++◌, Option, Some, None, IsSome, arith, cases_eq, BlockRef}
+use Rattle.layout_uses.proofs.Common.{Counts, SetsCount, occurrences, one_more, one_less, layout_blocks, Track, HasAll}
+use Rattle.layout_uses.proofs.Common.{Dropped, Held, times_named, numbers_of, has_number, used_blocks, AreCounts}
+use Rattle.std.proofs.Common.{is_none}
+use Rattle.block_ledger.specs.Counts.{IsFreshCount}
 use Rattle.layout_uses.proofs.Times.{named_append}
 use Rattle.layout_uses.proofs.Layouts.{times_used, each_again, each_first, number_cases, times_number, times_no_number}
 

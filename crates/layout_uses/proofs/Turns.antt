@@ -1,12 +1,9 @@
 -- One turn of a loop over what has blocks.
-use Rattle.std.proofs.Common.{◌≡◌, refl, sym, ap, ◌∙◌, subst, ℕ, zero, suc, ◌+◌, ◌^◌, ◌≤◌, ◌<◌, List, [], ◌∷◌, ◌++◌}
-use Rattle.std.proofs.Common.{take, drop, flat_map, append_assoc, take-append-drop, slice_get, Some, IsSome, arith}
-use Rattle.std.proofs.{lemmas.List.append-nil, lemmas.Grind.flat_map-append}
-use Rattle.pcm_base.specs.declared.block.BlockRef.{BlockRef}
-use Rattle.block_ledger.specs.Counts.{Counts, IsNamed, occurrences}
-use Rattle.clip_track.specs.{declared.clips.Clip.Clip, Clips.layout_blocks}
-use Rattle.project_state.proofs.Points.{take_some}
-use Rattle.layout_uses.specs.Occurrences.{HasAll, Dropped, HasIds, Held}
+use Rattle.layout_uses.proofs.Common.{◌≡◌, refl, sym, ap, ◌∙◌, subst, ℕ, zero, suc, ◌+◌, ◌^◌, ◌≤◌, ◌<◌, List, [], ◌∷◌}
+use Rattle.layout_uses.proofs.Common.{◌++◌, take, drop, append_assoc, take-append-drop, slice_get, Some, IsSome, arith}
+use Rattle.layout_uses.proofs.Common.{append-nil, flat_map-append, BlockRef, Counts, IsNamed, occurrences, Clip}
+use Rattle.layout_uses.proofs.Common.{layout_blocks, take_some, HasAll, Dropped, HasIds, Held}
+use Rattle.std.proofs.Common.{flat_map}
 use Rattle.layout_uses.proofs.Times.{dropped_append, has_rest, has_left, held_append, there_rest, there_left, Few}
 use Rattle.layout_uses.proofs.Times.{few_rest, few_left, named_of, named_same}
 

@@ -1,12 +1,9 @@
 -- Building a disk file by file.
-use Rattle.std.proofs.Common.{◌≡◌, ◌⊎◌, inl, inr, ⊎_elim, ℕ, ◌+◌, ◌<◌, Option, Some, List, [], ◌∷◌, get_or, refl, sym}
-use Rattle.std.proofs.Common.{◌∙◌, ap, subst, arith}
-use Rattle.std.proofs.lemmas.Bool.{cases_eq}
-use Rattle.disk_model.specs.Disk.{Files, bytes_of, written, SameElsewhere}
-use Rattle.memory_disk.specs.History.{Step, Wrote, Synced, Removed, reads_of}
-use Rattle.memory_disk.specs.Histories.{reads_written, reads_elsewhere, reads_removed, elsewhere_removed}
-use Rattle.memory_disk.specs.{Calls.AllHeld, Calls.history_of, declared.call.Call.Call, Settled.IsBuilt}
-use Rattle.memory_disk.specs.{Settled.SetsFile}
+use Rattle.memory_disk.proofs.Common.{◌≡◌, ◌⊎◌, inl, inr, ⊎_elim, ℕ, ◌+◌, ◌<◌, Option, Some, List, [], ◌∷◌, get_or}
+use Rattle.memory_disk.proofs.Common.{refl, sym, ◌∙◌, ap, subst, arith, cases_eq, Files, bytes_of, written, Step, Wrote}
+use Rattle.memory_disk.proofs.Common.{Synced, Removed, reads_of, reads_written, reads_elsewhere, reads_removed}
+use Rattle.memory_disk.proofs.Common.{elsewhere_removed, AllHeld, history_of, Call, IsBuilt, SetsFile}
+use Rattle.disk_model.specs.Disk.{SameElsewhere}
 use Rattle.disk_model.proofs.Writes.{written_new}
 
 -- files that agree at one and elsewhere

@@ -1,9 +1,8 @@
 -- One call more at the end of a list of calls.
-use Rattle.std.proofs.Common.{◌≡◌, ℕ, zero, suc, ◌+◌, ◌≤◌, ◌<◌, List, [], ◌∷◌, ◌++◌, length, take, drop, get_or, refl}
-use Rattle.std.proofs.Common.{sym, ◌∙◌, ap, subst, arith, length-drop}
-use Rattle.std.proofs.lemmas.List.{take-append-le, drop-append-le, drop_at, take_all, take_more, take-append-drop}
-use Rattle.memory_disk.specs.Calls.{step_by, step_of, history_on, history_of, Held, AllHeld}
-use Rattle.memory_disk.specs.{History.Step, declared.call.Call.Call}
+use Rattle.memory_disk.proofs.Common.{◌≡◌, ℕ, zero, suc, ◌+◌, ◌≤◌, ◌<◌, List, [], ◌∷◌, ◌++◌, length, take, drop, get_or}
+use Rattle.memory_disk.proofs.Common.{refl, sym, ◌∙◌, ap, subst, arith, length-drop, take_all, take-append-drop}
+use Rattle.memory_disk.proofs.Common.{step_by, step_of, history_on, history_of, Held, AllHeld, Step, Call}
+use Rattle.std.proofs.lemmas.List.{take-append-le, drop-append-le, drop_at, take_more}
 
 pub history_push : (done : List Step) (row : List ℕ) (calls : List Call) (call : Call)
     → history_on done row (calls ++ call ∷ []) ≡ step_of row call ∷ history_on done row calls

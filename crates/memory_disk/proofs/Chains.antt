@@ -1,12 +1,11 @@
 -- One call more in the index.
-use Rattle.std.proofs.Common.{◌≡◌, ◌≢◌, ⊎_elim, ℕ, ◌+◌, ◌^◌, ◌≤◌, ◌<◌, eqb, cond, Option, Some, None, IfSome, List, []}
-use Rattle.std.proofs.Common.{◌∷◌, ◌++◌, length, get_or, set, refl, sym, ◌∙◌, ap, subst, arith, length-append}
-use Rattle.std.proofs.lemmas.Bool.{cases_eq, cases_lt, cond-true, cond-false, eq-eqb, ne_eqb}
-use Rattle.std.proofs.lemmas.List.{get_or-set_same, get_or-set_other, get_or_append_left, length-set}
-use Rattle.std.specs.{Prelude.IsSome, Option.option_map}
-use Rattle.disk_model.specs.Disk.{Files}
-use Rattle.memory_disk.specs.Index.{AreRising, LeadsTo, IsChain, IsHead, IsIndexed, head_of, size_from}
-use Rattle.memory_disk.specs.declared.heads.Head.{Head}
+use Rattle.memory_disk.proofs.Common.{◌≡◌, ◌≢◌, ⊎_elim, ℕ, ◌+◌, ◌^◌, ◌≤◌, ◌<◌, eqb, cond, Option, Some, None, IfSome}
+use Rattle.memory_disk.proofs.Common.{List, [], ◌∷◌, ◌++◌, length, get_or, set, refl, sym, ◌∙◌, ap, subst, arith}
+use Rattle.memory_disk.proofs.Common.{length-append, cases_eq, cases_lt, cond-true, cond-false, eq-eqb, ne_eqb}
+use Rattle.memory_disk.proofs.Common.{get_or-set_same, get_or-set_other, get_or_append_left, length-set, IsSome}
+use Rattle.memory_disk.proofs.Common.{option_map, Files, AreRising, IsChain, IsHead, IsIndexed, head_of, size_from}
+use Rattle.memory_disk.proofs.Common.{Head}
+use Rattle.memory_disk.specs.Index.{LeadsTo}
 
 module _ (reads : ℕ → Files) (file_of : ℕ → ℕ) (n : ℕ) where
   -- a call of another file leaves a chain as it is

@@ -1,19 +1,17 @@
 -- What holds of a file holds by its own calls.
-use Rattle.std.proofs.Common.{◌≡◌, ◌≢◌, ⊎_elim, ℕ, zero, suc, ◌+◌, ◌-◌, ◌≤◌, ◌<◌, true, false, not, ◌&&◌, eqb, Option}
-use Rattle.std.proofs.Common.{Some, List, [], ◌∷◌, ◌++◌, length, take, drop, get_or, refl, sym, ◌∙◌, ap, subst, arith}
-use Rattle.std.proofs.Common.{length-drop, take-append-drop}
-use Rattle.std.proofs.lemmas.Bool.{cases_eq, cases_lt, cond-true, cond-false, eq-eqb, ne_eqb}
-use Rattle.std.proofs.lemmas.Bool.Decides.{nat_tests}
-use Rattle.std.proofs.lemmas.List.{get_or-take, get_or-drop, append-nil, length-take-le}
+use Rattle.memory_disk.proofs.Common.{◌≡◌, ◌≢◌, ⊎_elim, ℕ, zero, suc, ◌+◌, ◌-◌, ◌≤◌, ◌<◌, true, false, eqb, Option}
+use Rattle.memory_disk.proofs.Common.{Some, List, [], ◌∷◌, ◌++◌, length, take, drop, get_or, refl, sym, ◌∙◌, ap, subst}
+use Rattle.memory_disk.proofs.Common.{arith, length-drop, cases_eq, cases_lt, cond-true, cond-false, eq-eqb, ne_eqb}
+use Rattle.memory_disk.proofs.Common.{nat_tests, get_or-take, get_or-drop, length-take-le, All, nat_cmp, bytes_of}
+use Rattle.memory_disk.proofs.Common.{written, Left, IsLeft, left_of, image_of, after_write, after_removal, AllHeld}
+use Rattle.memory_disk.proofs.Common.{Held, step_by, step_of, history_on, history_of, Write, Sync, Remove, Step}
+use Rattle.memory_disk.proofs.Common.{reads_of, reads_written, reads_removed, calls_of, no_call, Kind, Call}
+use Rattle.std.proofs.Common.{not, ◌&&◌, take-append-drop}
+use Rattle.std.proofs.lemmas.List.{append-nil}
 use Rattle.std.proofs.lemmas.List.Elements.{filter-append, filter_agree}
-use Rattle.std.specs.{List.All, List.Sorted.ties, List.Sorted.IsStableByKey, Ordering.nat_cmp, Ordering.is_lt}
-use Rattle.disk_model.specs.Disk.{bytes_of, written}
-use Rattle.memory_disk.specs.Images.{Left, IsLeft, left_of, state_at, image_of, after_write, after_removal}
-use Rattle.memory_disk.specs.Calls.{AllHeld, Held, step_by, step_of, history_on, history_of}
-use Rattle.memory_disk.specs.declared.call.Kind.TheVariants.{Write, Sync, Remove}
-use Rattle.memory_disk.specs.{History.Step, History.reads_of, Histories.reads_written, Histories.reads_removed}
-use Rattle.memory_disk.specs.{ByFile.is_of, ByFile.calls_of, Index.no_call, declared.call.Kind.Kind}
-use Rattle.memory_disk.specs.{declared.call.Call.Call}
+use Rattle.std.specs.{List.Sorted.ties, List.Sorted.IsStableByKey, Ordering.is_lt}
+use Rattle.memory_disk.specs.Images.{state_at}
+use Rattle.memory_disk.specs.{ByFile.is_of}
 use Rattle.memory_disk.proofs.LeftFiles.{wrote_here, wrote_other, synced_here, synced_other, removed_here}
 use Rattle.memory_disk.proofs.LeftFiles.{removed_other}
 use Rattle.memory_disk.proofs.{CallsLemmas.held_at, Noted.step_other, Rising.state_first, Rising.state_next}

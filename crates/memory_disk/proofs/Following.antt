@@ -1,10 +1,12 @@
 -- One call more.
-use Rattle.std.proofs.Common.{◌≡◌, ◌⊎◌, inl, inr, ⊎_elim, ℕ, Option, Some, None, List, ◌∷◌, length, refl, sym, ap}
-use Rattle.std.proofs.Common.{subst, arith}
+use Rattle.memory_disk.proofs.Common.{◌≡◌, ◌⊎◌, inl, inr, ⊎_elim, ℕ, Option, Some, None, List, ◌∷◌, length, refl, sym}
+use Rattle.memory_disk.proofs.Common.{subst, arith, Files, Torn, TornFile, Step, Wrote, Synced, Removed, IsImage}
+use Rattle.memory_disk.proofs.Common.{image_since}
 use Rattle.disk_model.specs.Moment.{Moment, At, Both, IsUpTo}
-use Rattle.disk_model.specs.Disk.{Files, Torn, TornFile, WriteStep, RemoveStep, StaysStep, Follows}
-use Rattle.memory_disk.specs.History.{Step, Wrote, Synced, Removed, IsImage, SinceMoment}
-use Rattle.memory_disk.specs.Histories.{image_since, fewer_moment}
+use Rattle.disk_model.specs.Disk.{WriteStep, RemoveStep, StaysStep, Follows}
+use Rattle.disk_model.proofs.Moments.{wider}
+use Rattle.memory_disk.specs.History.{SinceMoment}
+use Rattle.memory_disk.specs.Histories.{fewer_moment}
 
 kept_moment : (s : Step) (h : List Step) (t : Moment) (c : Files) → IsUpTo t (At (length h)) → SinceMoment h t c
     → SinceMoment (s ∷ h) t c
@@ -49,21 +51,11 @@ pub torn_file_none : (at n : ℕ) (f : Option (List ℕ)) → TornFile at n f f
 torn_file_none at n None = tt
 torn_file_none at n (Some f) = torn_none at n f
 
-pub follows_write : (file at : ℕ) (bytes : List ℕ) (h : List Step) → Follows (WriteStep file at (length bytes))
-    (At (length h)) (At (length (Wrote file at bytes ∷ h))) (SinceMoment h) (SinceMoment (Wrote file at bytes ∷ h))
-follows_write file at bytes h = follows_step (WriteStep file at (length bytes)) (Wrote file at bytes) h
-    (λ c. record { torn = torn_file_none at (length bytes) (c file); others = λ _ _. refl }) (λ c image. image)
+write_none : (file at n : ℕ) (c : Files) → WriteStep file at n c c
+write_none file at n c = record { torn = torn_file_none at n (c file); others = λ _ _. refl }
 
-pub follows_remove : (file : ℕ) (h : List Step) → Follows (RemoveStep file) (At (length h))
-    (At (length (Removed file ∷ h))) (SinceMoment h) (SinceMoment (Removed file ∷ h))
-follows_remove file h = follows_step (RemoveStep file) (Removed file) h (λ c. record {
-  gone = inl refl;
-  others = λ _ _. refl;
-}) (λ c image. image)
-
-pub follows_sync : (file : ℕ) (h : List Step)
-    → Follows StaysStep (At (length h)) (At (length (Synced file ∷ h))) (SinceMoment h) (SinceMoment (Synced file ∷ h))
-follows_sync file h = follows_step StaysStep (Synced file) h (λ c. refl) (λ c image. (c, image.0, refl))
+remove_none : (file : ℕ) (c : Files) → RemoveStep file c c
+remove_none file c = record { gone = inl refl; others = λ _ _. refl }
 
 -- The same for a history that is known by an equation.
 pub follows_same : (h k : List Step) → k ≡ h
@@ -72,57 +64,35 @@ follows_same h k is =
     subst (λ (l : List Step). Follows StaysStep (At (length h)) (At (length l)) (SinceMoment h) (SinceMoment l))
     (sym is) (follows_none h)
 
+same_step : (step : Files → Files → Type 0) (h k : List Step) → ((c : Files) → step c c) → k ≡ h
+    → Follows step (At (length h)) (At (length k)) (SinceMoment h) (SinceMoment k)
+same_step step h k none is = wider (λ d c stays. subst (step d) (sym stays) (none d)) (follows_same h k is)
+
+more_step : (step : Files → Files → Type 0) (s : Step) (h k : List Step) → ((c : Files) → step c c)
+    → ((c : Files) → IsImage (s ∷ h) c → (d : Files) × IsImage h d × step d c) → k ≡ s ∷ h
+    → Follows step (At (length h)) (At (length k)) (SinceMoment h) (SinceMoment k)
+more_step step s h k none comes is =
+    subst (λ (l : List Step). Follows step (At (length h)) (At (length l)) (SinceMoment h) (SinceMoment l)) (sym is)
+    (follows_step step s h none comes)
+
 pub write_same : (file at n : ℕ) (h k : List Step) → k ≡ h
     → Follows (WriteStep file at n) (At (length h)) (At (length k)) (SinceMoment h) (SinceMoment k)
-write_same file at n h k is =
-    let f = follows_same h k is in
-    record {
-      later = f.later;
-      fewer = f.fewer;
-      kept = f.kept;
-      added = f.added;
-      from = λ c s.
-          let d = f.from c s in (
-            d.0,
-            d.1,
-            subst (λ (e : Files). WriteStep file at n d.0 e) (sym d.2)
-                (record { torn = torn_file_none at n (d.0 file); others = λ _ _. refl }),
-          );
-    }
+write_same file at n h k = same_step (WriteStep file at n) h k (write_none file at n)
 
 pub write_more : (file at : ℕ) (bytes : List ℕ) (h k : List Step) → k ≡ Wrote file at bytes ∷ h
     → Follows (WriteStep file at (length bytes)) (At (length h)) (At (length k)) (SinceMoment h) (SinceMoment k)
-write_more file at bytes h k is = subst (λ (l : List Step). Follows (WriteStep file at (length bytes)) (At (length h))
-    (At (length l)) (SinceMoment h) (SinceMoment l)) (sym is) (follows_write file at bytes h)
+write_more file at bytes h k =
+    more_step (WriteStep file at (length bytes)) (Wrote file at bytes) h k (write_none file at (length bytes))
+    (λ c image. image)
 
 pub remove_same : (file : ℕ) (h k : List Step) → k ≡ h
     → Follows (RemoveStep file) (At (length h)) (At (length k)) (SinceMoment h) (SinceMoment k)
-remove_same file h k is =
-    let f = follows_same h k is in
-    record {
-      later = f.later;
-      fewer = f.fewer;
-      kept = f.kept;
-      added = f.added;
-      from = λ c s.
-          let d = f.from c s in (
-            d.0,
-            d.1,
-            record {
-              gone = inl (ap (λ (e : Files). e file) d.2);
-              others = λ o _. ap (λ (e : Files). e o) d.2;
-            },
-          );
-    }
+remove_same file h k = same_step (RemoveStep file) h k (remove_none file)
 
 pub remove_more : (file : ℕ) (h k : List Step) → k ≡ Removed file ∷ h
     → Follows (RemoveStep file) (At (length h)) (At (length k)) (SinceMoment h) (SinceMoment k)
-remove_more file h k is =
-    subst (λ (l : List Step). Follows (RemoveStep file) (At (length h)) (At (length l)) (SinceMoment h) (SinceMoment l))
-    (sym is) (follows_remove file h)
+remove_more file h k = more_step (RemoveStep file) (Removed file) h k (remove_none file) (λ c image. image)
 
 pub sync_more : (file : ℕ) (h k : List Step) → k ≡ Synced file ∷ h
     → Follows StaysStep (At (length h)) (At (length k)) (SinceMoment h) (SinceMoment k)
-sync_more file h k is =
-    subst (λ (l : List Step). Follows StaysStep (At (length h)) (At (length l)) (SinceMoment h) (SinceMoment l))
-    (sym is) (follows_sync file h)
+sync_more file h k = more_step StaysStep (Synced file) h k (λ c. refl) (λ c image. (c, image.0, refl))

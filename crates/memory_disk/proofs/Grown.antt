@@ -1,14 +1,11 @@
 -- An index while its list of calls grows.
-use Rattle.std.proofs.Common.{◌≡◌, ◌≢◌, ℕ, zero, suc, ◌+◌, ◌≤◌, ◌<◌, Option, None, Result, Ok, Err, List, [], ◌∷◌, ◌++◌}
-use Rattle.std.proofs.Common.{length, take, drop, get_or, refl, sym, ◌∙◌, ap, subst, arith}
-use Rattle.std.proofs.{lemmas.Bool.false≢true, lemmas.List.take-append-drop, lemmas.List.get_or-take}
-use Rattle.std.specs.{Prelude.IsSome, Prelude.IsOk, Prelude.OnOk, Option.option_map}
-use Rattle.disk_model.specs.Disk.{Files}
-use Rattle.memory_disk.specs.Calls.{AllHeld, step_by, history_of}
-use Rattle.memory_disk.specs.Index.{IsChain, IsIndexed, MakesFile, reads_at, file_at, no_call}
-use Rattle.memory_disk.specs.declared.call.Kind.TheVariants.{Write, Sync, Remove}
-use Rattle.memory_disk.specs.{History.Step, History.reads_of, Histories.reads_removed, declared.call.Kind.Kind}
-use Rattle.memory_disk.specs.{declared.call.Call.Call, declared.heads.Head.Head}
+use Rattle.memory_disk.proofs.Common.{◌≡◌, ◌≢◌, ℕ, zero, suc, ◌+◌, ◌≤◌, ◌<◌, Option, None, List, [], ◌∷◌, ◌++◌, length}
+use Rattle.memory_disk.proofs.Common.{take, drop, get_or, refl, sym, ◌∙◌, ap, subst, arith, false≢true}
+use Rattle.memory_disk.proofs.Common.{take-append-drop, get_or-take, IsSome, option_map, Files, AllHeld, step_by}
+use Rattle.memory_disk.proofs.Common.{history_of, IsChain, IsIndexed, MakesFile, reads_at, file_at, no_call, Write}
+use Rattle.memory_disk.proofs.Common.{Sync, Remove, Step, reads_of, reads_removed, Kind, Call, Head}
+use Rattle.std.proofs.Common.{Result, Ok, Err}
+use Rattle.std.specs.{Prelude.IsOk, Prelude.OnOk}
 use Rattle.memory_disk.proofs.{CallsLemmas.history_row, CallsLemmas.held_take, ReadChain.reads_all}
 
 pub on_ok : {T E P : Type 0} (r : Result T E) → IsOk r → OnOk r P → P

@@ -1,11 +1,10 @@
 -- Heads that rise by file: what is found, put in another's place, and put among them.
-use Rattle.std.proofs.Common.{◌≡◌, ◌≢◌, ⊎_elim, ℕ, zero, suc, ◌+◌, ◌-◌, ◌≤◌, ◌<◌, eqb, cond, Option, Some, None, List}
-use Rattle.std.proofs.Common.{[], ◌∷◌, length, get_or, set, refl, sym, ◌∙◌, ap, subst, arith}
-use Rattle.std.proofs.lemmas.Bool.{cases_eq, cases_lt, cond-true, cond-false, eq-eqb, ne_eqb}
-use Rattle.std.proofs.lemmas.List.{get_or-set_same, get_or-set_other, length-set}
+use Rattle.memory_disk.proofs.Common.{◌≡◌, ◌≢◌, ⊎_elim, ℕ, zero, suc, ◌+◌, ◌-◌, ◌≤◌, ◌<◌, eqb, cond, Option, Some, None}
+use Rattle.memory_disk.proofs.Common.{List, [], ◌∷◌, length, get_or, set, refl, sym, ◌∙◌, ap, subst, arith, cases_eq}
+use Rattle.memory_disk.proofs.Common.{cases_lt, cond-true, cond-false, eq-eqb, ne_eqb, get_or-set_same}
+use Rattle.memory_disk.proofs.Common.{get_or-set_other, length-set, head_of, AreRising, Head}
 use Rattle.std.proofs.lemmas.List.Edits.{length-insert, get_or-insert_below, get_or-insert_at, get_or-insert_above}
 use Rattle.std.specs.{List.insert, List.Sorted.IsNonDecreasingBy}
-use Rattle.memory_disk.specs.{Index.head_of, Index.AreRising, declared.heads.Head.Head}
 
 -- the first head of a list is the file's or not
 pub head_here : (h : Head) (hs : List Head) (f : ℕ) → h.file ≡ f → head_of (h ∷ hs) f ≡ Some h

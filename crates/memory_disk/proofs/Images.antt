@@ -1,10 +1,9 @@
 -- Images file by file.
-use Rattle.std.proofs.Common.{◌≡◌, ◌⊎◌, ℕ, ◌+◌, ◌≤◌, ◌<◌, min, max, None, List, [], ◌∷◌, length, take, drop, get_or}
-use Rattle.std.proofs.Common.{refl, sym, ◌∙◌, ap, subst, arith, length-drop}
-use Rattle.std.proofs.lemmas.List.{get_or-take, get_or-drop, length-take}
-use Rattle.std.proofs.lemmas.Grind.{same_number_lists}
-use Rattle.disk_model.specs.Disk.{Files, Torn, TornFile}
-use Rattle.memory_disk.specs.History.{Step, Wrote, Synced, Removed, IsImage, IsFileImage, reads_of}
+use Rattle.memory_disk.proofs.Common.{◌≡◌, ◌⊎◌, ℕ, ◌+◌, ◌≤◌, ◌<◌, min, max, None, List, [], ◌∷◌, length, take, drop}
+use Rattle.memory_disk.proofs.Common.{get_or, refl, sym, ◌∙◌, ap, subst, arith, length-drop, get_or-take, get_or-drop}
+use Rattle.memory_disk.proofs.Common.{same_number_lists, Files, Torn, TornFile, Step, Wrote, Synced, Removed, IsImage}
+use Rattle.memory_disk.proofs.Common.{IsFileImage, reads_of}
+use Rattle.std.proofs.lemmas.List.{length-take}
 
 -- files are left independently of one another
 pub image_from_files : (h : List Step) (c : Files) → ((f : ℕ) → IsFileImage f h (c f)) → IsImage h c

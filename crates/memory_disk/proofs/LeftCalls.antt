@@ -1,10 +1,8 @@
 -- What is left of a file after a list of calls that is gone through from its last sync on.
-use Rattle.std.proofs.Common.{◌≡◌, ℕ, ◌+◌, ◌-◌, ◌≤◌, ◌<◌, Option, List, ◌∷◌, length, take, drop, get_or, sym, ◌∙◌, ap}
-use Rattle.std.proofs.Common.{subst, arith, length-drop}
-use Rattle.std.proofs.lemmas.List.{take_all}
-use Rattle.memory_disk.specs.Calls.{AllHeld, step_by, step_of, history_on, history_of}
-use Rattle.memory_disk.specs.{History.Step, History.Synced, History.reads_of, Images.IsLeft, Images.IsAtSync}
-use Rattle.memory_disk.specs.{declared.call.Kind.Kind, declared.call.Kind.TheVariants.Sync, declared.call.Call.Call}
+use Rattle.memory_disk.proofs.Common.{◌≡◌, ℕ, ◌+◌, ◌-◌, ◌≤◌, ◌<◌, Option, List, ◌∷◌, length, take, drop, get_or, sym}
+use Rattle.memory_disk.proofs.Common.{◌∙◌, ap, subst, arith, length-drop, take_all, AllHeld, step_by, step_of}
+use Rattle.memory_disk.proofs.Common.{history_on, history_of, Step, Synced, reads_of, IsLeft, Kind, Sync, Call}
+use Rattle.memory_disk.specs.{Images.IsAtSync}
 use Rattle.memory_disk.proofs.CallsLemmas.{history_next, history_on_next, history_parts, held_drop}
 use Rattle.memory_disk.proofs.LeftFiles.{settled_synced}
 

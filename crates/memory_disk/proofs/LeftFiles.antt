@@ -1,16 +1,14 @@
 -- What the draws leave of a file, call by call, and that it is an image.
-use Rattle.std.proofs.Common.{◌≡◌, ◌≢◌, ◌⊎◌, inl, inr, ⊎_elim, ℕ, ◌+◌, ◌-◌, ◌≤◌, ◌<◌, max, Bool, true, false, Option}
-use Rattle.std.proofs.Common.{Some, None, List, [], ◌∷◌, length, replicate, get_or, eqb, refl, sym, ◌∙◌, ap, subst}
-use Rattle.std.proofs.Common.{arith, length-append}
-use Rattle.std.proofs.lemmas.Bool.{cases_eq, cases_lt, cond-true}
-use Rattle.std.proofs.lemmas.List.{get_or-take, length-replicate, length-take-le}
-use Rattle.std.proofs.{lemmas.Bool.Decides.nat_tests, lemmas.Grind.same_number_lists}
-use Rattle.disk_model.specs.Disk.{bytes_of, written, Torn, TornFile}
-use Rattle.memory_disk.specs.History.{Step, Wrote, Synced, Removed, IsImage, IsFileImage, reads_of}
-use Rattle.memory_disk.specs.Histories.{same_eq, length-written, reads_is_image, reads_written, reads_elsewhere}
-use Rattle.memory_disk.specs.Histories.{reads_removed, elsewhere_removed}
-use Rattle.memory_disk.specs.Images.{Left, takes, next_state, grown, laid, left_by_write, left_by_removal, after_write}
-use Rattle.memory_disk.specs.Images.{after_removal, left_of, state_at, image_of, synced_of, IsLeft}
+use Rattle.memory_disk.proofs.Common.{◌≡◌, ◌≢◌, ◌⊎◌, inl, inr, ⊎_elim, ℕ, ◌+◌, ◌-◌, ◌≤◌, ◌<◌, max, Bool, true, false}
+use Rattle.memory_disk.proofs.Common.{Option, Some, None, List, [], ◌∷◌, length, replicate, get_or, eqb, refl, sym, ◌∙◌}
+use Rattle.memory_disk.proofs.Common.{ap, subst, arith, length-append, cases_eq, cases_lt, cond-true, get_or-take}
+use Rattle.memory_disk.proofs.Common.{length-replicate, length-take-le, nat_tests, same_number_lists, bytes_of, written}
+use Rattle.memory_disk.proofs.Common.{Torn, TornFile, Step, Wrote, Synced, Removed, IsImage, IsFileImage, reads_of}
+use Rattle.memory_disk.proofs.Common.{reads_written, reads_elsewhere, reads_removed, elsewhere_removed, Left}
+use Rattle.memory_disk.proofs.Common.{after_write, after_removal, left_of, image_of, IsLeft}
+use Rattle.memory_disk.specs.Histories.{same_eq, length-written, reads_is_image}
+use Rattle.memory_disk.specs.Images.{takes, next_state, grown, laid, left_by_write, left_by_removal, state_at}
+use Rattle.memory_disk.specs.Images.{synced_of}
 use Rattle.memory_disk.proofs.Following.{torn_file_none}
 use Rattle.memory_disk.proofs.Images.{image_from_files, image_to_file, torn_by_index}
 use Rattle.memory_disk.proofs.Windows.{get_or-zeros, written_before, written_inside, written_after}
@@ -168,97 +166,86 @@ all_written old at bytes =
     (cases_lt i end))
     (cases_lt i at))
 
-write_taken : (b l : Bool) (old : Option (List ℕ)) (at : ℕ) (bytes : List ℕ) → b ≡ true → l ≡ true
-    → left_by_write b l old at bytes ≡ Some (written (bytes_of old) at bytes)
-write_taken true true old at bytes p q = ap (λ (x : List ℕ). Some x) (all_written (bytes_of old) at bytes)
-write_taken true false old at bytes p q = cc q
-write_taken false l old at bytes p q = cc p
+-- What the steps leave of a file by these contents, where each draw takes its part, or none does.
+record IsLeftBy (taken : Bool) (means : List Step → ℕ → Option (List ℕ)) : Type 0 where
+  none : (f : ℕ) → means [] f ≡ None
+  wrote : (f at : ℕ) (bytes : List ℕ) (h : List Step)
+      → left_by_write taken taken (means h f) at bytes ≡ means (Wrote f at bytes ∷ h) f
+  wrote_else : (file at : ℕ) (bytes : List ℕ) (h : List Step) (f : ℕ) → f ≢ file
+      → means (Wrote file at bytes ∷ h) f ≡ means h f
+  synced : (f : ℕ) (h : List Step) → reads_of h f ≡ means (Synced f ∷ h) f
+  synced_else : (file : ℕ) (h : List Step) (f : ℕ) → f ≢ file → means (Synced file ∷ h) f ≡ means h f
+  removed : (f : ℕ) (h : List Step) → left_by_removal taken (means h f) ≡ means (Removed f ∷ h) f
+  removed_else : (file : ℕ) (h : List Step) (f : ℕ) → f ≢ file → means (Removed file ∷ h) f ≡ means h f
 
-removal_taken : (b : Bool) (old : Option (List ℕ)) → b ≡ true → left_by_removal b old ≡ None
-removal_taken true old p = refl
-removal_taken false old p = cc p
+module _ (choice : ℕ) (taken : Bool) (means : List Step → ℕ → Option (List ℕ)) (by : IsLeftBy taken means)
+    (draws : (state : ℕ) → takes choice state ≡ taken) where
+  left_means : (f start : ℕ) (h : List Step) → (left_of choice f h start).content ≡ means h f
+  left_means f start [] = sym (by.none f)
+  left_means f start (Wrote file at bytes ∷ h) =
+      let was = left_of choice f h start in
+      let next = next_state was.state in
+      ⊎_elim
+      (λ same. subst (λ (g : ℕ). (left_of choice f (Wrote g at bytes ∷ h) start).content
+      ≡ means (Wrote g at bytes ∷ h) f)
+      same (ap (λ (left : Left). left.content) (wrote_here choice at bytes h f start)
+      ∙ (λ i. left_by_write (draws next i) (draws (next_state next) i) (left_means f start h i) at bytes)
+      ∙ by.wrote f at bytes h))
+      (λ ne. ap (λ (left : Left). left.content) (wrote_other choice file at bytes h f start ne) ∙ left_means f start h
+      ∙ sym (by.wrote_else file at bytes h f ne))
+      (cases_eq f file)
+  left_means f start (Synced file ∷ h) = ⊎_elim
+      (λ same. subst (λ (g : ℕ). (left_of choice f (Synced g ∷ h) start).content ≡ means (Synced g ∷ h) f) same
+      (ap (λ (left : Left). left.content) (synced_here choice h f start) ∙ by.synced f h))
+      (λ ne. ap (λ (left : Left). left.content) (synced_other choice file h f start ne) ∙ left_means f start h
+      ∙ sym (by.synced_else file h f ne))
+      (cases_eq f file)
+  left_means f start (Removed file ∷ h) =
+      let was = left_of choice f h start in
+      ⊎_elim
+      (λ same. subst (λ (g : ℕ). (left_of choice f (Removed g ∷ h) start).content ≡ means (Removed g ∷ h) f) same
+      (ap (λ (left : Left). left.content) (removed_here choice h f start)
+      ∙ (λ i. left_by_removal (draws (next_state was.state) i) (left_means f start h i)) ∙ by.removed f h))
+      (λ ne. ap (λ (left : Left). left.content) (removed_other choice file h f start ne) ∙ left_means f start h
+      ∙ sym (by.removed_else file h f ne))
+      (cases_eq f file)
 
-all_left : (f start : ℕ) (h : List Step) → (left_of 0 f h start).content ≡ reads_of h f
-all_left f start [] = refl
-all_left f start (Wrote file at bytes ∷ h) =
-    let was = left_of 0 f h start in
-    ⊎_elim
-    (λ same.
-    subst (λ (g : ℕ). (left_of 0 f (Wrote g at bytes ∷ h) start).content ≡ reads_of (Wrote g at bytes ∷ h) f) same
-    (ap (λ (left : Left). left.content) (wrote_here 0 at bytes h f start)
-    ∙ write_taken (takes 0 (next_state was.state)) (takes 0 (next_state (next_state was.state))) was.content at bytes
-    (takes_all _) (takes_all _)
-    ∙ ap (λ (x : Option (List ℕ)). Some (written (bytes_of x) at bytes)) (all_left f start h)
-    ∙ sym (reads_written f at bytes h)))
-    (λ ne. ap (λ (left : Left). left.content) (wrote_other 0 file at bytes h f start ne) ∙ all_left f start h
-    ∙ sym (reads_elsewhere file at bytes h f ne))
-    (cases_eq f file)
-all_left f start (Synced file ∷ h) = ⊎_elim
-    (λ same. subst (λ (g : ℕ). (left_of 0 f (Synced g ∷ h) start).content ≡ reads_of h f) same
-    (ap (λ (left : Left). left.content) (synced_here 0 h f start)))
-    (λ ne. ap (λ (left : Left). left.content) (synced_other 0 file h f start ne) ∙ all_left f start h)
-    (cases_eq f file)
-all_left f start (Removed file ∷ h) =
-    let was = left_of 0 f h start in
-    ⊎_elim
-    (λ same. subst (λ (g : ℕ). (left_of 0 f (Removed g ∷ h) start).content ≡ reads_of (Removed g ∷ h) f) same
-    (ap (λ (left : Left). left.content) (removed_here 0 h f start)
-    ∙ removal_taken (takes 0 (next_state was.state)) was.content (takes_all _) ∙ sym (reads_removed f h)))
-    (λ ne. ap (λ (left : Left). left.content) (removed_other 0 file h f start ne) ∙ all_left f start h
-    ∙ sym (elsewhere_removed file h f ne))
-    (cases_eq f file)
+all_left : IsLeftBy true reads_of
+all_left = record {
+  none = λ f. refl;
+  wrote = λ f at bytes h. ap (λ (x : List ℕ). Some x) (all_written (bytes_of (reads_of h f)) at bytes)
+      ∙ sym (reads_written f at bytes h);
+  wrote_else = λ file at bytes h f ne. reads_elsewhere file at bytes h f ne;
+  synced = λ f h. refl;
+  synced_else = λ file h f ne. refl;
+  removed = λ f h. sym (reads_removed f h);
+  removed_else = λ file h f ne. elsewhere_removed file h f ne;
+}
 
 pub image_0 : (h : List Step) → image_of 0 h ≡ reads_of h
-image_0 h = λ i f. all_left f (state_at 0 h f) h i
+image_0 h = λ i f. left_means 0 true reads_of all_left takes_all f (state_at 0 h f) h i
 
 -- Choice 1 takes nothing.
 pub takes_nothing : (state : ℕ) → takes 1 state ≡ false
 unfolding takes
 takes_nothing state = refl
 
-write_left : (b l : Bool) (old : Option (List ℕ)) (at : ℕ) (bytes : List ℕ) → b ≡ false → l ≡ false
-    → left_by_write b l old at bytes ≡ old
-write_left true l old at bytes p q = cc p
-write_left false true old at bytes p q = cc q
-write_left false false old at bytes p q = refl
+synced_elsewhere : (file : ℕ) (h : List Step) (f : ℕ) → f ≢ file → synced_of (Synced file ∷ h) f ≡ synced_of h f
+synced_elsewhere file h f ne = grind (arith, nat_tests, ne)
 
-removal_left : (b : Bool) (old : Option (List ℕ)) → b ≡ false → left_by_removal b old ≡ old
-removal_left true old p = cc p
-removal_left false old p = refl
-
-none_left : (f start : ℕ) (h : List Step) → (left_of 1 f h start).content ≡ synced_of h f
-none_left f start [] = refl
-none_left f start (Wrote file at bytes ∷ h) =
-    let was = left_of 1 f h start in
-    ⊎_elim
-    (λ same. subst (λ (g : ℕ). (left_of 1 f (Wrote g at bytes ∷ h) start).content ≡ synced_of h f) same
-    (ap (λ (left : Left). left.content) (wrote_here 1 at bytes h f start)
-    ∙ write_left (takes 1 (next_state was.state)) (takes 1 (next_state (next_state was.state))) was.content at bytes
-    (takes_nothing _) (takes_nothing _)
-    ∙ none_left f start h))
-    (λ ne. ap (λ (left : Left). left.content) (wrote_other 1 file at bytes h f start ne) ∙ none_left f start h)
-    (cases_eq f file)
-none_left f start (Synced file ∷ h) = ⊎_elim
-    (λ same. subst (λ (g : ℕ). (left_of 1 f (Synced g ∷ h) start).content ≡ synced_of (Synced g ∷ h) f) same
-    (ap (λ (left : Left). left.content) (synced_here 1 h f start)
-    ∙ sym (cond-true (eqb f f) (reads_of h f) (synced_of h f) (same_eq f))))
-    (λ ne. ap (λ (left : Left). left.content) (synced_other 1 file h f start ne) ∙ none_left f start h
-    ∙ sym (sync_elsewhere file h f ne))
-    (cases_eq f file)
-  where
-    sync_elsewhere : (file : ℕ) (h : List Step) (f : ℕ) → f ≢ file → synced_of (Synced file ∷ h) f ≡ synced_of h f
-    sync_elsewhere file h f ne = grind (arith, nat_tests, ne)
-none_left f start (Removed file ∷ h) =
-    let was = left_of 1 f h start in
-    ⊎_elim
-    (λ same. subst (λ (g : ℕ). (left_of 1 f (Removed g ∷ h) start).content ≡ synced_of h f) same
-    (ap (λ (left : Left). left.content) (removed_here 1 h f start)
-    ∙ removal_left (takes 1 (next_state was.state)) was.content (takes_nothing _) ∙ none_left f start h))
-    (λ ne. ap (λ (left : Left). left.content) (removed_other 1 file h f start ne) ∙ none_left f start h)
-    (cases_eq f file)
+none_left : IsLeftBy false synced_of
+none_left = record {
+  none = λ f. refl;
+  wrote = λ f at bytes h. refl;
+  wrote_else = λ file at bytes h f ne. refl;
+  synced = λ f h. sym (cond-true (eqb f f) (reads_of h f) (synced_of h f) (same_eq f));
+  synced_else = synced_elsewhere;
+  removed = λ f h. refl;
+  removed_else = λ file h f ne. refl;
+}
 
 pub image_1 : (h : List Step) → image_of 1 h ≡ synced_of h
-image_1 h = λ i f. none_left f (state_at 1 h f) h i
+image_1 h = λ i f. left_means 1 false synced_of none_left takes_nothing f (state_at 1 h f) h i
 
 pub settled_synced : (choice f start : ℕ) (h : List Step)
     → IsLeft choice f (Synced f ∷ h) start (reads_of (Synced f ∷ h) f) start

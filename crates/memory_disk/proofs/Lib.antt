@@ -1,3 +1,4 @@
+mod Common
 mod CallsLemmas
 mod Following
 mod Windows

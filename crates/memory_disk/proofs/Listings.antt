@@ -1,13 +1,13 @@
 -- The files of the heads that have a size.
-use Rattle.std.proofs.Common.{◌≡◌, ⊎_elim, ℕ, suc, ◌+◌, ◌<◌, Bool, true, Some, List, [], ◌∷◌, length, map, get_or, refl}
-use Rattle.std.proofs.Common.{sym, ◌∙◌, ap, subst, arith}
-use Rattle.std.proofs.lemmas.Bool.{cases_eq, cond_both, cond-true}
+use Rattle.memory_disk.proofs.Common.{◌≡◌, ⊎_elim, ℕ, suc, ◌+◌, ◌<◌, Bool, true, Some, List, [], ◌∷◌, length, map}
+use Rattle.memory_disk.proofs.Common.{get_or, refl, sym, ◌∙◌, ap, subst, arith, cases_eq, cond-true, is_some, IsSome}
+use Rattle.memory_disk.proofs.Common.{Contains, filter, All, IsStrictlyIncreasing, AreRising, head_of, size_from}
+use Rattle.memory_disk.proofs.Common.{no_head, Head}
+use Rattle.std.proofs.lemmas.Bool.{cond_both}
 use Rattle.std.proofs.{lemmas.List.get_or-map, lemmas.List.length-map, lemmas.List.Elements.All-filter}
 use Rattle.std.proofs.{lemmas.List.Elements.filter_passes, lemmas.List.Kept.AllPairs-filter}
-use Rattle.std.specs.Prelude.{is_some, IsSome, Contains, ◌↔◌}
-use Rattle.std.specs.{List.filter, List.All, List.Sorted.IsStrictlyIncreasing}
-use Rattle.memory_disk.specs.Index.{AreRising, IsBefore, head_of, size_from, no_head}
-use Rattle.memory_disk.specs.declared.heads.Head.{Head}
+use Rattle.std.specs.Prelude.{◌↔◌}
+use Rattle.memory_disk.specs.Index.{IsBefore}
 use Rattle.memory_disk.proofs.HeadLists.{head_here, head_later, head_found}
 
 abbrev file_in : Head → ℕ

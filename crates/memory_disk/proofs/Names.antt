@@ -1,15 +1,11 @@
 -- Files that no call wrote or removed.
-use Rattle.std.proofs.Common.{◌≡◌, ◌≢◌, ℕ, ◌+◌, ◌<◌, None, List, ◌∷◌, length, get_or, refl, sym, ◌∙◌, subst, arith}
-use Rattle.std.proofs.Common.{true, false}
-use Rattle.std.proofs.{lemmas.Bool.Decides.nat_tests, lemmas.Grind.common_steps, lemmas.List.get_or_default}
+use Rattle.memory_disk.proofs.Common.{◌≡◌, ◌≢◌, ℕ, ◌+◌, ◌<◌, None, List, ◌∷◌, length, get_or, refl, sym, ◌∙◌, subst}
+use Rattle.memory_disk.proofs.Common.{arith, true, false, nat_tests, common_steps, get_or_default, Contains}
+use Rattle.memory_disk.proofs.Common.{IsStrictlyIncreasing, nat_cmp, contains, Files, Write, Sync, Remove, Step}
+use Rattle.memory_disk.proofs.Common.{reads_of, IsUnnamed, reads_elsewhere, elsewhere_removed, step_by, IsBuilt, Kind}
 use Rattle.std.proofs.{lemmas.Map.Keys.below_from_sorted, lemmas.Map.Views.btree_set_contains_iff}
 use Rattle.std.proofs.{lemmas.Map.Lookups.exact_unsigned, lemmas.Cmp.nat_cmp_total}
-use Rattle.std.specs.{Prelude.Contains, List.Sorted.IsStrictlyIncreasing, List.Sorted.IsStrictlySortedBy}
-use Rattle.std.specs.{Ordering.nat_cmp, BTreeSet.BTreeSet, BTreeSet.contains, BTreeSet.Updates}
-use Rattle.disk_model.specs.Disk.{Files}
-use Rattle.memory_disk.specs.declared.call.Kind.TheVariants.{Write, Sync, Remove}
-use Rattle.memory_disk.specs.{History.Step, History.reads_of, Images.IsUnnamed, Histories.reads_elsewhere}
-use Rattle.memory_disk.specs.{Histories.elsewhere_removed, Calls.step_by, Settled.IsBuilt, declared.call.Kind.Kind}
+use Rattle.std.specs.{List.Sorted.IsStrictlySortedBy, BTreeSet.BTreeSet, BTreeSet.Updates}
 use Rattle.memory_disk.proofs.LeftFiles.{wrote_other, synced_other, removed_other}
 
 pub still_absent : (k f : ℕ) (s n : BTreeSet ℕ) → Updates nat_cmp s n k true → contains nat_cmp n f ≡ false

@@ -1,12 +1,9 @@
 -- One call more of a list, in its index.
-use Rattle.std.proofs.Common.{◌≡◌, ◌≢◌, ℕ, ◌+◌, ◌^◌, ◌≤◌, ◌<◌, eqb, cond, Option, Some, None, IfSome, List, [], ◌∷◌}
-use Rattle.std.proofs.Common.{◌++◌, length, take, get_or, set, refl, sym, ◌∙◌, ap, subst, arith}
-use Rattle.std.specs.{Prelude.IsSome, Option.option_map}
-use Rattle.memory_disk.specs.Calls.{step_by, step_of, history_of}
-use Rattle.memory_disk.specs.Index.{AreRising, IsIndexed, MakesFile, reads_at, file_at, no_call, head_of, size_from}
-use Rattle.memory_disk.specs.declared.call.Kind.TheVariants.{Write, Sync, Remove}
-use Rattle.memory_disk.specs.{History.Step, History.reads_of, Histories.reads_elsewhere, Histories.elsewhere_removed}
-use Rattle.memory_disk.specs.{declared.call.Kind.Kind, declared.call.Call.Call, declared.heads.Head.Head}
+use Rattle.memory_disk.proofs.Common.{◌≡◌, ◌≢◌, ℕ, ◌+◌, ◌^◌, ◌≤◌, ◌<◌, eqb, cond, Option, Some, None, IfSome, List, []}
+use Rattle.memory_disk.proofs.Common.{◌∷◌, ◌++◌, length, take, get_or, set, refl, sym, ◌∙◌, ap, subst, arith, IsSome}
+use Rattle.memory_disk.proofs.Common.{option_map, step_by, step_of, history_of, AreRising, IsIndexed, MakesFile}
+use Rattle.memory_disk.proofs.Common.{reads_at, file_at, no_call, head_of, size_from, Write, Sync, Remove, Step}
+use Rattle.memory_disk.proofs.Common.{reads_of, reads_elsewhere, elsewhere_removed, Kind, Call, Head}
 use Rattle.memory_disk.proofs.CallsLemmas.{history_next}
 use Rattle.memory_disk.proofs.Chains.{size_is, absent_is, indexed_follow, indexed_made, indexed_absent}
 
@@ -29,8 +26,17 @@ module _ (row : List ℕ) (calls : List Call) where
       ap (λ (h : List Step). reads_of h g) (history_next row calls n no_call lt)
       ∙ step_other call.kind call.file call.at _ (history_of row (take n calls)) g ne
 
-  module _ (n : ℕ) (lt : n < length calls) (heads : List Head) (links : List ℕ)
-      (was : IsIndexed (reads_at row calls) (file_at calls) n heads links) where
+  -- (the count as the code takes it, and as the clauses say it)
+  module _ (n count : ℕ) (same : n ≡ count) (lt : n < length calls) (heads : List Head) (links : List ℕ)
+      (counted : IsIndexed (reads_at row calls) (file_at calls) count heads links) where
+    was : IsIndexed (reads_at row calls) (file_at calls) n heads links
+    was = subst (λ (k : ℕ). IsIndexed (reads_at row calls) (file_at calls) k heads links) (sym same) counted
+
+    after : {new : List Head} {more : List ℕ} → IsIndexed (reads_at row calls) (file_at calls) (n + 1) new more
+        → IsIndexed (reads_at row calls) (file_at calls) (count + 1) new more
+    after {new = new} {more = more} =
+        subst (λ (k : ℕ). IsIndexed (reads_at row calls) (file_at calls) (k + 1) new more) same
+
     -- the size after the call
     sized : (before after : Option ℕ) → ((h : List Step) → before ≡ option_map length (reads_of h (file_at calls n))
         → after ≡ option_map length (reads_of (step_of row (get_or calls n no_call) ∷ h) (file_at calls n)))
@@ -51,14 +57,14 @@ module _ (row : List ℕ) (calls : List Call) where
           last = n;
           size = size;
         })) (head_of heads g)) → more ≡ set (links ++ x ∷ []) head.last n
-        → IsIndexed (reads_at row calls) (file_at calls) (n + 1) new more
+        → IsIndexed (reads_at row calls) (file_at calls) (count + 1) new more
     noted_follow new x more head size found some goes bound rising put is =
         let old = was.known (file_at calls n) head found in
-        subst (λ (l : List ℕ). IsIndexed (reads_at row calls) (file_at calls) (n + 1) new l) (sym is)
+        after (subst (λ (l : List ℕ). IsIndexed (reads_at row calls) (file_at calls) (n + 1) new l) (sym is)
         (indexed_follow (reads_at row calls) (file_at calls) n heads links was
         (others_stay n lt) new x head size found some
         (sized head.size size goes (old.1.size ∙ ap (λ (g : ℕ). option_map length (reads_at row calls n g)) old.0))
-        (bound old.1.bound) rising put)
+        (bound old.1.bound) rising put))
 
     pub is_none : size_from (head_of heads (file_at calls n)) ≡ None
         → None ≡ option_map length (reads_at row calls n (file_at calls n))
@@ -75,30 +81,30 @@ module _ (row : List ℕ) (calls : List Call) where
           last = n;
           size = Some size;
         })) (head_of heads g)) → more ≡ links ++ x ∷ []
-        → IsIndexed (reads_at row calls) (file_at calls) (n + 1) new more
+        → IsIndexed (reads_at row calls) (file_at calls) (count + 1) new more
     noted_made new x more size none goes bound rising put is =
-        subst (λ (l : List ℕ). IsIndexed (reads_at row calls) (file_at calls) (n + 1) new l) (sym is)
+        after (subst (λ (l : List ℕ). IsIndexed (reads_at row calls) (file_at calls) (n + 1) new l) (sym is)
         (indexed_made (reads_at row calls) (file_at calls) n heads links was (others_stay n lt) new x
-        (file_at calls n) size refl none (sized None (Some size) goes (is_none none)) bound rising put)
+        (file_at calls n) size refl none (sized None (Some size) goes (is_none none)) bound rising put))
 
     pub makes : (size : ℕ) → size_from (head_of heads (file_at calls n)) ≡ None
         → ((h : List Step) → None ≡ option_map length (reads_of h (file_at calls n))
         → Some size ≡ option_map length (reads_of (step_of row (get_or calls n no_call) ∷ h) (file_at calls n)))
-        → MakesFile (reads_at row calls) (file_at calls) n
-    makes size none goes = record {
+        → MakesFile (reads_at row calls) (file_at calls) count
+    makes size none goes = subst (λ (k : ℕ). MakesFile (reads_at row calls) (file_at calls) k) same (record {
       absent = absent_is (reads_at row calls) (file_at calls) n heads links was (file_at calls n) none;
       there =
           some_mapped (reads_at row calls (n + 1) (file_at calls n)) size (sized None (Some size) goes (is_none none));
-    }
+    })
 
     pub noted_absent : (x : ℕ) (more : List ℕ) → size_from (head_of heads (file_at calls n)) ≡ None
         → ((h : List Step) → None ≡ option_map length (reads_of h (file_at calls n)) → None ≡ option_map length
         (reads_of (step_of row (get_or calls n no_call) ∷ h) (file_at calls n))) → more ≡ links ++ x ∷ []
-        → IsIndexed (reads_at row calls) (file_at calls) (n + 1) heads more
+        → IsIndexed (reads_at row calls) (file_at calls) (count + 1) heads more
     noted_absent x more none goes is =
-        subst (λ (l : List ℕ). IsIndexed (reads_at row calls) (file_at calls) (n + 1) heads l) (sym is)
+        after (subst (λ (l : List ℕ). IsIndexed (reads_at row calls) (file_at calls) (n + 1) heads l) (sym is)
         (indexed_absent (reads_at row calls) (file_at calls) n heads links was (others_stay n lt) x
-        (file_at calls n) refl none (sized None None goes (is_none none)))
+        (file_at calls n) refl none (sized None None goes (is_none none))))
 
 -- the index of no call
 pub indexed_none : (row : List ℕ) (calls : List Call) (n : ℕ) (heads : List Head) (links : List ℕ) → n ≡ 0 → heads ≡ []

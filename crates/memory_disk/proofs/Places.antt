@@ -1,8 +1,8 @@
 -- Room for a file that a write makes.
-use Rattle.std.proofs.Common.{◌≡◌, ◌≢◌, inr, ⊎_elim, ℕ, ◌+◌, ◌≤◌, Option, Some, None, List, length, refl, sym, ◌∙◌, ap}
-use Rattle.std.proofs.Common.{subst, arith}
-use Rattle.std.specs.{Prelude.IsSome, Prelude.IsNone, Option.option_map}
-use Rattle.memory_disk.specs.{History.reads_of, Ram.Log, Ram.IsFull, Ram.files_after}
+use Rattle.memory_disk.proofs.Common.{◌≡◌, ◌≢◌, inr, ⊎_elim, ℕ, ◌+◌, ◌≤◌, Option, Some, None, List, length, refl, sym}
+use Rattle.memory_disk.proofs.Common.{◌∙◌, ap, subst, arith, IsSome, option_map, reads_of, Log, files_after}
+use Rattle.std.specs.{Prelude.IsNone}
+use Rattle.memory_disk.specs.{Ram.IsFull}
 
 unmapped : (o : Option (List ℕ)) → IsNone (option_map length o) → o ≡ None
 unmapped None e = refl

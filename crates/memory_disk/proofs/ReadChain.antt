@@ -1,12 +1,8 @@
 -- What is read along a file's calls.
-use Rattle.std.proofs.Common.{◌≡◌, ℕ, ◌+◌, ◌<◌, Option, Some, None, List, ◌∷◌, length, take, get_or, refl, sym, ◌∙◌, ap}
-use Rattle.std.proofs.Common.{subst, arith}
-use Rattle.std.proofs.lemmas.List.{take_all}
-use Rattle.std.specs.{Prelude.is_some, Option.option_map}
-use Rattle.disk_model.specs.Disk.{Files, bytes_of}
-use Rattle.memory_disk.specs.Calls.{IsWindow, step_of, history_of}
-use Rattle.memory_disk.specs.Index.{IsChain, IsHead, IsIndexed, reads_at, file_at, no_call, head_of, size_from}
-use Rattle.memory_disk.specs.{History.Step, History.reads_of, declared.call.Call.Call, declared.heads.Head.Head}
+use Rattle.memory_disk.proofs.Common.{◌≡◌, ℕ, ◌+◌, ◌<◌, Option, Some, None, List, ◌∷◌, length, take, get_or, refl, sym}
+use Rattle.memory_disk.proofs.Common.{◌∙◌, ap, subst, arith, take_all, is_some, option_map, Files, bytes_of, IsWindow}
+use Rattle.memory_disk.proofs.Common.{step_of, history_of, IsChain, IsHead, IsIndexed, reads_at, file_at, no_call}
+use Rattle.memory_disk.proofs.Common.{head_of, size_from, Step, reads_of, Call, Head}
 use Rattle.memory_disk.proofs.{CallsLemmas.history_next, Chains.size_is, Chains.absent_is}
 
 -- after all of the calls

@@ -1,10 +1,8 @@
 -- The generator's state when its turn comes to a file, where the files with draws are gone through rising.
-use Rattle.std.proofs.Common.{◌≡◌, ⊎_elim, ℕ, zero, suc, ◌+◌, ◌-◌, ◌≤◌, ◌<◌, Option, List, length, get_or, refl, sym}
-use Rattle.std.proofs.Common.{◌∙◌, ap, arith}
-use Rattle.std.proofs.{lemmas.Bool.cases_lt, lemmas.List.get_or_default}
-use Rattle.std.specs.{Prelude.Contains, List.Sorted.IsStrictlyIncreasing}
-use Rattle.memory_disk.specs.History.{Step}
-use Rattle.memory_disk.specs.Images.{Left, IsUnnamed, IsLeft, left_of, state_at, image_of}
+use Rattle.memory_disk.proofs.Common.{◌≡◌, ⊎_elim, ℕ, zero, suc, ◌+◌, ◌-◌, ◌≤◌, ◌<◌, Option, List, length, get_or, refl}
+use Rattle.memory_disk.proofs.Common.{sym, ◌∙◌, ap, arith, cases_lt, get_or_default, Contains, IsStrictlyIncreasing}
+use Rattle.memory_disk.proofs.Common.{Step, Left, IsUnnamed, IsLeft, left_of, image_of}
+use Rattle.memory_disk.specs.Images.{state_at}
 use Rattle.memory_disk.proofs.LeftFiles.{left_content, left_state}
 
 pub state_first : (choice : ℕ) (h : List Step) → state_at choice h 0 ≡ choice

@@ -1,14 +1,12 @@
 -- A write as it is seen at each index.
-use Rattle.std.proofs.Common.{◌≡◌, ⊎_elim, ℕ, ◌+◌, ◌-◌, ◌≤◌, ◌<◌, List, ◌∷◌, ◌++◌, length, take, drop, get_or}
-use Rattle.std.proofs.Common.{replicate, refl, sym, ◌∙◌, ap, arith, length-append, length-drop, Option, None, Some}
-use Rattle.std.proofs.lemmas.List.{get_or-append_right, get_or_append_left, get_or-take, get_or-drop, get_or-replicate}
-use Rattle.std.proofs.lemmas.List.{get_or_past, length-replicate, length-take-le, take_all}
-use Rattle.std.proofs.{lemmas.Bool.cases_lt, lemmas.Grind.same_number_lists}
-use Rattle.std.specs.Option.{option_map, unwrap_or}
-use Rattle.disk_model.specs.Disk.{written, bytes_of}
-use Rattle.memory_disk.specs.{History.Step, History.Wrote, History.reads_of, Calls.IsWindow, Calls.step_of}
-use Rattle.memory_disk.specs.{Calls.step_by, declared.call.Kind.Kind, declared.call.Kind.TheVariants.Write}
-use Rattle.memory_disk.specs.{declared.call.Call.Call, Histories.length-padded, Histories.reads_written}
+use Rattle.memory_disk.proofs.Common.{◌≡◌, ⊎_elim, ℕ, ◌+◌, ◌-◌, ◌≤◌, ◌<◌, List, ◌∷◌, ◌++◌, length, take, drop, get_or}
+use Rattle.memory_disk.proofs.Common.{replicate, refl, sym, ◌∙◌, ap, arith, length-append, length-drop, Option, None}
+use Rattle.memory_disk.proofs.Common.{Some, get_or_append_left, get_or-take, get_or-drop, length-replicate}
+use Rattle.memory_disk.proofs.Common.{length-take-le, take_all, cases_lt, same_number_lists, option_map, unwrap_or}
+use Rattle.memory_disk.proofs.Common.{written, bytes_of, Step, Wrote, reads_of, IsWindow, step_of, step_by, Kind, Write}
+use Rattle.memory_disk.proofs.Common.{Call, reads_written}
+use Rattle.std.proofs.lemmas.List.{get_or-append_right, get_or-replicate, get_or_past}
+use Rattle.memory_disk.specs.{Histories.length-padded}
 
 -- what is read past the end of a file is 0, and so are the bytes that fill a gap
 zeros : (n i : ℕ) → get_or {A = ℕ} (replicate n 0) i 0 ≡ 0

@@ -87,13 +87,7 @@ carried_run t (c ∷ cs) u kinds done =
 
 written_last : (k : Kind) (p : Place) → p.undone ≡ false → (written_as k 0 p).place.undone ≡ false
 written_last kind.Ramp p e = e
-written_last kind.Delete p e = e
-written_last kind.Gain p e = e
-written_last kind.Silence p e = e
-written_last kind.Copy p e = e
-written_last kind.Paste p e = e
-written_last kind.Undo p e = e
-written_last kind.Envelope p e = e
+written_last _ p e = e
 
 line_last : (p : Place) → (line_at 0 p).place.undone ≡ false
 line_last p = by p.undone refl

@@ -22,8 +22,7 @@ module _ {D : Type 0} (disk : Ghosts D) (p : FreshProject) (can : CanBeMade p) (
   takes : Takes (create_room (disk.reads store 0)) (left_behind 8 p) (room_of_project p)
   takes =
       let few = files_few (disk.reads store 0) in
-      let files = can.files_least in let bytes = can.bytes_least in let calls = can.calls_least in
-      (omega (arith, few, files), omega (arith, bytes), omega (arith, calls))
+      (omega (arith, few, can.files_least), omega (arith, can.bytes_least), omega (arith, can.calls_least))
 
   none_there : HasNone (disk.reads store)
   none_there = no_project (disk.reads store) empty.none
@@ -31,15 +30,14 @@ module _ {D : Type 0} (disk : Ghosts D) (p : FreshProject) (can : CanBeMade p) (
   -- making it fails for want of memory alone
   pub making_wants : (why : OpenFault) → Creates {T = Unit {0}} (disk.reads store) (Err why)
       → Causes {T = Unit {0}} disk store new (Err why) → why ≡ fault.NoMemory
-  making_wants fault.Absent creates cause = absurd creates
   making_wants fault.Exists creates cause = absurd (⊎_elim none_there.0 none_there.1 creates)
-  making_wants (fault.Damaged file at want have) creates cause = absurd creates
   making_wants (fault.Foreign file) creates cause =
       absurd (absent (disk.reads store file) (empty.none file) creates.1.there)
   making_wants fault.DiskFault creates cause =
       absurd (no_fault_within disk store new (SameElsewhere 0) (create_room (disk.reads store 0)) (room_of_project p)
       (left_behind 8 p) changed empty.tells empty.room takes cause)
   making_wants fault.NoMemory creates cause = refl
+  making_wants _ creates cause = absurd creates
 
   only_journal : (file : ℕ) → IsSome (disk.reads new file) → file ≡ 0
   only_journal zero some = refl
@@ -63,9 +61,11 @@ module _ {D : Type 0} (disk : Ghosts D) (p : FreshProject) (can : CanBeMade p) (
         let more = asked_by disk store new (SameElsewhere 0) (create_room (disk.reads store 0)) (made_room 8) changed
         empty.tells most in
         let none = empty.asked_none in
-        let a = more.files in let b = more.bytes in let d = more.calls in
-        let i = none.files in let j = none.bytes in let k = none.calls in
-        record { files = omega (arith, a, i); bytes = omega (arith, b, j); calls = omega (arith, d, k) };
+        record {
+          files = omega (arith, more.files, none.files);
+          bytes = omega (arith, more.bytes, none.bytes);
+          calls = omega (arith, more.calls, none.calls);
+        };
     room = room_left disk store new (SameElsewhere 0) (create_room (disk.reads store 0)) (room_of_project p)
         (left_behind 8 p) changed empty.tells empty.room takes;
   }

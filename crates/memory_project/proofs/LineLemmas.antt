@@ -1,6 +1,6 @@
 -- One line: nothing refuses it, so it is carried out, or there is no memory for it.
 use Rattle.std.proofs.Common.{◌≡◌, ⊎_elim, ℕ, ◌+◌, ◌-◌, ◌≤◌, IsTrue, None, Err, Ok, Result, IfErr, refl, sym, ap, ◌∙◌}
-use Rattle.std.proofs.Common.{Bool, true, false, if◌then◌else◌, ◌==◌, List, length, Option, Some, subst, arith}
+use Rattle.std.proofs.Common.{Bool, true, false, if◌then◌else◌, List, length, Option, Some, subst, arith}
 use Rattle.std.proofs.lemmas.Option.{none-some}
 use Rattle.pcm_base.specs.Counters.{Needs, commits_of, places_of}
 use Rattle.pcm_base.specs.Run.{Answers, Breaks, CarriesOut, ChangeFailed, DiskFails, LeavesAll, ReadFailed, Refuses}
@@ -14,6 +14,7 @@ use Rattle.editor_state.specs.Took.{Exchange, Took, asks, quietly, silent, as_re
 use Rattle.editor_state.specs.{Applied.EndsAlike, Core.Core, Left.LeavesOthers, Left.MayRemove, Packing.packed_by}
 use Rattle.editor_state.specs.{Packing.packs, Studios.studio_of, Exchanges.begun_in_vain, Exchanges.is_broken_off}
 use Rattle.model_laws.proofs.Answered.{carried_is}
+use Rattle.script_gen.proofs.Passing.{places-few}
 use Rattle.editor_state.proofs.Calls.VaultCalls.{names_none as none_named}
 use Rattle.memory_project.specs.Lines.{Asked, IsOfScript, MayCome, Went, line_room}
 use Rattle.memory_project.specs.Memory.{HasAsked, HasRoom, no_room}
@@ -105,31 +106,18 @@ vain_most (Err why) = either (is_broken_off why)
     either true = omega arith
     either false = omega arith
 
-places_most : (c : Call) (len : ℕ) → places_of c len ≤ 6 + len
-places_most c len = either (commits_of c == 0)
-  where
-    either : (b : Bool) → (if b then 0 else 6 + len) ≤ 6 + len
-    either true = omega arith
-    either false = omega arith
-
 -- so much is within the room of a line, where the journal is there
 line_takes : (x : Exchange) (journal : Option (List ℕ)) (m blocks len packed : ℕ) (more : Room)
     → files_made journal ≡ 0 → length x.removed ≡ 0 → packs x.call ≡ 0 → packed ≡ 0 → m ≡ 512 → blocks ≤ 11
     → len ≤ 6872 → Takes (asks x journal m blocks len packed) more (together line_room more)
 line_takes x journal m blocks len packed more there none unpacked nothing size few short =
     let vain = vain_most x.told in
-    let places = places_most x.call len in
+    let places : places_of x.call len ≤ 6 + len = places-few (commits_of x.call) len in
     subst (λ (k : ℕ). Takes (asks x journal k blocks len packed) more (together line_room more)) (sym size) (
       omega (arith, there, unpacked, vain, few),
       omega (arith, nothing, vain, places, few, short),
       omega (arith, few, none),
     )
-
-none_takes : (x : Exchange) (journal : Option (List ℕ)) (m blocks len packed : ℕ) → files_made journal ≡ 0
-    → length x.removed ≡ 0 → packs x.call ≡ 0 → packed ≡ 0 → m ≡ 512 → blocks ≤ 11 → len ≤ 6872
-    → Takes (asks x journal m blocks len packed) no_room line_room
-none_takes x journal m blocks len packed there none unpacked nothing size few short =
-    line_takes x journal m blocks len packed no_room there none unpacked nothing size few short
 
 -- nothing refuses it, so the studio goes on
 goes : (stopped : Option ℕ) (rest : Option Refusal) → ((stop_of stopped) otherwise rest) ≡ None → stopped ≡ None
@@ -145,55 +133,35 @@ module _ {D : Type 0} (disk : Ghosts D) (old new : Core D) (c : Command) (may : 
 
   module _ {told : Result Reply Refusal} (took : Took disk old (quietly (Line c) told) new) (blocks len : ℕ)
       (needs : Needs (outside t silent) t (Line c) blocks len) (next : new.next_block ≡ old.next_block + blocks) where
-    few_blocks : new.next_block - old.next_block ≤ 11
-    few_blocks = let few = (may.few.most silent blocks len needs).0 in omega (arith, few, next)
+    -- what it asks of the disk
+    abbrev much : Room
+    much = asks (quietly (Line c) told) (disk.reads old.store old.file) old.block_size
+        (new.next_block - old.next_block) took.len (packed_by old (Line c))
 
-    short : took.len ≤ 6872
-    short = let w = took.needs may.held in (may.few.most silent w.0 took.len w.1).1
-
-    abbrev exchange : Exchange
-    exchange = quietly (Line c) told
-
-    abbrev journal : Option (List ℕ)
-    journal = disk.reads old.store old.file
-
-    abbrev blocks_made : ℕ
-    blocks_made = new.next_block - old.next_block
-
-    abbrev packed_bytes : ℕ
-    packed_bytes = packed_by old (Line c)
-
-    there : files_made journal ≡ 0
-    there =
+    much_takes : (more : Room) → Takes much more (together line_room more)
+    much_takes more =
         let w = took.needs may.held in
         let going = goes old.stopped _ (may.valid silent w.0 took.len w.1) in
-        ap files_made (may.held.durable going).there.read.1
+        let few = (may.few.most silent blocks len needs).0 in
+        line_takes (quietly (Line c) told) (disk.reads old.store old.file) old.block_size
+        (new.next_block - old.next_block) took.len (packed_by old (Line c)) more
+        (ap files_made (may.held.durable going).there.read.1) refl (packs_none c may.kind) (packed_none old c may.kind)
+        may.size (omega (arith, few, next)) (may.few.most silent w.0 took.len w.1).1
 
     room_stays : (more : Room) → HasRoom disk old.store (together line_room more) → HasRoom disk new.store more
     room_stays more fits = room_left disk old.store new.store
-        (LeavesOthers old.next_block new.next_block (MayRemove (Line c) old.counts))
-        (asks exchange journal old.block_size blocks_made took.len packed_bytes) (together line_room more) more
-        took.changed may.held.tells fits
-        (line_takes exchange journal old.block_size blocks_made took.len packed_bytes more there refl
-        (packs_none c may.kind) (packed_none old c may.kind) may.size few_blocks short)
+        (LeavesOthers old.next_block new.next_block (MayRemove (Line c) old.counts)) much (together line_room more) more
+        took.changed may.held.tells fits (much_takes more)
 
     asked_stays : HasAsked disk new.store (together (asked disk old.store) line_room)
     asked_stays =
-        let takes = none_takes exchange journal old.block_size blocks_made took.len packed_bytes there refl
-        (packs_none c may.kind) (packed_none old c may.kind) may.size few_blocks short in
-        let a = takes.0 in let b = takes.1 in let d = takes.2 in
+        let takes = much_takes no_room in
         asked_by disk old.store new.store (LeavesOthers old.next_block new.next_block (MayRemove (Line c) old.counts))
-        (asks exchange journal old.block_size blocks_made took.len packed_bytes) line_room took.changed may.held.tells
-        (record { files = omega (arith, a); bytes = omega (arith, b); calls = omega (arith, d) })
+        much line_room took.changed may.held.tells
+        (record { files = omega (arith, takes.0); bytes = omega (arith, takes.1); calls = omega (arith, takes.2) })
 
     faults_none : (disk.read_fault_count new.store ≡ 0) × (disk.change_fault_count new.store ≡ 0)
-    faults_none = let left = room_left disk old.store new.store
-        (LeavesOthers old.next_block new.next_block (MayRemove (Line c) old.counts))
-        (asks exchange journal old.block_size blocks_made took.len packed_bytes) line_room no_room took.changed
-        may.held.tells may.room
-        (none_takes exchange journal old.block_size blocks_made took.len packed_bytes there refl
-        (packs_none c may.kind) (packed_none old c may.kind) may.size few_blocks short) in
-        (left.reads, left.changes)
+    faults_none = let left = room_stays no_room may.room in (left.reads, left.changes)
 
   pub line_went : (r : Reply) → Took disk old (quietly (Line c) (Ok r)) new → Went disk old c new
   line_went r took =

@@ -44,8 +44,7 @@ first_block : (files : Files) (next : ℕ) → ((file : ℕ) → IsSome (files f
 first_block files next only is = ⊎_elim
     (λ (same : next ≡ 16). same)
     (λ (w : (file : ℕ) × IsSome (files file) × (next ≡ file + 1)).
-    let zero_file = only w.0 w.1 in let low = is.no_lower in let above = w.2 in
-    absurd (omega (arith, zero_file, low, above)))
+    absurd (omega (arith, only w.0 w.1, is.no_lower, w.2)))
     is.least
 
 -- version 3 is the last one
@@ -145,9 +144,11 @@ module _ {D : Type 0} (disk : Ghosts D) (p : FreshProject) (can : CanBeMade p) (
         record { files = omega arith; bytes = omega arith; calls = omega arith } in
         let more = asked_by disk store start.store StaysStep two_calls two_calls to.changed made.tells same in
         let few = made.asked_few in
-        let a = more.files in let b = more.bytes in let d = more.calls in
-        let i = few.files in let j = few.bytes in let k = few.calls in
-        record { files = omega (arith, a, i); bytes = omega (arith, b, j); calls = omega (arith, d, k) }
+        record {
+          files = omega (arith, more.files, few.files);
+          bytes = omega (arith, more.bytes, few.bytes);
+          calls = omega (arith, more.calls, few.calls);
+        }
 
     fresh_studio_is : studio_of disk start ≡ model.fresh p.rate p.block_size p.depth
     fresh_studio_is = λ i. record {
@@ -187,10 +188,8 @@ module _ {D : Type 0} (disk : Ghosts D) (p : FreshProject) (can : CanBeMade p) (
       → Causes {T = Found} disk store new (Err why) → Changed disk StaysStep two_calls store new → why ≡ fault.NoMemory
   opening_wants new fault.Absent honest cause changed = absurd ((honest made.honest).0
       (is_project (form_3 0) (fresh p.rate p.block_size p.depth) (disk.reads store) (omega arith) made.there))
-  opening_wants new fault.Exists honest cause changed = absurd (honest made.honest)
-  opening_wants new (fault.Damaged file at want have) honest cause changed = absurd (honest made.honest)
-  opening_wants new (fault.Foreign file) honest cause changed = absurd (honest made.honest)
   opening_wants new fault.DiskFault honest cause changed =
       absurd (no_fault_within disk store new StaysStep two_calls (left_behind 8 p) (left_behind 10 p) changed made.tells
       made.room takes cause)
   opening_wants new fault.NoMemory honest cause changed = refl
+  opening_wants new _ honest cause changed = absurd (honest made.honest)

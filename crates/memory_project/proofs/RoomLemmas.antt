@@ -22,10 +22,9 @@ no_project files none = (λ project. absent 0 project.0, λ project. absent 1 pr
 module _ {D : Type 0} (disk : Ghosts D) (old new : D) (step : Files → Files → Type 0) (more : Room)
     (changed : Changed disk step more old new) (tells : IsTrue (disk.tells old)) (fits : HasRoom disk old more) where
   not_over : (now before more room : ℕ) → now ≤ before + more → Fits before more room → IsOver room now → ⊥
-  not_over now before more room le fits over =
-      let within = fits.within in let small = fits.small in ⊎_elim
-      (λ (x : room < now). absurd (omega (arith, le, within, x)))
-      (λ (x : 2 ^ 64 - 1 ≤ now). absurd (omega (arith, le, small, x)))
+  not_over now before more room le fits over = ⊎_elim
+      (λ (x : room < now). absurd (omega (arith, le, fits.within, x)))
+      (λ (x : 2 ^ 64 - 1 ≤ now). absurd (omega (arith, le, fits.small, x)))
       over
 
   not_spent : IsSpent (disk.room old) (asked disk new) → ⊥
@@ -61,14 +60,25 @@ module _ {D : Type 0} (disk : Ghosts D) (old new : D) (step : Files → Files �
 
 less : (now more most room : ℕ) → more ≤ most → Fits now most room → Fits now more room
 less now more most room le fits =
-    let a = fits.within in let b = fits.small in
-    record { within = omega (arith, le, a); small = omega (arith, le, b) }
+    record { within = omega (arith, le, fits.within); small = omega (arith, le, fits.small) }
+
+-- where so much is left, so is less
+pub room_less : {D : Type 0} (disk : Ghosts D) (store : D) (few many : Room) → IsWithin few many
+    → HasRoom disk store many → HasRoom disk store few
+room_less disk store few many le fits = record {
+  room = fits.room;
+  is = fits.is;
+  files = less (disk.absent_writes store) few.files many.files fits.room.files le.files fits.files;
+  bytes = less (disk.asked_bytes store) few.bytes many.bytes fits.room.bytes le.bytes fits.bytes;
+  calls = less (disk.change_calls store) few.calls many.calls fits.room.calls le.calls fits.calls;
+  reads = fits.reads;
+  changes = fits.changes;
+}
 
 rest : (old now much first later room room_now : ℕ) → now ≤ old + much → much + later ≤ first → room ≤ room_now
     → Fits old first room → Fits now later room_now
 rest old now much first later room room_now le sum more fits =
-    let a = fits.within in let b = fits.small in
-    record { within = omega (arith, le, sum, more, a); small = omega (arith, le, sum, b) }
+    record { within = omega (arith, le, sum, more, fits.within); small = omega (arith, le, sum, fits.small) }
 
 -- so much more fits
 abbrev pub Takes : Room → Room → Room → Type 0
@@ -80,15 +90,8 @@ module _ {D : Type 0} (disk : Ghosts D) (old new : D) (step : Files → Files �
     (changed : Changed disk step much old new) (tells : IsTrue (disk.tells old)) (fits : HasRoom disk old first)
     (takes : Takes much later first) where
   within : HasRoom disk old much
-  within = let a = takes.0 in let b = takes.1 in let d = takes.2 in record {
-    room = fits.room;
-    is = fits.is;
-    files = less (disk.absent_writes old) much.files first.files fits.room.files (omega (arith, a)) fits.files;
-    bytes = less (disk.asked_bytes old) much.bytes first.bytes fits.room.bytes (omega (arith, b)) fits.bytes;
-    calls = less (disk.change_calls old) much.calls first.calls fits.room.calls (omega (arith, d)) fits.calls;
-    reads = fits.reads;
-    changes = fits.changes;
-  }
+  within = room_less disk old much first
+      (record { files = omega (arith, takes.0); bytes = omega (arith, takes.1); calls = omega (arith, takes.2) }) fits
 
   left_by : (now : Option Room) → disk.room new ≡ now → StaysRoom (Some fits.room) now → HasRoom disk new later
   left_by None is h = absurd h
@@ -122,34 +125,19 @@ pub asked_by : {D : Type 0} (disk : Ghosts D) (old new : D) (step : Files → Fi
     → Changed disk step much old new → IsTrue (disk.tells old) → IsWithin much most
     → HasAsked disk new (together (asked disk old) most)
 asked_by disk old new step much most changed tells le =
-    let files = changed.files tells in
-    let bytes = changed.bytes in
-    let calls = changed.calls in
-    let a = le.files in let b = le.bytes in let d = le.calls in
-    record { files = omega (arith, files, a); bytes = omega (arith, bytes, b); calls = omega (arith, calls, d) }
+    record {
+      files = omega (arith, changed.files tells, le.files);
+      bytes = omega (arith, changed.bytes, le.bytes);
+      calls = omega (arith, changed.calls, le.calls);
+    }
 
 pub asked_kept : {D : Type 0} (disk : Ghosts D) (old new : D) → Kept disk old new → HasAsked disk new (asked disk old)
 asked_kept disk old new kept =
-    let files = kept.same_absent in
-    let bytes = kept.same_bytes in
-    let calls = kept.same_calls in
-    record { files = omega (arith, files); bytes = omega (arith, bytes); calls = omega (arith, calls) }
-
--- ---- less room
-
--- where so much is left, so is less
-pub room_less : {D : Type 0} (disk : Ghosts D) (store : D) (few many : Room) → IsWithin few many → HasRoom disk store
-    many
-    → HasRoom disk store few
-room_less disk store few many le fits = let a = le.files in let b = le.bytes in let d = le.calls in record {
-  room = fits.room;
-  is = fits.is;
-  files = less (disk.absent_writes store) few.files many.files fits.room.files (omega (arith, a)) fits.files;
-  bytes = less (disk.asked_bytes store) few.bytes many.bytes fits.room.bytes (omega (arith, b)) fits.bytes;
-  calls = less (disk.change_calls store) few.calls many.calls fits.room.calls (omega (arith, d)) fits.calls;
-  reads = fits.reads;
-  changes = fits.changes;
-}
+    record {
+      files = omega (arith, kept.same_absent);
+      bytes = omega (arith, kept.same_bytes);
+      calls = omega (arith, kept.same_calls);
+    }
 
 -- reads alone leave it
 pub room_kept : {D : Type 0} (disk : Ghosts D) (old new : D) (more : Room) → Kept disk old new → HasRoom disk old more

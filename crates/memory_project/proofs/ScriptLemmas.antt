@@ -63,9 +63,11 @@ module _ {D : Type 0} (disk : Ghosts D) (first : Core D) (all : List Command) wh
     asked_so =
         let so = way.asked_so in
         let more = went.asked_more in
-        let a = so.files in let b = so.bytes in let d = so.calls in
-        let i = more.files in let j = more.bytes in let k = more.calls in
-        record { files = omega (arith, a, i); bytes = omega (arith, b, j); calls = omega (arith, d, k) };
+        record {
+          files = omega (arith, so.files, more.files);
+          bytes = omega (arith, so.bytes, more.bytes);
+          calls = omega (arith, so.calls, more.calls);
+        };
     ends = λ u run. way.ends u (studio_of disk new, went.reply, went.step, run);
   }
 
@@ -76,8 +78,7 @@ module _ {D : Type 0} (disk : Ghosts D) (first : Core D) (all : List Command) wh
     run = way.ends (studio_of disk s) refl;
     asked_more =
         let so = way.asked_so in
-        let a = so.files in let b = so.bytes in let d = so.calls in
-        record { files = omega (arith, a); bytes = omega (arith, b); calls = omega (arith, d) };
+        record { files = omega (arith, so.files); bytes = omega (arith, so.bytes); calls = omega (arith, so.calls) };
     room = room_less disk s.store no_room (room_for 0)
         (record { files = omega arith; bytes = omega arith; calls = omega arith }) way.may.room;
   }

@@ -56,11 +56,8 @@ same_columns a b e = ap columns_in e
 pub record IsLook (t : Studio) (c : Command) : Type 0 where
   pub names : name_in_line c ≡ None
   pub own : own_tests (outside t silent) t.state c ≡ None
-  pub tracks : tracks_needed (outside t silent) c ≡ 0
-  pub commits : commits_needed c ≡ 0
-  pub places : places_of (Line c) 0 ≡ 0
-  pub still : moves_of (Line c) ≡ 0
-  pub layouts : layouts_of (outside t silent) t.state (Line c) ≡ 0
+  pub none : (tracks_needed (outside t silent) c ≡ 0) × (commits_needed c ≡ 0) × (places_of (Line c) 0 ≡ 0)
+      × (moves_of (Line c) ≡ 0) × (layouts_of (outside t silent) t.state (Line c) ≡ 0)
   pub needs : (blocks len : ℕ) → Needs (outside t silent) t (Line c) blocks len → (blocks ≡ 0) × (len ≡ 0)
 
 module _ {D : Type 0} (disk : Ghosts D) (s : Core D) (may : MaySum disk s) where
@@ -71,18 +68,6 @@ module _ {D : Type 0} (disk : Ghosts D) (s : Core D) (may : MaySum disk s) where
     counters_pass : counter_tests (outside t silent) t (Line c) 0 0 ≡ None
     counters_pass =
         let all = may.studio.counters in
-        let blocks = all.block_most in
-        let tracks = all.track_most in
-        let commits = all.commit_most in
-        let pins = all.pin_most in
-        let end = all.end_most in
-        let later = may.studio.journal.generation_most in
-        let last = may.studio.layouts in
-        let tracks_none = look.tracks in
-        let commits_none = look.commits in
-        let places_none = look.places in
-        let still = no_generation (Line c) look.still in
-        let layouts_none = look.layouts in
         let a = no_room t.next_block 0 in
         let b = no_room t.state.next_track (tracks_of (outside t silent) (Line c)) in
         let d = no_room t.state.commit (commits_of (Line c)) in
@@ -91,15 +76,19 @@ module _ {D : Type 0} (disk : Ghosts D) (s : Core D) (may : MaySum disk s) where
         let g = no_room t.generation (generations_of (Line c)) in
         let h = no_room t.next_layout (layouts_of (outside t silent) t.state (Line c)) in
         both_pass a (b otherwise d otherwise e otherwise f otherwise g otherwise h)
-        (room_passes t.next_block 0 (omega arith))
+        (room_passes t.next_block 0 (omega (arith, all.block_most)))
         (both_pass b (d otherwise e otherwise f otherwise g otherwise h)
-        (room_passes t.state.next_track (tracks_of (outside t silent) (Line c)) (omega arith))
+        (room_passes t.state.next_track (tracks_of (outside t silent) (Line c))
+        (omega (arith, all.track_most, look.none.0)))
         (both_pass d (e otherwise f otherwise g otherwise h)
-        (room_passes t.state.commit (commits_of (Line c)) (omega arith))
-        (both_pass e (f otherwise g otherwise h) (room_passes t.state.next_pin 0 (omega arith))
-        (both_pass f (g otherwise h) (room_passes t.journal_end (places_of (Line c) 0) (omega arith))
-        (both_pass g h (room_passes t.generation (generations_of (Line c)) (omega arith))
-        (room_passes t.next_layout (layouts_of (outside t silent) t.state (Line c)) (omega arith)))))))
+        (room_passes t.state.commit (commits_of (Line c)) (omega (arith, all.commit_most, look.none.1)))
+        (both_pass e (f otherwise g otherwise h) (room_passes t.state.next_pin 0 (omega (arith, all.pin_most)))
+        (both_pass f (g otherwise h) (room_passes t.journal_end (places_of (Line c) 0)
+        (omega (arith, all.end_most, look.none.2)))
+        (both_pass g h (room_passes t.generation (generations_of (Line c))
+        (omega (arith, may.studio.journal.generation_most, no_generation (Line c) look.none.3)))
+        (room_passes t.next_layout (layouts_of (outside t silent) t.state (Line c))
+        (omega (arith, may.studio.layouts, all.end_most, look.none.4))))))))
 
     none_passes : refusal_of (outside t silent) t (Line c) 0 0 ≡ None
     none_passes =
@@ -123,7 +112,7 @@ module _ {D : Type 0} (disk : Ghosts D) (s : Core D) (may : MaySum disk s) where
         → Answers t (Line c) silent (Err why) (studio_of disk new) → why ≡ refusal.NoMemory
     look_wants new why reads changes valid answers =
         (no_answer t (studio_of disk new) c look.names
-        (λ bytes is. omega (arith, look.commits, ap commits_needed is))
+        (λ bytes is. omega (arith, look.none.1, ap commits_needed is))
         (fails_not t (studio_of disk new) c may.room.reads may.room.changes reads changes) why valid look_passes
         answers).0
 
@@ -131,11 +120,7 @@ module _ {D : Type 0} (disk : Ghosts D) (s : Core D) (may : MaySum disk s) where
   tracks_look = record {
     names = refl;
     own = refl;
-    tracks = refl;
-    commits = refl;
-    places = refl;
-    still = refl;
-    layouts = refl;
+    none = (refl, refl, refl, refl, refl);
     needs = λ blocks len needs. needs;
   }
 
@@ -163,11 +148,7 @@ module _ {D : Type 0} (disk : Ghosts D) (s : Core D) (may : MaySum disk s) where
     scan_look = record {
       names = refl;
       own = own_none;
-      tracks = refl;
-      commits = refl;
-      places = refl;
-      still = refl;
-      layouts = refl;
+      none = (refl, refl, refl, refl, refl);
       needs = λ blocks len needs. needs;
     }
 

@@ -1,8 +1,7 @@
 -- Numbers counted from one on, and what is made of each.
-use Rattle.std.proofs.Common.{◌≡◌, ℕ, zero, suc, ◌+◌, ◌-◌, ◌≤◌, min, List, ◌∷◌, ◌++◌, length, map, take, drop, sym, ap}
-use Rattle.std.proofs.Common.{◌∙◌, arith}
-use Rattle.std.proofs.{lemmas.List.take-map, lemmas.List.drop-map, lemmas.List.map-append, lemmas.Slice.take-put_mid}
-use Rattle.pcm_base.specs.Arithmetic.{counted_from}
+use Rattle.mix_reader.proofs.Common.{◌≡◌, ℕ, zero, suc, ◌+◌, ◌-◌, ◌≤◌, min, List, ◌∷◌, ◌++◌, length, map, take, drop}
+use Rattle.mix_reader.proofs.Common.{sym, ap, ◌∙◌, arith, map-append, counted_from}
+use Rattle.std.proofs.{lemmas.List.take-map, lemmas.List.drop-map, lemmas.Slice.take-put_mid}
 use borrow.Rule.Slice.PartMut.{put_mid}
 
 counted_append : (from n m : ℕ) → counted_from from (n + m) ≡ counted_from from n ++ counted_from (from + n) m

@@ -1,14 +1,10 @@
 -- Tracks that are heard, one after another.
-use Rattle.std.proofs.Common.{◌≡◌, ℕ, zero, suc, ◌≤◌, ◌+◌, ◌-◌, max, min, Bool, true, false, List, [], ◌∷◌, ◌++◌}
-use Rattle.std.proofs.Common.{length, drop, refl, sym, ap, subst, ◌∙◌, arith}
-use Rattle.std.specs.Prelude.{if◌then◌else◌}
-use Rattle.pcm_base.specs.{declared.sound.Cell.Cell, declared.sound.Side.Side, Pieces.Sources, Mix.unmuted}
-use Rattle.clip_track.specs.Clips.{end_of, layout_blocks, layout_cells}
-use Rattle.project_state.specs.{declared.track.Track.Track, Meaning.meant, Meaning.point_blocks}
-use Rattle.sample_block.specs.Sources.{AllNamed}
-use Rattle.cell_reader.proofs.SeenLaws.{named_front}
-use Rattle.mixdown.specs.Stretches.{gains_of, sides_of}
-use Rattle.mix_reader.specs.{Heard.heard_count, Heard.heard_gains, Heard.heard_sides, Tracks.mix_length_of}
+use Rattle.mix_reader.proofs.Common.{◌≡◌, ℕ, zero, suc, ◌≤◌, ◌+◌, ◌-◌, max, min, Bool, true, false, List, [], ◌∷◌, ◌++◌}
+use Rattle.mix_reader.proofs.Common.{length, drop, refl, sym, ap, subst, ◌∙◌, arith, if◌then◌else◌, Cell, Side, Sources}
+use Rattle.mix_reader.proofs.Common.{unmuted, layout_blocks, layout_cells, Track, meant, point_blocks, AllNamed}
+use Rattle.mix_reader.proofs.Common.{named_front, gains_of, sides_of, heard_count, heard_gains, heard_sides}
+use Rattle.mix_reader.proofs.Common.{mix_length_of}
+use Rattle.clip_track.specs.Clips.{end_of}
 use Rattle.mix_reader.proofs.TrackLaws.{named_drop}
 use Rattle.pcm_base.specs.Cells as cells
 

@@ -1,3 +1,4 @@
+mod Common
 pub mod CountLaws
 pub mod HeardLaws
 pub mod PageLaws

@@ -1,10 +1,8 @@
 -- The pages that tracks which are heard want are there still.
-use Rattle.std.proofs.Common.{◌≡◌, ℕ, zero, suc, ◌≤◌, false, List, [], ◌∷◌, drop, subst}
-use Rattle.project_state.specs.declared.track.Track.{Track}
-use Rattle.block_cache.specs.Caches.{Entries, SameCache}
+use Rattle.mix_reader.proofs.Common.{◌≡◌, ℕ, zero, suc, ◌≤◌, false, List, [], ◌∷◌, drop, subst, Track, Entries}
+use Rattle.mix_reader.proofs.Common.{SameCache, HasHeard, seen_part}
 use Rattle.cell_reader.specs.Kept.{HasSeen}
-use Rattle.mix_reader.specs.Heard.{HasHeard}
-use Rattle.cell_reader.proofs.KeptLaws.{seen_on, seen_part}
+use Rattle.cell_reader.proofs.KeptLaws.{seen_on}
 
 -- in a cache of the same entries
 pub heard_on : (a b : Entries) (from to : ℕ) (ts : List Track) → SameCache a b → HasHeard a from to ts

@@ -1,23 +1,20 @@
 -- Tracks of a point, one after another.
-use Rattle.std.proofs.Common.{◌≡◌, ℕ, zero, suc, ◌+◌, ◌≤◌, ◌<◌, Bool, true, false, List, [], ◌∷◌, ◌++◌, length, take}
-use Rattle.std.proofs.Common.{drop, max, cond, slice_get, length-append, Some, get_or, refl, sym, ap, ap₂, subst, ◌∙◌}
-use Rattle.std.proofs.Common.{arith}
+use Rattle.mix_reader.proofs.Common.{ℤ, ◌≡◌, ℕ, zero, suc, ◌+◌, ◌≤◌, ◌<◌, Bool, true, false, List, [], ◌∷◌, ◌++◌}
+use Rattle.mix_reader.proofs.Common.{length, take, drop, max, slice_get, Some, get_or, refl, sym, ap, subst, ◌∙◌, arith}
+use Rattle.mix_reader.proofs.Common.{length-take, if◌then◌else◌, Cell, Side, Sources, mix_length, mix_of, unmuted}
+use Rattle.mix_reader.proofs.Common.{Files, layout_cells, layout_blocks, Track, meant, meant_track, point_blocks}
+use Rattle.mix_reader.proofs.Common.{take_some, AllNamed, IsRestOf, stored_of, take_front, drop_front, IsStretch}
+use Rattle.mix_reader.proofs.Common.{AreStretches, gains_of, sides_of, heard_tracks, track_gains, track_sides}
+use Rattle.mix_reader.proofs.Common.{TrackPass, AreRestsOf}
+use Rattle.std.proofs.Common.{cond, length-append, ap₂}
 use Rattle.std.proofs.lemmas.List.Elements.{Contains-append_left, Contains-append_right, filter-append}
-use Rattle.std.proofs.lemmas.List.{append-nil, length-take}
-use Rattle.std.specs.Prelude.{Contains, not, if◌then◌else◌}
-use Rattle.pcm_base.specs.{declared.block.BlockRef.BlockRef, declared.sound.Cell.Cell, declared.sound.Side.Side}
-use Rattle.pcm_base.specs.{Pieces.Sources, Cells.longest, Mix.mix_length, Mix.mix_of, Mix.unmuted}
-use Rattle.disk_model.specs.Disk.{Files}
-use Rattle.clip_track.specs.Clips.{layout_cells, layout_blocks}
-use Rattle.project_state.specs.{declared.track.Track.Track, Meaning.meant, Meaning.meant_track, Meaning.point_blocks}
-use Rattle.project_state.proofs.Points.{take_some}
-use Rattle.sample_block.specs.Sources.{sources_of, AllNamed, AllWhole}
-use Rattle.cell_reader.specs.{Rests.IsRestOf, Stored.stored_of}
+use Rattle.std.proofs.lemmas.List.{append-nil}
+use Rattle.std.specs.Prelude.{Contains, not}
+use Rattle.pcm_base.specs.{declared.block.BlockRef.BlockRef, Cells.longest}
+use Rattle.sample_block.specs.Sources.{sources_of, AllWhole}
 use Rattle.cell_reader.proofs.SeenLaws.{whole_front, whole_back, named_back}
-use Rattle.cell_reader.proofs.{PartLists.take_front, PartLists.drop_front, RestLaws.rest_later, StoredLaws.stored_cells}
-use Rattle.mixdown.specs.Stretches.{IsStretch, AreStretches, gains_of, sides_of}
-use Rattle.mix_reader.specs.Tracks.{heard_tracks, stored_mix, track_gains, track_sides}
-use Rattle.mix_reader.specs.{declared.passes.TrackPass.TrackPass, Readers.AreRestsOf}
+use Rattle.cell_reader.proofs.{RestLaws.rest_later, StoredLaws.stored_cells}
+use Rattle.mix_reader.specs.Tracks.{stored_mix}
 use borrow.Rule.Slice.PartMut.{put_mid}
 use lib.ListN.{set}
 use Rattle.pcm_base.specs.Cells as cells
@@ -71,7 +68,7 @@ blocks_at k ts us t b e has = blocks_drop k ts b (subst (λ (vs : List Track). C
     (Contains-append_left (layout_blocks t.layout) (point_blocks us) b has))
 
 -- a stretch is put before those of the tracks after
-pub stretch_put : (from len a k : ℕ) (xs ys : List Cell) (t : cells.Track) (ts : cells.Project) → a ≤ length xs
+pub stretch_put : (from len a k : ℕ) (xs ys : List ℤ) (t : cells.Track) (ts : cells.Project) → a ≤ length xs
     → length ys ≡ len → k ≡ len → IsStretch from len t ys
     → AreStretches from len ts (drop len (drop a xs)) → AreStretches from len (t ∷ ts) (drop a (put_mid a k xs ys))
 stretch_put from len a k xs ys t ts fits size same is are =
@@ -81,8 +78,8 @@ stretch_put from len a k xs ys t ts fits size same is are =
     ap (take len) here ∙ take_front len ys (drop k (drop a xs)) size in
     let rest : drop len (drop a (put_mid a k xs ys)) ≡ drop len (drop a xs) =
     ap (drop len) here ∙ drop_front len ys (drop k (drop a xs)) size ∙ ap (λ n. drop n (drop a xs)) same in
-    let I : List Cell → Type 0 = λ zs. IsStretch from len t zs in
-    let A : List Cell → Type 0 = λ zs. AreStretches from len ts zs in
+    let I : List ℤ → Type 0 = λ zs. IsStretch from len t zs in
+    let A : List ℤ → Type 0 = λ zs. AreStretches from len ts zs in
     (subst I (sym first) is, subst A (sym rest) are)
 
 -- what the tracks mean

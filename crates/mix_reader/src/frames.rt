@@ -18,17 +18,21 @@ use super::stretches::mix_stretch;
 use block_cache::BlockReader;
 use block_store::BlockFault;
 use disk_model::Store;
-use pcm_base::{Cell, Frame};
+use pcm_base::Frame;
 use project_state::Point;
 
 /// How long a stretch of each track that is heard may be.
-fn stretch_room(cells: usize, tracks: usize) -> usize
-    requires fits { tracks ≤ cells }
-    requires some { 0 < cells }
+fn stretch_room(samples: usize, tracks: usize) -> usize
+    requires fits { tracks ≤ samples }
+    requires some { 0 < samples }
     ensures some { 0 < result }
-    ensures room { tracks * result ≤ cells }
+    ensures room { tracks * result ≤ samples }
 {
-    if tracks == 0 { cells } else { cells / tracks }
+    if tracks == 0 {
+        samples
+    } else {
+        samples / tracks
+    }
 }
 
 /// Mixes the next frames of a reader, a stretch of each track that is heard at a time, each as long as the buffer has
@@ -36,11 +40,11 @@ fn stretch_room(cells: usize, tracks: usize) -> usize
 pub(crate) fn mix_stretches<'a, S: Store>(
     reader: &mut BlockReader<S>,
     mix: &mut MixReader<'a>,
-    cells: &mut [Cell],
+    samples: &mut [i16],
     out: &mut [Frame],
 ) -> Result<(), BlockFault>
     requires reader { IsReader mix.old }
-    requires room { MAX_TRACKS ≤ length cells.old }
+    requires room { MAX_TRACKS ≤ length samples.old }
     requires few { mix.old.at + length out.old < 2 ^ 64 }
     ensures reader { IsReader mix.new }
     ensures reads { Reads (point_blocks mix.old.point.now) reader.old reader.new result }
@@ -54,12 +58,12 @@ pub(crate) fn mix_stretches<'a, S: Store>(
         (counted_from mix.old.at (length out.old))) }
 {
     let tracks = mix.heard.count;
-    let most = stretch_room(cells.len(), tracks);
+    let most = stretch_room(samples.len(), tracks);
     let mut done = 0;
     'stretches: while done < out.len() {
         let next = done + most.min(out.len() - done);
         let room = tracks * (next - done);
-        if let Err(fault) = mix_stretch(reader, mix, &mut cells[..room], &mut out[done..next]) {
+        if let Err(fault) = mix_stretch(reader, mix, &mut samples[..room], &mut out[done..next]) {
             return Err(fault);
         }
         done = next;
@@ -68,18 +72,18 @@ pub(crate) fn mix_stretches<'a, S: Store>(
 }
 
 /// Reads the frames of the mix of a point's tracks from a place on, as many as there are and as `out` has room for, and
-/// answers how many. A buffer is handed in, of at least one cell for each track that a project may have: the more cells
+/// answers how many. A buffer is handed in, of at least one sample for each track that a project may have: the more
 /// it has for a track that is heard, the longer are the stretches that are read of each of them. After an error `out`
 /// may have been written in part.
 pub fn read_frames<S: Store>(
     reader: &mut BlockReader<S>,
     point: &Point,
     from: u64,
-    cells: &mut [Cell],
+    samples: &mut [i16],
     out: &mut [Frame],
 ) -> Result<usize, BlockFault>
     requires named { AllNamed (point_blocks point.now) }
-    requires room { MAX_TRACKS ≤ length cells.old }
+    requires room { MAX_TRACKS ≤ length samples.old }
     requires few { from + length out.old < 2 ^ 64 }
     ensures reads { Reads (point_blocks point.now) reader.old reader.new result }
     ensures hit { Hits (HasHeard reader.old.cache from (from + length out.old) point.now) reader.old reader.new result }
@@ -96,5 +100,5 @@ pub fn read_frames<S: Store>(
         → IsOkUnless result fault.DiskFault }
 {
     let mut mix = MixReader::new(point, from);
-    mix.read(reader, cells, out)
+    mix.read(reader, samples, out)
 }

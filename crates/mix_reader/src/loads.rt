@@ -25,7 +25,7 @@ use block_store::BlockFault;
 use cell_reader::rest_at;
 use disk_model::Store;
 use mixdown::Loaded;
-use pcm_base::{Cell, NoMemory, Refusal, Side};
+use pcm_base::{NoMemory, Refusal, Side};
 use project_state::{Point, Track};
 
 /// Why tracks are not loaded.
@@ -33,7 +33,7 @@ use project_state::{Point, Track};
 pub enum LoadFault {
     /// The disk failed, or a block is damaged.
     Block { fault: BlockFault },
-    /// There is no memory for the cells.
+    /// There is no memory for the samples.
     NoMemory,
 }
 
@@ -64,12 +64,12 @@ impl From<LoadFault> for Refusal {
     }
 }
 
-/// Reads the cells of a track that is heard, from a place on, by a pass of its own.
+/// Reads what is heard of a track that is not muted, from a place on, by a pass of its own.
 fn read_once<S: Store>(
     reader: &mut BlockReader<S>,
     track: &Track,
     from: u64,
-    out: &mut [Cell],
+    out: &mut [i16],
 ) -> Result<(), BlockFault>
     requires heard { track.now.mute ≡ false }
     requires named { AllNamed (layout_blocks track.now.layout) }
@@ -92,51 +92,51 @@ fn read_before<S: Store>(
     from: u64,
     len: usize,
     end: usize,
-    cells: &mut [Cell],
+    samples: &mut [i16],
 ) -> Result<usize, BlockFault>
     requires named { AllNamed (layout_blocks track.now.layout) }
     requires room { (if track.now.mute then 0 else 1) * len ≤ end }
-    requires within { end ≤ length cells.old }
+    requires within { end ≤ length samples.old }
     requires few { from + len < 2 ^ 64 }
     ensures reads { Reads (layout_blocks track.now.layout) reader.old reader.new result }
     ensures hit { Hits (track.now.mute ≡ false → HasSeen reader.old.cache from (from + len) track.now.layout)
         reader.old reader.new result }
     ensures place { IfOk result (λ at. at + (if track.now.mute then 0 else 1) * len ≡ end) }
     ensures stored { IsTrue (S.tells reader.old.store) → (ts : Project)
-        → AreStretches from len (unmuted ts) (drop end cells.old)
+        → AreStretches from len (unmuted ts) (drop end samples.old)
         → IfOk result (λ at. AreStretches from len
-        (unmuted (meant_track (stored_of (S.reads reader.old.store)) track.now ∷ ts)) (drop at cells.new)) }
+        (unmuted (meant_track (stored_of (S.reads reader.old.store)) track.now ∷ ts)) (drop at samples.new)) }
 {
     if track.mute {
         return Ok(end);
     }
     let at = end - len;
-    read_once(reader, track, from, &mut cells[at..end])?;
+    read_once(reader, track, from, &mut samples[at..end])?;
     Ok(at)
 }
 
-/// Reads a stretch of `len` cells of each track that is heard from a place on, one after the other.
+/// Reads a stretch of `len` samples of each track that is heard from a place on, one after the other.
 fn read_heard<S: Store>(
     reader: &mut BlockReader<S>,
     point: &Point,
     from: u64,
     len: usize,
-    cells: &mut [Cell],
+    samples: &mut [i16],
 ) -> Result<(), BlockFault>
     requires named { AllNamed (point_blocks point.now) }
-    requires room { length cells.old ≡ heard_count point.now * len }
+    requires room { length samples.old ≡ heard_count point.now * len }
     requires few { from + len < 2 ^ 64 }
     ensures reads { Reads (point_blocks point.now) reader.old reader.new result }
     ensures hit { Hits (HasHeard reader.old.cache from (from + len) point.now) reader.old reader.new result }
     ensures stored { IsTrue (S.tells reader.old.store) → OnOk result
-        (AreStretches from len (unmuted (meant (stored_of (S.reads reader.old.store)) point.now)) cells.new) }
+        (AreStretches from len (unmuted (meant (stored_of (S.reads reader.old.store)) point.now)) samples.new) }
 {
-    let mut end = cells.len();
+    let mut end = samples.len();
     let mut i = point.len();
     'rows: while 0 < i {
         i -= 1;
         let track = point.track_at(i);
-        match read_before(reader, track, from, len, end, cells) {
+        match read_before(reader, track, from, len, end, samples) {
             Ok(at) => end = at,
             Err(fault) => return Err(fault),
         }
@@ -144,25 +144,25 @@ fn read_heard<S: Store>(
     Ok(())
 }
 
-/// The same into the first cells of a buffer.
+/// The same into the first samples of a buffer.
 fn read_front<S: Store>(
     reader: &mut BlockReader<S>,
     point: &Point,
     from: u64,
     len: usize,
     room: usize,
-    cells: &mut [Cell],
+    samples: &mut [i16],
 ) -> Result<(), BlockFault>
     requires named { AllNamed (point_blocks point.now) }
     requires room { room ≡ heard_count point.now * len }
-    requires within { room ≤ length cells.old }
+    requires within { room ≤ length samples.old }
     requires few { from + len < 2 ^ 64 }
     ensures reads { Reads (point_blocks point.now) reader.old reader.new result }
     ensures hit { Hits (HasHeard reader.old.cache from (from + len) point.now) reader.old reader.new result }
     ensures stored { IsTrue (S.tells reader.old.store) → OnOk result (AreStretches from len
-        (unmuted (meant (stored_of (S.reads reader.old.store)) point.now)) (take room cells.new)) }
+        (unmuted (meant (stored_of (S.reads reader.old.store)) point.now)) (take room samples.new)) }
 {
-    read_heard(reader, point, from, len, &mut cells[..room])
+    read_heard(reader, point, from, len, &mut samples[..room])
 }
 
 /// Puts the gain and the side of a track after others, unless it is muted.
@@ -191,17 +191,17 @@ fn list_heard(point: &Point, gains: &mut Vec<u32>, sides: &mut Vec<Side>) -> Res
     Ok(())
 }
 
-/// Gives at least this many cells, whatever is in them.
-fn make_room(cells: &mut Vec<Cell>, count: usize) -> Result<(), NoMemory>
-    ensures { OnOk result (count ≤ length cells.new.items) }
+/// Gives at least this many samples, whatever is in them.
+fn make_room(samples: &mut Vec<i16>, count: usize) -> Result<(), NoMemory>
+    ensures { OnOk result (count ≤ length samples.new.items) }
 {
-    if cells.len() < count {
-        cells.resize(count, Cell::Gap)?;
+    if samples.len() < count {
+        samples.resize(count, 0)?;
     }
     Ok(())
 }
 
-/// Lists the tracks that are heard, and gives each this many cells.
+/// Lists the tracks that are heard, and gives each this many samples.
 fn make_ready(point: &Point, count: usize, loaded: &mut Loaded) -> Result<(), NoMemory>
     requires { count ≤ MAX_LOADED }
     ensures loaded { OnOk result (IsLoaded loaded.new) }
@@ -211,12 +211,12 @@ fn make_ready(point: &Point, count: usize, loaded: &mut Loaded) -> Result<(), No
 {
     list_heard(point, &mut loaded.gains, &mut loaded.sides)?;
     let room = loaded.gains.len() * count;
-    make_room(&mut loaded.cells, room)?;
+    make_room(&mut loaded.samples, room)?;
     loaded.len = count;
     Ok(())
 }
 
-/// Reads the cells of the tracks that are listed, from a place on.
+/// Reads what is heard of the tracks that are listed, from a place on.
 fn fill<S: Store>(
     reader: &mut BlockReader<S>,
     point: &Point,
@@ -238,11 +238,18 @@ fn fill<S: Store>(
 {
     let room = loaded.gains.len() * loaded.len;
     let len = loaded.len;
-    read_front(reader, point, from, len, room, loaded.cells.as_mut_slice())
+    read_front(
+        reader,
+        point,
+        from,
+        len,
+        room,
+        loaded.samples.as_mut_slice(),
+    )
 }
 
-/// Loads the cells of the tracks that are heard, with their gains and sides, from a place on: as many frames as there
-/// are, up to `n`. It answers how many. All memory is asked for before the disk is. After an error what is loaded may
+/// Loads the samples of the tracks that are heard, with their gains and sides, from a place on: as many frames as there
+/// are, up to `n`. A gap is a sample of 0. It answers how many. All memory is asked for before the disk is. After an error what is loaded may
 /// have been replaced in part.
 pub fn load_stretch<S: Store>(
     reader: &mut BlockReader<S>,

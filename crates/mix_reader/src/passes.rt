@@ -14,7 +14,7 @@ use block_cache::BlockReader;
 use block_store::BlockFault;
 use cell_reader::{TrackRest, no_rest, pass, read_ahead, rest_at};
 use disk_model::Store;
-use pcm_base::{Cell, MAX_TRACKS};
+use pcm_base::MAX_TRACKS;
 use project_state::{Point, Track};
 
 /// What is left of a track.
@@ -39,13 +39,13 @@ pub(crate) fn passes_from<'a>(point: &'a Point, from: u64) -> [TrackPass<'a>; MA
     out
 }
 
-/// Reads the cells of a track that is heard, from a place on.
+/// Reads what is heard of a track that is not muted, from a place on.
 pub(crate) fn read_track<'a, S: Store>(
     reader: &mut BlockReader<S>,
     left: &mut TrackPass<'a>,
     track: &Track,
     from: u64,
-    out: &mut [Cell],
+    out: &mut [i16],
 ) -> Result<(), BlockFault>
     requires heard { track.now.mute ≡ false }
     requires rest { IsRestOf from track.now.layout left.old.rest }

@@ -15,7 +15,7 @@ use super::tracks::{Heard, heard_of, mix_len};
 use block_cache::BlockReader;
 use block_store::BlockFault;
 use disk_model::Store;
-use pcm_base::{Cell, Frame, MAX_TRACKS};
+use pcm_base::{Frame, MAX_TRACKS};
 use project_state::Point;
 
 /// A pass over the mix of a project's tracks, from a place on. It lasts over several reads, each of which goes on where
@@ -49,17 +49,17 @@ impl<'a> MixReader<'a> {
     }
 
     /// Reads the next frames of the mix, as many as are left and as `out` has room for, and answers how many. A buffer
-    /// is handed in, of at least one cell for each track that a project may have: the more cells it has for a track
+    /// is handed in, of at least one sample for each track that a project may have: the more it has for a track
     /// that is heard, the longer are the stretches that are read of each of them. After an error `out` may have been
     /// written in part, and the reader may have gone on over a part of the frames.
     pub fn read<S: Store>(
         &mut self,
         reader: &mut BlockReader<S>,
-        cells: &mut [Cell],
+        samples: &mut [i16],
         out: &mut [Frame],
     ) -> Result<usize, BlockFault>
         requires reader { IsReader self.old }
-        requires room { MAX_TRACKS ≤ length cells.old }
+        requires room { MAX_TRACKS ≤ length samples.old }
         requires few { self.old.at + length out.old < 2 ^ 64 }
         ensures count { IfOk result (λ n. n ≡ min (length out.old) (mix_length_of self.old.point.now - self.old.at)) }
         ensures place { IfOk result (λ n. self.new.at ≡ self.old.at + n) }
@@ -70,8 +70,9 @@ impl<'a> MixReader<'a> {
         ensures reads { Reads (point_blocks self.old.point.now) reader.old reader.new result }
         // Where the cache has all pages of the tracks that are heard it is Ok, whatever the store would answer, and
         // asks it nothing.
-        ensures hit { Hits (HasHeard reader.old.cache self.old.at (self.old.at + length out.old) self.old.point.now)
-            reader.old reader.new result }
+        ensures hit { Hits (HasHeard reader.old.cache self.old.at
+            (self.old.at + min (length out.old) (mix_length_of self.old.point.now - self.old.at))
+            self.old.point.now) reader.old reader.new result }
         // They are the mix of what stands in the files of the blocks, and where the disk has all blocks that of the
         // model.
         ensures stored { IsTrue (S.tells reader.old.store) → IfOk result (λ n. take n out.new
@@ -88,7 +89,7 @@ impl<'a> MixReader<'a> {
     {
         let left = mix_len(self.point).saturating_sub(self.at);
         let count = (out.len() as u64).min(left) as usize;
-        mix_stretches(reader, self, cells, &mut out[..count])?;
+        mix_stretches(reader, self, samples, &mut out[..count])?;
         Ok(count)
     }
 }

@@ -17,30 +17,30 @@ use block_cache::BlockReader;
 use block_store::BlockFault;
 use disk_model::Store;
 use mixdown::mix_into;
-use pcm_base::{Cell, Frame};
+use pcm_base::Frame;
 use project_state::Point;
 
-/// Reads a stretch of `len` cells of each track that is heard, from a place on, one after the other.
+/// Reads a stretch of `len` samples of each track that is heard, from a place on, one after the other.
 fn read_stretches<'a, S: Store>(
     reader: &mut BlockReader<S>,
     point: &Point,
     passes: &mut [TrackPass<'a>],
     from: u64,
     len: usize,
-    cells: &mut [Cell],
+    samples: &mut [i16],
 ) -> Result<(), BlockFault>
     requires rests { AreRestsOf from point.now passes.old }
     requires tracks { length point.now ≤ length passes.old }
-    requires room { length cells.old ≡ length (heard_tracks point.now) * len }
+    requires room { length samples.old ≡ length (heard_tracks point.now) * len }
     requires few { from + len < 2 ^ 64 }
     ensures rests { AreRestsOf from point.now passes.new }
     ensures reads { Reads (point_blocks point.now) reader.old reader.new result }
     ensures hit { Hits (HasHeard reader.old.cache from (from + len) point.now) reader.old reader.new result }
     ensures stored { IsTrue (S.tells reader.old.store) → OnOk result (AreStretches from len
-        (unmuted (meant (stored_of (S.reads reader.old.store)) point.now)) cells.new) }
+        (unmuted (meant (stored_of (S.reads reader.old.store)) point.now)) samples.new) }
 {
     let mut i = point.len();
-    let mut at = cells.len();
+    let mut at = samples.len();
     'rows: while 0 < i {
         i -= 1;
         let track = point.track_at(i);
@@ -53,7 +53,7 @@ fn read_stretches<'a, S: Store>(
             &mut passes[i],
             track,
             from,
-            &mut cells[at..at + len],
+            &mut samples[at..at + len],
         ) {
             return Err(fault);
         }
@@ -62,16 +62,16 @@ fn read_stretches<'a, S: Store>(
 }
 
 /// Mixes stretches of a reader's tracks, under their gains and on their sides.
-fn mix_cells(mix: &MixReader<'_>, cells: &[Cell], out: &mut [Frame])
+fn mix_samples(mix: &MixReader<'_>, samples: &[i16], out: &mut [Frame])
     requires heard { AreHeard mix.now.point.now mix.now.heard }
-    requires room { length cells.now ≡ length (heard_tracks mix.now.point.now) * length out.old }
+    requires room { length samples.now ≡ length (heard_tracks mix.now.point.now) * length out.old }
     ensures { (src : Sources) (from : ℕ)
-        → AreStretches from (length out.old) (unmuted (meant src mix.now.point.now)) cells.now
+        → AreStretches from (length out.old) (unmuted (meant src mix.now.point.now)) samples.now
         → out.new ≡ map (frame_at (meant src mix.now.point.now)) (counted_from from (length out.old)) }
 {
     let heard = &mix.heard;
     mix_into(
-        cells,
+        samples,
         &heard.gains[..heard.count],
         &heard.sides[..heard.count],
         out,
@@ -82,11 +82,11 @@ fn mix_cells(mix: &MixReader<'_>, cells: &[Cell], out: &mut [Frame])
 pub(crate) fn mix_stretch<'a, S: Store>(
     reader: &mut BlockReader<S>,
     mix: &mut MixReader<'a>,
-    cells: &mut [Cell],
+    samples: &mut [i16],
     out: &mut [Frame],
 ) -> Result<(), BlockFault>
     requires reader { IsReader mix.old }
-    requires room { length cells.old ≡ length (heard_tracks mix.old.point.now) * length out.old }
+    requires room { length samples.old ≡ length (heard_tracks mix.old.point.now) * length out.old }
     requires few { mix.old.at + length out.old < 2 ^ 64 }
     ensures reader { IsReader mix.new }
     ensures reads { Reads (point_blocks mix.old.point.now) reader.old reader.new result }
@@ -100,8 +100,8 @@ pub(crate) fn mix_stretch<'a, S: Store>(
         (counted_from mix.old.at (length out.old))) }
 {
     let at = mix.at;
-    read_stretches(reader, mix.point, &mut mix.passes, at, out.len(), cells)?;
-    mix_cells(mix, cells, out);
+    read_stretches(reader, mix.point, &mut mix.passes, at, out.len(), samples)?;
+    mix_samples(mix, samples, out);
     mix.at = at + out.len() as u64;
     Ok(())
 }

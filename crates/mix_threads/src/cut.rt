@@ -6,7 +6,7 @@ ghost use Rattle.pcm_base.specs.Mix.{frame_at};
 ghost use Rattle.mixdown.specs.Laid.{laid};
 
 use mixdown::mix_part;
-use pcm_base::{Cell, Frame, Side};
+use pcm_base::{Frame, Side};
 use rayon::prelude::*;
 use std::thread::Threads;
 
@@ -14,7 +14,7 @@ use std::thread::Threads;
 /// threads for each processor and 64 in all. The mix is the same for every size. A mix of one part starts no thread.
 pub fn mix_cut(
     rt: &(impl Threads + Sync),
-    stretches: &[Cell],
+    stretches: &[i16],
     gains: &[u32],
     sides: &[Side],
     size: usize,

@@ -12,18 +12,18 @@ use rayon::current_num_threads;
 use std::alloc::Global;
 use std::thread::Threads;
 
-/// How many cells a part has at least, or about as many, so that the start of a thread is small beside it.
-const PART_CELLS: usize = 524_288;
+/// How many samples a part has at least, or about as many, so that the start of a thread is small beside it.
+const PART_SAMPLES: usize = 524_288;
 
-/// How many frames a part has: so many that it has enough cells, and that no processor has two parts.
-fn part_len(rt: &impl Threads, cells: usize, frames: usize) -> usize
+/// How many frames a part has: so many that it has enough samples, and that no processor has two parts.
+fn part_len(rt: &impl Threads, samples: usize, frames: usize) -> usize
     ensures { 0 < result }
 {
-    let parts = (cells / PART_CELLS).min(current_num_threads(rt)).max(1);
+    let parts = (samples / PART_SAMPLES).min(current_num_threads(rt)).max(1);
     frames.div_ceil(parts).max(1)
 }
 
-/// The mix of a loaded stretch, written to as many frames as it has. A stretch of few cells is mixed in one part and
+/// The mix of a loaded stretch, written to as many frames as it has. A stretch of few samples is mixed in one part and
 /// starts no thread. Any other is cut into at most one part for each processor. It takes no memory but what a thread
 /// takes.
 pub fn mix_loaded(rt: &(impl Threads + Sync), loaded: &Loaded, out: &mut [Frame])
@@ -44,11 +44,11 @@ fn mix_tracks(rt: &(impl Threads + Sync), loaded: &Loaded, out: &mut [Frame])
     ensures { out.new ≡ map (frame_at (loaded_tracks loaded.now)) (counted_from 0 loaded.now.len) }
 {
     let count = loaded.gains.len() * loaded.len;
-    let cells = &loaded.cells.as_slice()[..count];
+    let samples = &loaded.samples.as_slice()[..count];
     let size = part_len(rt, count, loaded.len);
     mix_cut(
         rt,
-        cells,
+        samples,
         loaded.gains.as_slice(),
         loaded.sides.as_slice(),
         size,

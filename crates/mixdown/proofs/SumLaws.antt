@@ -1,8 +1,7 @@
 -- A sum more of a list is written.
-use Rattle.std.proofs.Common.{◌≡◌, ◌≤◌, ◌<◌, ◌+◌, ◌^◌, ℕ, ℤ, pos, List, length, ap, ◌∙◌, arith}
+use Rattle.mixdown.proofs.Common.{◌≡◌, ◌≤◌, ◌<◌, ◌+◌, ◌^◌, ℕ, ℤ, pos, List, length, ap, ◌∙◌, arith, ◌+ℤ◌, nat_abs}
+use Rattle.mixdown.proofs.Common.{sum_in}
 use Rattle.std.proofs.lemmas.List.{get_or-set_same, get_or-set_other}
-use Rattle.std.specs.Prelude.{◌+ℤ◌, nat_abs}
-use Rattle.mixdown.specs.Sums.{sum_in}
 use borrow.Author.Count.{below_more}
 use lib.ListN.{set}
 

@@ -7,7 +7,7 @@ ghost use Rattle.mixdown.specs.Laid.{laid};
 
 use super::sums::limited_wide;
 use super::weights::weigh;
-use pcm_base::{Cell, Frame, Side};
+use pcm_base::{Frame, Side};
 
 /// A sum with what is heard on the left added to it.
 fn add_left(sum: i64, side: Side, weight: i64) -> i64
@@ -35,8 +35,8 @@ fn add_right(sum: i64, side: Side, weight: i64) -> i64
     }
 }
 
-/// The frame at a place of stretches of `len` cells each.
-fn mix_frame(stretches: &[Cell], gains: &[u32], sides: &[Side], len: usize, at: usize) -> Frame
+/// The frame at a place of stretches of `len` samples each.
+fn mix_frame(stretches: &[i16], gains: &[u32], sides: &[Side], len: usize, at: usize) -> Frame
     requires few { length gains.now ≤ MAX_TRACKS }
     requires sides { length sides.now ≡ length gains.now }
     requires stretches { length stretches.now ≡ length gains.now * len }
@@ -55,7 +55,7 @@ fn mix_frame(stretches: &[Cell], gains: &[u32], sides: &[Side], len: usize, at: 
 
 /// The frames of a part of a mix, frame by frame: slower than in pieces, and its sums have room for any gain.
 pub(crate) fn mix_frames(
-    stretches: &[Cell],
+    stretches: &[i16],
     gains: &[u32],
     sides: &[Side],
     len: usize,

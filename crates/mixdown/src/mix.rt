@@ -12,12 +12,12 @@ ghost use Rattle.mixdown.specs.Stretches.{AreStretches, gains_of, sides_of};
 use super::loud::mix_frames;
 use super::sums::{PIECE, Sums};
 use super::weights::are_usual;
-use pcm_base::{Cell, Frame, Side};
+use pcm_base::{Frame, Side};
 
-/// The frames from place `at` on, so few that their sums stand on the stack, of stretches of `len` cells each, under
+/// The frames from place `at` on, so few that their sums stand on the stack, of stretches of `len` samples each, under
 /// gains that a track may have.
 fn mix_piece(
-    stretches: &[Cell],
+    stretches: &[i16],
     gains: &[u32],
     sides: &[Side],
     len: usize,
@@ -43,12 +43,12 @@ fn mix_piece(
 
 /// The mix of stretches of at most 64 tracks that are heard: one for each gain and side, one after the other, each as
 /// long as the frames. A gain of 65,536 is unity. Each side of a frame is the sum of the scaled samples at its place,
-/// limited once; a gap adds nothing. It takes no memory, and goes over each stretch once.
+/// limited once; a gap is a sample of 0. It takes no memory, and goes over each stretch once.
 ///
 /// Where the stretches are those of a project's tracks from a place on, in the project's order, continued by gaps
 /// after a track's end, the frames are the project's from that place on. Muted tracks may be left out, or stand as
 /// stretches of gaps.
-pub fn mix_into(stretches: &[Cell], gains: &[u32], sides: &[Side], out: &mut [Frame])
+pub fn mix_into(stretches: &[i16], gains: &[u32], sides: &[Side], out: &mut [Frame])
     requires few { length gains.now ≤ MAX_TRACKS }
     requires sides { length sides.now ≡ length gains.now }
     requires stretches { length stretches.now ≡ length gains.now * length out.old }
@@ -66,10 +66,10 @@ pub fn mix_into(stretches: &[Cell], gains: &[u32], sides: &[Side], out: &mut [Fr
     mix_part(stretches, gains, sides, out.len(), 0, out);
 }
 
-/// The frames of a part of such a mix: from place `at` on, as many as `out` has room for, of stretches of `len` cells
+/// The frames of a part of such a mix: from place `at` on, as many as `out` has room for, of stretches of `len` samples
 /// each. So a mix may be made in parts, one after the other or at the same time. It is the same however it is cut.
 pub fn mix_part(
-    stretches: &[Cell],
+    stretches: &[i16],
     gains: &[u32],
     sides: &[Side],
     len: usize,
@@ -92,7 +92,7 @@ pub fn mix_part(
 
 /// The frames of a part, piece by piece, under gains that a track may have.
 fn mix_pieces(
-    stretches: &[Cell],
+    stretches: &[i16],
     gains: &[u32],
     sides: &[Side],
     len: usize,

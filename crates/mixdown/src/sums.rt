@@ -4,13 +4,14 @@ ghost use Rattle.std.specs.List.{range_with_len};
 ghost use Rattle.pcm_base.specs.Mix.{is_on_left, is_on_right};
 ghost use Rattle.mixdown.specs.Sums.{AreWithin, Grows, IsHeard, limited as limited_of, frame_in};
 
-use super::weights::{add, add_cells};
-use pcm_base::{Cell, Frame, MAX_GAIN, Side, clamped};
+use super::weights::{add, add_samples};
+use pcm_base::{Frame, MAX_GAIN, Side, clamped};
 
 /// How many frames are summed at a time.
 pub(crate) const PIECE: usize = 1024;
 
-/// What is heard of a piece, before it is limited, under gains that a track may have. Each track is in one of the three, by the sides where it is heard.
+/// What is heard of a piece, before it is limited, under gains that a track may have. Each track is in one of the
+/// three, by the sides where it is heard.
 #[derive(Debug, Drop)]
 pub(crate) struct Sums {
     both: [i32; PIECE],
@@ -33,28 +34,28 @@ impl Sums {
     }
 
     /// Adds the piece of one track.
-    pub(crate) fn add(&mut self, side: Side, gain: u32, cells: &[Cell])
+    pub(crate) fn add(&mut self, side: Side, gain: u32, samples: &[i16])
         requires usual { gain ≤ MAX_GAIN }
-        requires few { length cells.now ≤ PIECE }
-        requires both { AreWithin (2 ^ 26) (length cells.now) self.old.both }
-        requires left { AreWithin (2 ^ 26) (length cells.now) self.old.left }
-        requires right { AreWithin (2 ^ 26) (length cells.now) self.old.right }
-        ensures left { IsHeard (is_on_left side) gain cells.now (self.old.both, self.old.left) (
+        requires few { length samples.now ≤ PIECE }
+        requires both { AreWithin (2 ^ 26) (length samples.now) self.old.both }
+        requires left { AreWithin (2 ^ 26) (length samples.now) self.old.left }
+        requires right { AreWithin (2 ^ 26) (length samples.now) self.old.right }
+        ensures left { IsHeard (is_on_left side) gain samples.now (self.old.both, self.old.left) (
           self.new.both,
           self.new.left,
         ) }
-        ensures right { IsHeard (is_on_right side) gain cells.now (self.old.both, self.old.right) (
+        ensures right { IsHeard (is_on_right side) gain samples.now (self.old.both, self.old.right) (
           self.new.both,
           self.new.right,
         ) }
-        ensures both_bound { Grows (length cells.now) self.old.both self.new.both }
-        ensures left_bound { Grows (length cells.now) self.old.left self.new.left }
-        ensures right_bound { Grows (length cells.now) self.old.right self.new.right }
+        ensures both_bound { Grows (length samples.now) self.old.both self.new.both }
+        ensures left_bound { Grows (length samples.now) self.old.left self.new.left }
+        ensures right_bound { Grows (length samples.now) self.old.right self.new.right }
     {
         match side {
-            Side::Both => add_cells(gain, cells, &mut self.both),
-            Side::Left => add_cells(gain, cells, &mut self.left),
-            Side::Right => add_cells(gain, cells, &mut self.right),
+            Side::Both => add_samples(gain, samples, &mut self.both),
+            Side::Left => add_samples(gain, samples, &mut self.left),
+            Side::Right => add_samples(gain, samples, &mut self.right),
         }
     }
 

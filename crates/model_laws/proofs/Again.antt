@@ -4,11 +4,10 @@ use Rattle.std.proofs.Common.{length, map, take, drop, arith}
 use Rattle.std.proofs.lemmas.Bool.{eqb-true, eq-eqb, ne_eqb}
 use Rattle.std.proofs.lemmas.List.{drop-append-le, length-drop, length_push}
 use Rattle.std.specs.Prelude.{if◌then◌else◌, slice_index, ◌&&◌, not}
-use Rattle.pcm_base.specs.Cells.{Project, cells_at, cells_of_first, each_edited, edited_at, run_edited, tracks_from}
-use Rattle.pcm_base.specs.Cells.{with_cells}
+use Rattle.pcm_base.specs.Cells.{Project, cells_at, cells_of_first, each_edited, edited_at, tracks_from}
 use Rattle.pcm_base.specs.History.{History, amended, edited, ending_with, is_of_recording, kept, recorded, tag_of}
-use Rattle.pcm_base.specs.History.{tags_of}
-use Rattle.pcm_base.specs.{declared.sound.Cell.Cell, Refusals.is_empty, State.first_point}
+use Rattle.pcm_base.specs.declared.sound.Cell.{Cell}
+use Rattle.pcm_base.specs.{Cells.with_cells, History.tags_of, Refusals.is_empty, State.first_point}
 
 same_number : (n : ℕ) → (n == n) ≡ true
 same_number n = eq-eqb n n refl
@@ -140,15 +139,10 @@ pub edited_twice : (id : ℕ) (f g : List Cell → List Cell) (p : Project)
 edited_twice id f g [] = refl
 edited_twice id f g (t ∷ ts) = by (t.id == id) refl (edited_twice id f g ts)
   where
-    by : (b : Bool) → (t.id == id) ≡ b
-        → edited_at id g (edited_at id f ts) ≡ edited_at id (λ cells. g (f cells)) ts
-        → run_edited id (g ∷ []) (if b then with_cells f t ∷ ts else t ∷ edited_at id f ts)
-        ≡ (if b then with_cells (λ cells. g (f cells)) t ∷ ts else t ∷ edited_at id (λ cells. g (f cells)) ts)
-    by true e more = ap (λ (b : Bool).
-        if b then with_cells g (with_cells f t) ∷ ts else with_cells f t ∷ edited_at id g ts) e
-    by false e more =
-        ap (λ (b : Bool). if b then with_cells g t ∷ edited_at id f ts else t ∷ edited_at id g (edited_at id f ts)) e
-        ∙ ap (λ (l : Project). t ∷ l) more
+    by : (b : Bool) → (t.id == id) ≡ b → edited_at id g (edited_at id f ts) ≡ edited_at id (λ cells. g (f cells)) ts
+        → edited_at id g (edited_at id f (t ∷ ts)) ≡ edited_at id (λ cells. g (f cells)) (t ∷ ts)
+    by true e more = rw e (rw e refl)
+    by false e more = rw e (rw e (ap (λ (l : Project). t ∷ l) more))
 
 -- the tracks from the edited one on
 from_edited : (id : ℕ) (f : List Cell → List Cell) (p : Project)
@@ -156,13 +150,10 @@ from_edited : (id : ℕ) (f : List Cell → List Cell) (p : Project)
 from_edited id f [] = refl
 from_edited id f (t ∷ ts) = by (t.id == id) refl (from_edited id f ts)
   where
-    by : (b : Bool) → (t.id == id) ≡ b
-        → tracks_from id (edited_at id f ts) ≡ each_edited (f ∷ []) (tracks_from id ts)
-        → tracks_from id (if b then with_cells f t ∷ ts else t ∷ edited_at id f ts)
-        ≡ each_edited (f ∷ []) (if b then t ∷ ts else tracks_from id ts)
-    by true e more = ap (λ (b : Bool). if b then with_cells f t ∷ ts else tracks_from id ts) e
-    by false e more = ap (λ (b : Bool). if b then t ∷ edited_at id f ts else tracks_from id (edited_at id f ts)) e
-        ∙ more
+    by : (b : Bool) → (t.id == id) ≡ b → tracks_from id (edited_at id f ts) ≡ each_edited (f ∷ []) (tracks_from id ts)
+        → tracks_from id (edited_at id f (t ∷ ts)) ≡ each_edited (f ∷ []) (tracks_from id (t ∷ ts))
+    by true e more = rw e (rw e refl)
+    by false e more = rw e (rw e more)
 
 first_edited : (f : List Cell → List Cell) (ts : Project) → is_empty ts ≡ false
     → cells_of_first (each_edited (f ∷ []) ts) ≡ f (cells_of_first ts)

@@ -1,9 +1,7 @@
 -- What an answer makes of the studio: another journal where it was packed, fewer points where the oldest go, and else
 -- the same.
 use Rattle.std.proofs.Common.{◌≡◌, ◌∙◌, refl, ap, ℕ, ◌+◌, ◌^◌, ◌≤◌, ◌<◌, arith}
-use Rattle.pcm_base.specs.Shape.{Shape, NewTrack, DropTrack, SetTrack, PutIn, EditRange, CutRun, CopyRun, PasteRun}
-use Rattle.pcm_base.specs.Shape.{MoveTo, Purge, PurgeTo, Look, Reclaim, Compact, Import, Export, Bounce, View, Cells}
-use Rattle.pcm_base.specs.Shape.{Frames, Columns, Tracks, shape_of}
+use Rattle.pcm_base.specs.Shape.{Shape, PurgeTo, Look, Reclaim, Compact, Bounce, View, Tracks, shape_of}
 use Rattle.pcm_base.specs.{declared.answer.Reply.Reply, declared.command.Call.Call, declared.entry.SoundMove.SoundMove}
 use Rattle.pcm_base.specs.{declared.limits.TheConstants.COUNTER_LIMIT, declared.limits.TheConstants.FIRST_RECORD}
 use Rattle.pcm_base.specs.{Counters.generations_by, Counters.generations_of, Outside.Outside, Run.CarriesOut}
@@ -16,37 +14,15 @@ use Rattle.pcm_base.specs.declared.command.Call.TheVariants as call
 
 -- the commit number stays
 pub answered_commit : (r : Reply) (t : Studio) → (answered r t).state.commit ≡ t.state.commit
-answered_commit reply.Done t = refl
-answered_commit reply.Copied t = refl
-answered_commit (reply.Cells cells) t = refl
-answered_commit (reply.Frames frames) t = refl
-answered_commit (reply.Columns columns) t = refl
-answered_commit (reply.Tracks tracks) t = refl
-answered_commit (reply.Freed count) t = refl
 answered_commit (reply.Packed bytes) t = refl
 answered_commit (reply.Purged n) t = refl
-answered_commit (reply.Wrote bytes) t = refl
-answered_commit (reply.Pinned pin) t = refl
-answered_commit (reply.Length frames) t = refl
-answered_commit (reply.Loaded tracks) t = refl
-answered_commit (reply.Refused why) t = refl
+answered_commit _ t = refl
 
 -- what the answer says of the history
 pub answered_replied : (r : Reply) (t : Studio) → (answered r t).state ≡ told_state r t.state
-answered_replied reply.Done t = refl
-answered_replied reply.Copied t = refl
-answered_replied (reply.Cells cells) t = refl
-answered_replied (reply.Frames frames) t = refl
-answered_replied (reply.Columns columns) t = refl
-answered_replied (reply.Tracks tracks) t = refl
-answered_replied (reply.Freed count) t = refl
 answered_replied (reply.Packed bytes) t = refl
 answered_replied (reply.Purged n) t = refl
-answered_replied (reply.Wrote bytes) t = refl
-answered_replied (reply.Pinned pin) t = refl
-answered_replied (reply.Length frames) t = refl
-answered_replied (reply.Loaded tracks) t = refl
-answered_replied (reply.Refused why) t = refl
+answered_replied _ t = refl
 
 -- and all but the history and the journal
 pub answered_is : (r : Reply) (t : Studio) → answered r t ≡ record t {
@@ -56,20 +32,9 @@ pub answered_is : (r : Reply) (t : Studio) → answered r t ≡ record t {
   generation = (answered r t).generation;
   journal_end = (answered r t).journal_end;
 }
-answered_is reply.Done t = refl
-answered_is reply.Copied t = refl
-answered_is (reply.Cells cells) t = refl
-answered_is (reply.Frames frames) t = refl
-answered_is (reply.Columns columns) t = refl
-answered_is (reply.Tracks tracks) t = refl
-answered_is (reply.Freed count) t = refl
 answered_is (reply.Packed bytes) t = refl
 answered_is (reply.Purged n) t = refl
-answered_is (reply.Wrote bytes) t = refl
-answered_is (reply.Pinned pin) t = refl
-answered_is (reply.Length frames) t = refl
-answered_is (reply.Loaded tracks) t = refl
-answered_is (reply.Refused why) t = refl
+answered_is _ t = refl
 
 -- so a call that is carried out leaves what it leads to, but for the history and the journal
 pub carried_is : (t u : Studio) (c : Call) (sound : SoundMove) (r : Reply) (h : CarriesOut t c sound r u) →
@@ -121,16 +86,12 @@ record Packs (moves generations bytes : ℕ) : Type 0 where
 
 -- what is seen is no journal, and no number of points that go
 not_seen : (s : State) (view : View) (bytes : ℕ) → reply.Packed bytes ≡ seen s view → ⊥
-not_seen s (Cells id from to) bytes e = cc e
-not_seen s (Frames from to) bytes e = cc e
-not_seen s (Columns id from to columns) bytes e = cc e
 not_seen s Tracks bytes e = cc e
+not_seen s _ bytes e = cc e
 
 not_purged : (s : State) (view : View) (n : ℕ) → reply.Purged n ≡ seen s view → ⊥
-not_purged s (Cells id from to) n e = cc e
-not_purged s (Frames from to) n e = cc e
-not_purged s (Columns id from to columns) n e = cc e
 not_purged s Tracks n e = cc e
+not_purged s _ n e = cc e
 
 same_count : (n k : ℕ) → reply.Purged n ≡ reply.Purged k → k ≡ n
 same_count n k e = cc e
@@ -140,35 +101,22 @@ same_bytes n k e = cc e
 
 packs_by : (out : Outside) (s : State) (shape : Shape) (bytes : ℕ) → MayReplyBy out s shape (reply.Packed bytes) →
     Packs (moves_by shape) (generations_by shape) bytes
-packs_by out s NewTrack bytes e = let no : ⊥ = cc e in absurd no
-packs_by out s (DropTrack id) bytes e = let no : ⊥ = cc e in absurd no
-packs_by out s (SetTrack id setting) bytes e = let no : ⊥ = cc e in absurd no
-packs_by out s (PutIn id at source) bytes e = let no : ⊥ = cc e in absurd no
-packs_by out s (EditRange id from to edit) bytes e = let no : ⊥ = cc e in absurd no
-packs_by out s (CutRun id n from to removing) bytes e = let no : ⊥ = cc e in absurd no
-packs_by out s (CopyRun id n from to) bytes e = let no : ⊥ = cc e in absurd no
-packs_by out s (PasteRun id at placing) bytes e = let no : ⊥ = cc e in absurd no
-packs_by out s (MoveTo move) bytes e = let no : ⊥ = cc e in absurd no
-packs_by out s (Purge n) bytes e = let no : ⊥ = cc e in absurd no
 packs_by out s (PurgeTo size) bytes (n, e, some, most) = let no : ⊥ = cc e in absurd no
 packs_by out s (Look view) bytes e = absurd (not_seen s view bytes e)
 packs_by out s (Reclaim limit) bytes (count, e, within) = let no : ⊥ = cc e in absurd no
 packs_by out s Compact bytes (n, e, least, most) =
     let same : n ≡ bytes = same_bytes bytes n e in
     record { moved = refl; one = refl; least = omega (arith, same, least); most = omega (arith, same, most) }
-packs_by out s (Import name) bytes e = let no : ⊥ = cc e in absurd no
-packs_by out s (Export name) bytes e = let no : ⊥ = cc e in absurd no
 packs_by out s (Bounce name) bytes e = absurd e
+packs_by out s _ bytes e = let no : ⊥ = cc e in absurd no
 
 packs : (out : Outside) (s : State) (c : Call) (bytes : ℕ) → MayAnswer out s c (reply.Packed bytes) →
     Packs (moves_of c) (generations_of c) bytes
 packs out s (call.Line c) bytes e = packs_by out s (shape_of c) bytes e
-packs out s (call.Piece track tag samples) bytes e = let no : ⊥ = cc e in absurd no
-packs out s call.Pin bytes e = let no : ⊥ = cc e in absurd no
 packs out s (call.PinLen pin) bytes (p, at, e) = let no : ⊥ = cc e in absurd no
 packs out s (call.ReadPin pin from count) bytes (p, at, e) = let no : ⊥ = cc e in absurd no
 packs out s (call.LoadPin pin from count) bytes (p, at, e) = let no : ⊥ = cc e in absurd no
-packs out s (call.Unpin pin) bytes e = let no : ⊥ = cc e in absurd no
+packs out s _ bytes e = let no : ⊥ = cc e in absurd no
 
 -- a number of points that go, none of them the current one in the history that the line leads to
 record Purges (moves cursor n : ℕ) : Type 0 where
@@ -177,34 +125,21 @@ record Purges (moves cursor n : ℕ) : Type 0 where
 
 purges_by : (out : Outside) (s : State) (shape : Shape) (n : ℕ) → MayReplyBy out s shape (reply.Purged n) →
     Purges (moves_by shape) (after_shape out s shape).history.cursor n
-purges_by out s NewTrack n e = let no : ⊥ = cc e in absurd no
-purges_by out s (DropTrack id) n e = let no : ⊥ = cc e in absurd no
-purges_by out s (SetTrack id setting) n e = let no : ⊥ = cc e in absurd no
-purges_by out s (PutIn id at source) n e = let no : ⊥ = cc e in absurd no
-purges_by out s (EditRange id from to edit) n e = let no : ⊥ = cc e in absurd no
-purges_by out s (CutRun id k from to removing) n e = let no : ⊥ = cc e in absurd no
-purges_by out s (CopyRun id k from to) n e = let no : ⊥ = cc e in absurd no
-purges_by out s (PasteRun id at placing) n e = let no : ⊥ = cc e in absurd no
-purges_by out s (MoveTo move) n e = let no : ⊥ = cc e in absurd no
-purges_by out s (Purge k) n e = let no : ⊥ = cc e in absurd no
 purges_by out s (PurgeTo size) n (k, e, some, most) =
     let same : k ≡ n = same_count n k e in record { moved = refl; within = omega (arith, same, most) }
 purges_by out s (Look view) n e = absurd (not_purged s view n e)
 purges_by out s (Reclaim limit) n (count, e, within) = let no : ⊥ = cc e in absurd no
 purges_by out s Compact n (k, e, least, most) = let no : ⊥ = cc e in absurd no
-purges_by out s (Import name) n e = let no : ⊥ = cc e in absurd no
-purges_by out s (Export name) n e = let no : ⊥ = cc e in absurd no
 purges_by out s (Bounce name) n e = absurd e
+purges_by out s _ n e = let no : ⊥ = cc e in absurd no
 
 purges : (out : Outside) (s : State) (c : Call) (n : ℕ) → MayAnswer out s c (reply.Purged n) →
     Purges (moves_of c) (after out s c).history.cursor n
 purges out s (call.Line c) n e = purges_by out s (shape_of c) n e
-purges out s (call.Piece track tag samples) n e = let no : ⊥ = cc e in absurd no
-purges out s call.Pin n e = let no : ⊥ = cc e in absurd no
 purges out s (call.PinLen pin) n (p, at, e) = let no : ⊥ = cc e in absurd no
 purges out s (call.ReadPin pin from count) n (p, at, e) = let no : ⊥ = cc e in absurd no
 purges out s (call.LoadPin pin from count) n (p, at, e) = let no : ⊥ = cc e in absurd no
-purges out s (call.Unpin pin) n e = let no : ⊥ = cc e in absurd no
+purges out s _ n e = let no : ⊥ = cc e in absurd no
 
 -- a call that neither packs the journal nor purges to a size leaves the studio as it is
 pub answered_same : (out : Outside) (s : State) (c : Call) (r : Reply) → MayAnswer out s c r → moves_of c ≡ 0 →

@@ -1,18 +1,22 @@
 -- What each call leaves of a state, and of a studio.
 use Rattle.std.proofs.Common.{◌≡◌, ℕ, ℤ, ◌+◌, ◌^◌, ◌≤◌, Bool, true, false, List, ◌++◌, length, None, arith}
-use Rattle.std.specs.Prelude.{if◌then◌else◌, ◌==◌}
+use Rattle.std.proofs.lemmas.Bool.{ltb-false}
+use Rattle.std.specs.Prelude.{if◌then◌else◌, ◌==◌, nat_lt}
 use Rattle.pcm_base.specs.Cells.{trimmed, cells_at, edited_at}
 use Rattle.pcm_base.specs.Counters.{no_room, commits_of, tracks_of, pins_of, record_bytes, places_of, counter_tests}
 use Rattle.pcm_base.specs.Counters.{MayDraw, generations_of, layouts_of, record_test}
 use Rattle.pcm_base.specs.Run.{stop_test, refusal_of, followed}
 use Rattle.pcm_base.specs.{declared.sound.Cell.Cell, declared.command.Call.Call, Edits.as_cells, Form.IsCallInForm}
 use Rattle.pcm_base.specs.{History.recorded, Outside.Outside, Recordings.pieces_in, Refusals.◌otherwise◌}
+use Rattle.pcm_base.specs.{declared.limits.TheConstants.LONGEST_BODY}
 use Rattle.pcm_base.specs.{Refusals.call_tests, State.State, State.current, Step.after, Step.with_piece, Studio.Studio}
 use Rattle.model_laws.specs.Bounds.{AreCells, IsBoundedState, IsBoundedStudio}
 use Rattle.model_laws.proofs.States.{counted_here, current_project, pin_bounded, unpin_bounded}
 use Rattle.model_laws.proofs.{EditLengths.recorded_cells, Histories.recorded_points, Lines.line_bounded}
 use Rattle.model_laws.proofs.{PassedTests.piece_passed, Projects.edited_track, OwnTests.both_passed, OwnTests.has_room}
+use Rattle.model_laws.proofs.OwnTests.{not_refused}
 use Rattle.pcm_base.specs.declared.command.Call.TheVariants as call
+use Rattle.pcm_base.specs.declared.refusal.Refusal.TheVariants as refusal
 
 piece_bounded : (s : State) (track tag : ℕ) (samples : List ℤ) → IsBoundedState s →
     s.commit + pieces_in (length samples) ≤ 2 ^ 62 → tag ≤ s.commit →
@@ -35,10 +39,8 @@ call_bounded out s (call.Line c) b form e tracks room pins = line_bounded out s 
 call_bounded out s (call.Piece track tag samples) b form e tracks room pins =
     piece_bounded s track tag samples b room form.1 (piece_passed s track (length samples) e)
 call_bounded out s call.Pin b form e tracks room pins = pin_bounded s b pins
-call_bounded out s (call.PinLen pin) b form e tracks room pins = b
-call_bounded out s (call.ReadPin pin from count) b form e tracks room pins = b
-call_bounded out s (call.LoadPin pin from count) b form e tracks room pins = b
 call_bounded out s (call.Unpin pin) b form e tracks room pins = unpin_bounded s pin b
+call_bounded out s _ b form e tracks room pins = b
 
 -- each counter has room for what is needed of it
 pub record HasRoom (out : Outside) (t : Studio) (c : Call) (blocks len : ℕ) : Type 0 where
@@ -86,34 +88,44 @@ bytes_within c len = by (commits_of c == 0)
     by true = omega arith
     by false = omega arith
 
-pub room_passed : (out : Outside) (t : Studio) (c : Call) (blocks len : ℕ) → refusal_of out t c blocks len ≡ None →
-    HasRoom out t c blocks len
-room_passed out t c blocks len e =
+-- all that is known where nothing refuses a call
+pub record Passed (out : Outside) (t : Studio) (c : Call) (blocks len : ℕ) : Type 0 where
+  pub going : stop_test t.stopped c ≡ None
+  pub own : call_tests out t.state c ≡ None
+  pub room : HasRoom out t c blocks len
+  pub short : len ≤ LONGEST_BODY
+
+pub passed : (out : Outside) (t : Studio) (c : Call) (blocks len : ℕ) → refusal_of out t c blocks len ≡ None →
+    Passed out t c blocks len
+passed out t c blocks len e =
     let own = call_tests out t.state c in
     let counters = counter_tests out t c blocks len in
-    let going = both_passed (stop_test t.stopped c) (own otherwise counters otherwise record_test len) e in
-    let passed = both_passed own (counters otherwise record_test len) going.1 in
-    counters_passed out t c blocks len (both_passed counters (record_test len) passed.1).0
+    let first = both_passed (stop_test t.stopped c) (own otherwise counters otherwise record_test len) e in
+    let second = both_passed own (counters otherwise record_test len) first.1 in
+    let third = both_passed counters (record_test len) second.1 in
+    record {
+      going = first.0;
+      own = second.0;
+      room = counters_passed out t c blocks len third.0;
+      short = ltb-false LONGEST_BODY len (not_refused (nat_lt LONGEST_BODY len) (refusal.RecordLimit len) third.1);
+    }
 
 pub next_generation : (out : Outside) (t : Studio) (c : Call) (blocks len : ℕ) → refusal_of out t c blocks len ≡ None →
     t.generation + generations_of c ≤ 2 ^ 62
-next_generation out t c blocks len e = (room_passed out t c blocks len e).generations
+next_generation out t c blocks len e = (passed out t c blocks len e).room.generations
 
 -- all that refuses a call let it through
 pub followed_bounded : (out : Outside) (t : Studio) (c : Call) (blocks len layout : ℕ) → IsBoundedStudio t →
     IsCallInForm t.state.commit c → refusal_of out t c blocks len ≡ None → MayDraw out t c layout →
     IsBoundedStudio (followed out t c blocks len layout)
 followed_bounded out t c blocks len layout b form e draws =
-    let own = call_tests out t.state c in
-    let counters = counter_tests out t c blocks len in
-    let going = both_passed (stop_test t.stopped c) (own otherwise counters otherwise record_test len) e in
-    let passed = both_passed own (counters otherwise record_test len) going.1 in
-    let room = room_passed out t c blocks len e in
+    let own = (passed out t c blocks len e).own in
+    let room = (passed out t c blocks len e).room in
     let ids = b.next_block.0 in
     let start = b.journal_end.0 in
     let places = room.places in
     record {
-      state = call_bounded out t.state c b.state form passed.0 room.tracks room.commits room.pins;
+      state = call_bounded out t.state c b.state form own room.tracks room.commits room.pins;
       rate = b.rate;
       block_size = b.block_size;
       next_block = (omega (arith, ids), room.ids);

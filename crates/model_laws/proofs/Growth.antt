@@ -4,8 +4,7 @@ use Rattle.std.proofs.Common.{◌++◌, arith, add-mul, mul-le-mul_right, inl, i
 use Rattle.std.proofs.{lemmas.Grind.div_ceil_times, lemmas.Bool.cases_lt}
 use Rattle.std.specs.{Int.div_ceil, Prelude.if◌then◌else◌}
 use Rattle.pcm_base.specs.Sizes.{clip_count, clip_starts, project_body_most, project_clips, project_samples}
-use Rattle.pcm_base.specs.Sizes.{sample_count}
-use Rattle.pcm_base.specs.{declared.sound.Cell.Cell, declared.sound.Cell.TheVariants.Gap}
+use Rattle.pcm_base.specs.{Sizes.sample_count, declared.sound.Cell.Cell, declared.sound.Cell.TheVariants.Gap}
 use Rattle.pcm_base.specs.{declared.sound.Cell.TheVariants.Sample, Cells.Project, Cells.edited_at, Cells.joined}
 use Rattle.pcm_base.specs.{Cells.trimmed, Cells.with_cells, Edits.as_cells, State.State, State.current, Step.with_piece}
 use Rattle.model_laws.proofs.Again.{recorded_current}

@@ -3,9 +3,9 @@ use Rattle.std.proofs.Common.{◌≡◌, ◌==◌, ◌∙◌, refl, sym, ap, sub
 use Rattle.std.proofs.Common.{min, Bool, true, false, List, [], ◌∷◌, ◌++◌, length, take, drop, Option, None, arith}
 use Rattle.std.proofs.Common.{add-mul, append_assoc, length-append, mul-le-mul_left, All}
 use Rattle.std.proofs.lemmas.List.{append-nil, length-drop, length-take-le, map-append, take-append-drop, take_all}
-use Rattle.std.proofs.{lemmas.Bool.eqb-true, lemmas.Bool.le-ltb, lemmas.Bool.ltb-false, lemmas.Nat.div-add-mod'}
+use Rattle.std.proofs.{lemmas.Bool.cond_both, lemmas.Bool.eqb-true, lemmas.Bool.le-ltb, lemmas.Nat.div-add-mod'}
 use Rattle.std.proofs.{lemmas.Nat.div_below, lemmas.Nat.mod_below, lemmas.List.Elements.All-head}
-use Rattle.std.specs.Prelude.{if◌then◌else◌, nat_lt}
+use Rattle.std.specs.Prelude.{if◌then◌else◌}
 use Rattle.pcm_base.specs.Cells.{Project, cells_at, cells_of_first, edited_at, tracks_from, trimmed}
 use Rattle.pcm_base.specs.Counters.{Needs, commits_of, counter_tests, generations_of, no_room, pins_of, places_of}
 use Rattle.pcm_base.specs.Counters.{layouts_of, record_bytes, record_test, tracks_of}
@@ -19,11 +19,10 @@ use Rattle.pcm_base.specs.{Outside.Outside, Recordings.parts_of, Recordings.piec
 use Rattle.pcm_base.specs.{Sizes.project_body_most, State.State, State.current, Step.with_piece, Studio.Studio}
 use Rattle.model_laws.specs.{Bounds.IsBoundedState, Bounds.IsTrack, Laws.BatchesArePieces, Laws.pieces_done}
 use Rattle.model_laws.proofs.Again.{cells_edited, edited_same, edited_twice, recorded_again, recorded_current}
-use Rattle.model_laws.proofs.Again.{recorded_depth, there_edited}
 use Rattle.model_laws.proofs.Trimming.{length-trimmed, trimmed-sample, trimmed-trimmed}
-use Rattle.model_laws.proofs.{Calls.HasRoom, Calls.room_passed, EditLengths.length-as_cells, Growth.piece_grows}
-use Rattle.model_laws.proofs.{OwnTests.both_passed, OwnTests.not_refused, PassedTests.piece_passed}
-use Rattle.model_laws.proofs.{States.current_project, Tracks.tracks_from_tracks}
+use Rattle.model_laws.proofs.{Again.recorded_depth, Again.there_edited, Calls.Passed, Calls.passed}
+use Rattle.model_laws.proofs.{EditLengths.length-as_cells, Growth.piece_grows, OwnTests.both_passed}
+use Rattle.model_laws.proofs.{PassedTests.piece_passed, States.current_project, Tracks.tracks_from_tracks}
 use Rattle.pcm_base.specs.declared.refusal.Refusal.TheVariants as refusal
 
 -- ---- tests that let a call through
@@ -39,29 +38,7 @@ pub limit_passes : (len : ℕ) → len ≤ 2 ^ 32 → length_limit (len ∷ []) 
 limit_passes len few =
     ap (λ (b : Bool). (refused_if b (refusal.LengthLimit len)) otherwise None) (le-ltb (2 ^ 32) len few)
 
--- all that is known where nothing refuses a call
-record Passed (out : Outside) (t : Studio) (c : Call) (blocks len : ℕ) : Type 0 where
-  going : stop_test t.stopped c ≡ None
-  own : call_tests out t.state c ≡ None
-  room : HasRoom out t c blocks len
-  short : len ≤ LONGEST_BODY
-
-passed : (out : Outside) (t : Studio) (c : Call) (blocks len : ℕ) → refusal_of out t c blocks len ≡ None →
-    Passed out t c blocks len
-passed out t c blocks len e =
-    let own = call_tests out t.state c in
-    let counters = counter_tests out t c blocks len in
-    let first = both_passed (stop_test t.stopped c) (own otherwise counters otherwise record_test len) e in
-    let second = both_passed own (counters otherwise record_test len) first.1 in
-    let third = both_passed counters (record_test len) second.1 in
-    record {
-      going = first.0;
-      own = second.0;
-      room = room_passed out t c blocks len e;
-      short = ltb-false LONGEST_BODY len (not_refused (nat_lt LONGEST_BODY len) (refusal.RecordLimit len) third.1);
-    }
-
-passes : (out : Outside) (t : Studio) (c : Call) (blocks len : ℕ) → Passed out t c blocks len →
+pub passes : (out : Outside) (t : Studio) (c : Call) (blocks len : ℕ) → Passed out t c blocks len →
     refusal_of out t c blocks len ≡ None
 passes out t c blocks len p =
     let a = no_room t.next_block blocks in
@@ -106,19 +83,15 @@ div_sum a b m some =
     omega (arith, below)
 
 -- where there are commits
+where_some : (n bytes : ℕ) → 0 < n → (if n == 0 then 0 else bytes) ≡ bytes
+where_some n bytes some = cond_both (n == 0) _ _ (λ (k : ℕ). k ≡ bytes)
+    (λ e. absurd (omega (arith, some, eqb-true n 0 e))) (λ _. refl)
+
 some_bytes : (c : Call) (len : ℕ) → 0 < commits_of c → record_bytes c len ≡ 5 + len
-some_bytes c len some = by (commits_of c == 0) refl
-  where
-    by : (none : Bool) → (commits_of c == 0) ≡ none → (if none then 0 else 5 + len) ≡ 5 + len
-    by true e = absurd (omega (arith, some, eqb-true (commits_of c) 0 e))
-    by false e = refl
+some_bytes c len some = where_some (commits_of c) (5 + len) some
 
 some_places : (c : Call) (len : ℕ) → 0 < commits_of c → places_of c len ≡ 6 + len
-some_places c len some = by (commits_of c == 0) refl
-  where
-    by : (none : Bool) → (commits_of c == 0) ≡ none → (if none then 0 else 6 + len) ≡ 6 + len
-    by true e = absurd (omega (arith, some, eqb-true (commits_of c) 0 e))
-    by false e = refl
+some_places c len some = where_some (commits_of c) (6 + len) some
 
 -- ---- one point
 
@@ -423,7 +396,8 @@ pieces_run (suc k) t u actor track tag xs sound r count depth numbered size ende
     let some : 1 ≤ length y = omega (arith, left, count) in
     let out = outside t sound in
     let joined : x ++ y ≡ xs = take-append-drop 256 xs in
-    let needs = subst (λ (zs : List ℤ). Needs out t (Piece track tag zs) done.blocks done.len) (sym joined) done.needs in
+    let needs = subst (λ (zs : List ℤ). Needs out t (Piece track tag zs) done.blocks done.len) (sym joined)
+    done.needs in
     let all = passed out t (Piece track tag (x ++ y)) done.blocks done.len
     (subst (λ (zs : List ℤ). refusal_of out t (Piece track tag zs) done.blocks done.len ≡ None) (sym joined)
     done.passed) in

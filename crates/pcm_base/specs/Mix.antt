@@ -55,12 +55,17 @@ mix_of p = map (frame_at p) (counted_from 0 (mix_length p))
 
 -- ---- tracks that are loaded
 
--- this many cells of a track from a place on, gaps past its end
-abbrev pub stretch_of : (from n : ℕ) → Track → List Cell
-stretch_of from n t = map (λ i. slice_index_or t.cells i Gap) (counted_from from n)
+-- what is heard of a cell: its sample, and 0 for a gap
+abbrev pub heard_of : Cell → ℤ
+heard_of Gap = pos 0
+heard_of (Sample s) = s
+
+-- what is heard of this many cells of a track from a place on; past its end are gaps
+abbrev pub stretch_of : (from n : ℕ) → Track → List ℤ
+stretch_of from n t = map (λ i. heard_of (slice_index_or t.cells i Gap)) (counted_from from n)
 
 abbrev pub loaded_track : (from n : ℕ) → Track → LoadedTrack
-loaded_track from n t = record { gain = t.gain; side = t.side; cells = stretch_of from n t }
+loaded_track from n t = record { gain = t.gain; side = t.side; samples = stretch_of from n t }
 
 -- the tracks that are heard from a place on: as many frames as there are, up to a number
 abbrev pub loaded_of : (from most : ℕ) → Project → List LoadedTrack

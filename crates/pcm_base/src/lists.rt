@@ -56,16 +56,16 @@ pub type Columns = Items<Option<Scan>>;
 /// What is told of tracks, in their order.
 pub type TrackLines = Items<TrackLine>;
 
-/// A stretch of a track that is heard: its gain, the sides on which it is heard, and a cell for each frame, gaps past
-/// its end.
+/// A stretch of a track that is heard: its gain, the sides on which it is heard, and a sample for each frame. A gap is
+/// heard as a sample of 0, and so is what lies past the track's end.
 #[derive(Debug, Drop)]
 pub struct LoadedTrack {
     /// The gain.
     pub gain: u32,
     /// The sides.
     pub side: Side,
-    /// The cells.
-    pub cells: CellList,
+    /// The samples.
+    pub samples: Samples,
 }
 
 /// Stretches of the tracks that are heard, in the order of the tracks.

@@ -1,5 +1,5 @@
 -- One call under the turn, put together.
-use Rattle.std.proofs.Common.{◌<◌, ◌^◌, length-append, ◌≡◌, ◌⊎◌, inl, inr, ⊎_elim, arith, ℕ, ◌≤◌, List, [], ◌∷◌, ◌++◌}
+use Rattle.std.proofs.Common.{◌<◌, ◌^◌, ◌≡◌, ◌⊎◌, inl, inr, ⊎_elim, arith, ℕ, ◌≤◌, List, [], ◌∷◌, ◌++◌}
 use Rattle.std.proofs.Common.{length, sym, ap, ◌∙◌, subst, Some, None, Option}
 use Rattle.std.specs.Fn.{Mut, CalledAtMut}
 use Rattle.atomic_table.specs.{Table.Me, Table.step, declared.shared.Seat.Seat}
@@ -8,7 +8,7 @@ use Rattle.pin_turn.specs.Calls.{FitsTurn, Begins, TookTurn, addition, called_as
 use Rattle.pin_turn.specs.Counts.{times, without, longer, shorter, of_shorter}
 use Rattle.pin_turn.specs.{declared.view.Stage.TheVariants.Resting, declared.view.Stage.TheVariants.Holding}
 use Rattle.pin_turn.specs.{declared.view.View.View, Views.settled, Views.hearing, Views.joined}
-use Rattle.pin_turn.proofs.Sums.{sorted_cases, whole_if_long, without_last, times_last}
+use Rattle.pin_turn.proofs.Sums.{FirstLonger, SecondLonger, sorted_cases, whole_if_long, without_last, times_last}
 use denote.Ref.{MutBor}
 use mathlib.Core.Option.{none}
 
@@ -26,9 +26,9 @@ module _ {T E : Type 0} where
   rests p w e sits = is_settled p (ap (λ (m : Me (Option T) (View T E)). m.0.stage) e ∙ sits)
       (ap (λ (m : Me (Option T) (View T E)). m.1) e)
 
-  module _ {F R : Type 0} (stands : T → T → List E → Type 0) (maker : E → ℕ) (start : T)
-      (G : Mut F (MutBor T × Unit {0}) (R × (MutBor T × Unit {0}))) (f f' : F) (added : R → F → List E) (r : R)
-      (m0 m1 m2 m3 : Me (Option T) (View T E)) (n : ℕ) (x : Option T) (value value' : T)
+  module _ {F R : Type 0} {stands : T → T → List E → Type 0} {maker : E → ℕ} {start : T}
+      {G : Mut F (MutBor T × Unit {0}) (R × (MutBor T × Unit {0}))} {f f' : F} {added : R → F → List E} {r : R}
+      {m0 m1 m2 m3 : Me (Option T) (View T E)} {n : ℕ} {x : Option T} {value value' : T}
       (room : n < 2 ^ 63) (bare : m0.1 ≡ []) (from_start : m0.0.start ≡ Some start)
       (took : Took stands maker record { before = m0; word = n; after = m1 })
       (out : m1.1 ≡ (0, x) ∷ []) (e2 : m2 ≡ (m1.0, (0, None) ∷ [])) (is : x ≡ Some value)
@@ -86,6 +86,21 @@ module _ {T E : Type 0} where
           } in u) (sym sits));
     }
 
+  -- the list that was compared begins the other, which is as long at least
+  told_begins : (maker : E → ℕ) (v w : View T E) (seen told : List E) (owner : ℕ) → seen ≡ w.seen → told ≡ v.seen
+      → owner ≡ v.number → length v.seen ≤ length w.seen
+      → (length told ≤ length seen → (more : List E) × (seen ≡ told ++ more) × ByOthers maker (owner ∷ []) more)
+      → Begins maker v w
+  told_begins maker v w seen told owner long short by few tells =
+      let l1 : length seen ≡ length w.seen = ap length long in
+      let l2 : length told ≡ length v.seen = ap length short in
+      let b = tells (omega arith) in
+      record {
+        more = b.0;
+        longer = sym long ∙ (b.1 ∙ ap (λ (l : List E). l ++ b.0) short);
+        by_others = subst (λ (z : ℕ). ByOthers maker (z ∷ []) b.0) by b.2;
+      }
+
   -- what the compare step tells after a seat took in another
   pub hears : (maker : E → ℕ) (v w : View T E) (cs : List (ℕ × Option T)) (m m' : Me (Option T) (View T E))
       → v.stage ≡ Resting → m ≡ (hearing v w, cs) → compared maker (step 0 0 0 0 none) m 0 m'
@@ -102,28 +117,10 @@ module _ {T E : Type 0} where
         } in (u, z.1)) is
             ∙ ap (λ g. let u : View T E = record (joined v w) { stage = g } in (u, cs)) (sym sits)),
         ⊎_elim
-            (λ (c : (longer v.seen w.seen ≡ v.seen) × (list ≡ w.seen) × (owner ≡ w.number)
-            × (length w.seen ≤ length v.seen)).
-            let l1 : length m.0.seen ≡ length v.seen = ap length (seen ∙ c.0) in
-            let l2 : length list ≡ length w.seen = ap length c.1 in
-            let c3 = c.3 in
-            let b = t.1 (omega arith) in
-            inr record {
-              more = b.0;
-              longer = sym (seen ∙ c.0) ∙ (b.1 ∙ ap (λ (l : List E). l ++ b.0) c.1);
-              by_others = subst (λ (z : ℕ). ByOthers maker (z ∷ []) b.0) c.2 b.2;
-            })
-            (λ (c : (longer v.seen w.seen ≡ w.seen) × (list ≡ v.seen) × (owner ≡ v.number)
-            × (length v.seen ≤ length w.seen)).
-            let l1 : length m.0.seen ≡ length w.seen = ap length (seen ∙ c.0) in
-            let l2 : length list ≡ length v.seen = ap length c.1 in
-            let c3 = c.3 in
-            let b = t.1 (omega arith) in
-            inl record {
-              more = b.0;
-              longer = sym (seen ∙ c.0) ∙ (b.1 ∙ ap (λ (l : List E). l ++ b.0) c.1);
-              by_others = subst (λ (z : ℕ). ByOthers maker (z ∷ []) b.0) c.2 b.2;
-            })
+            (λ (c : FirstLonger v.seen w.seen v.number w.number).
+            inr (told_begins maker w v m.0.seen list owner (seen ∙ c.0) c.1 c.2 c.3 t.1))
+            (λ (c : SecondLonger v.seen w.seen v.number w.number).
+            inl (told_begins maker v w m.0.seen list owner (seen ∙ c.0) c.1 c.2 c.3 t.1))
             (sorted_cases v.seen w.seen v.number w.number),
       )
 
@@ -131,23 +128,12 @@ module _ {T E : Type 0} (maker : E → ℕ) (v w : View T E) where
   -- where one of two lists begins the other, that other is the longer
   pub second_longer : Begins maker v w → longer v.seen w.seen ≡ w.seen
   second_longer h = ⊎_elim
-      (λ (c : (longer v.seen w.seen ≡ v.seen) × (shorter v.seen w.seen ≡ w.seen) × (of_shorter v.seen w.seen 0 0 ≡ 0)
-      × (length w.seen ≤ length v.seen)).
-      let a = length-append v.seen h.more in
-      let b : length w.seen ≡ length (v.seen ++ h.more) = ap length h.longer in
-      let d = c.3 in
-      c.0 ∙ whole_if_long v.seen h.more w.seen h.longer d)
-      (λ (c : (longer v.seen w.seen ≡ w.seen) × (shorter v.seen w.seen ≡ v.seen) × (of_shorter v.seen w.seen 0 0 ≡ 0)
-      × (length v.seen ≤ length w.seen)). c.0)
-      (sorted_cases v.seen w.seen 0 0)
+      (λ (c : FirstLonger v.seen w.seen 0 0). c.0 ∙ whole_if_long v.seen h.more w.seen h.longer c.3)
+      (λ (c : SecondLonger v.seen w.seen 0 0). c.0) (sorted_cases v.seen w.seen 0 0)
 
   pub first_longer : Begins maker w v → longer v.seen w.seen ≡ v.seen
-  first_longer h = ⊎_elim
-      (λ (c : (longer v.seen w.seen ≡ v.seen) × (shorter v.seen w.seen ≡ w.seen) × (of_shorter v.seen w.seen 0 0 ≡ 0)
-      × (length w.seen ≤ length v.seen)). c.0)
-      (λ (c : (longer v.seen w.seen ≡ w.seen) × (shorter v.seen w.seen ≡ v.seen) × (of_shorter v.seen w.seen 0 0 ≡ 0)
-      × (length v.seen ≤ length w.seen)).
-      c.0 ∙ whole_if_long w.seen h.more v.seen h.longer c.3)
+  first_longer h = ⊎_elim (λ (c : FirstLonger v.seen w.seen 0 0). c.0)
+      (λ (c : SecondLonger v.seen w.seen 0 0). c.0 ∙ whole_if_long w.seen h.more v.seen h.longer c.3)
       (sorted_cases v.seen w.seen 0 0)
 
 module _ {T E : Type 0} (maker : E → ℕ) (v : View T E) where

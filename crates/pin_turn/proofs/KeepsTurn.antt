@@ -1,39 +1,28 @@
 -- To begin, to look, to take the turn and to give it back keep the rule.
 use Rattle.std.proofs.Common.{◌≡◌, ◌≢◌, ℕ, zero, suc, ◌+◌, ◌*◌, ◌%◌, ◌^◌, ◌<◌, ◌≤◌, eqb, true, List, [], ◌∷◌, ◌++◌}
 use Rattle.std.proofs.Common.{length, set, get_or, sym, refl, ap, ◌∙◌, subst, arith, Option, Some, length-set}
-use Rattle.std.proofs.Common.{length-append, eq-eqb, ne_eqb, append_assoc}
-use Rattle.std.proofs.lemmas.List.{append-nil}
-use Rattle.atomic_table.specs.Table.{State, Me, step, keeps, takes, gives, stepped, Allows, opening}
+use Rattle.std.proofs.{Common.length-append, Common.eq-eqb, Common.ne_eqb, Common.append_assoc, lemmas.List.append-nil}
+use Rattle.atomic_table.specs.Table.{step, keeps, takes, gives, stepped, Allows, opening}
 use Rattle.atomic_table.proofs.Lists.{set_here, set_else, set_again}
 use Rattle.pin_turn.specs.declared.view.Stage.TheVariants.{Gone, Resting, Holding}
-use Rattle.pin_turn.specs.Counts.{Each, times, once_below}
-use Rattle.pin_turn.specs.Views.{numbers, numbers_at, first_view}
 use Rattle.pin_turn.specs.Rule.{ByOthers, has_number, Knows, TurnRule, looked, took, gave}
-use Rattle.pin_turn.specs.{declared.view.Stage.Stage, declared.view.View.View}
+use Rattle.pin_turn.specs.{Counts.Each, Counts.times, Counts.once_below, Views.numbers, Views.numbers_at}
+use Rattle.pin_turn.specs.{Views.first_view, declared.view.Stage.Stage, declared.view.View.View}
 use Rattle.pin_turn.proofs.Sums.{total_at, Each-append, times-append, times_else, times_one, once_more}
-use Rattle.pin_turn.proofs.RuleSteps.{apart, at_here, has_one, knows_set, not_in, not_true, steps}
+use Rattle.pin_turn.proofs.RuleSteps.{knows_resting, Seated, Table, apart, at_here, has_one, knows_set, not_in}
+use Rattle.pin_turn.proofs.RuleSteps.{not_true, steps}
 use mathlib.Core.Logic.{dite}
 use mathlib.Core.Option.{none, some, some-injective, some-ne-none}
 use mathlib.Core.Option as maybe
 use native.Mathlib.Decide.{ℕ_discrete, dec_le}
 use lib.ListN.{get_elem?}
+use lib.Seq.{set-get_or}
 use prog.Atomic.{either}
 
 module _ {T E : Type 0} (stands : T → T → List E → Type 0) (maker : E → ℕ) (start : T) where
-  abbrev V : Type 0
-  V = View T E
-
-  abbrev St : Type 0
-  St = State (Option T) V
-
-  abbrev M : Type 0
-  M = Me (Option T) V
-
-  abbrev Rule : St → Type 0
-  Rule = TurnRule stands maker start
-
-  pub starts : stands start start [] → Rule (opening (0 ∷ []) (Some start ∷ []) (first_view start))
-  starts h = let v : V = first_view start in record {
+  pub starts : stands start start [] → TurnRule stands maker start (opening (0 ∷ []) (Some start ∷ [])
+      (first_view start))
+  starts h = let v : View T E = first_view start in record {
     log = [];
     made = 1;
     busy = 0;
@@ -45,19 +34,9 @@ module _ {T E : Type 0} (stands : T → T → List E → Type 0) (maker : E → 
     home = λ _. (start, refl, h);
     out = λ e. absurd (omega arith);
     held = λ e. absurd (omega arith);
-    each = knows_set stands maker start
+    each = knows_set
         (Knows maker record { start = start; log = []; busy = 0; holder = 0 }) (v ∷ []) 0 v
-        record {
-          later = [];
-          begins = refl;
-          by_others = tt;
-          start_is = λ _. refl;
-          above = tt;
-          bare = λ e. absurd (cc);
-          spent = λ e. absurd (cc);
-          heard = λ k' owner told e. absurd (cc);
-          holds = λ e. absurd (cc);
-        }
+        (knows_resting stands maker start _ 0 v [] refl refl tt refl tt (λ e. absurd (cc)))
         (λ j u other e. absurd (beyond j u other e));
     longest = (0, v, refl, (λ e. absurd (cc)), refl);
     counted = λ k. none_below k;
@@ -67,22 +46,36 @@ module _ {T E : Type 0} (stands : T → T → List E → Type 0) (maker : E → 
     made_before = tt;
   }
     where
-      beyond : (j : ℕ) (u : V) → j ≢ 0 → get_elem? (first_view {T = T} {E = E} start ∷ []) j ≡ some u → ⊥
+      beyond : (j : ℕ) (u : View T E) → j ≢ 0 → get_elem? (first_view {T = T} {E = E} start ∷ []) j ≡ some u → ⊥
       beyond zero u other e = other refl
       beyond (suc j) u other e = some-ne-none u (sym e)
 
       none_below : (k : ℕ) → 0 + 0 ≡ once_below k 0
       none_below k = grind (arith, Rattle.std.proofs.lemmas.Bool.Decides.nat_tests)
 
-  pub looks : (slots id : ℕ) (me : M) → Allows Rule slots id me 0 (λ n. n) (looked (step slots 0 0 0 none) me)
+  -- a step that changes nothing
+  stays : (s : Table T E) (r : TurnRule stands maker start s) (id : ℕ) (v : View T E) → get_elem? s.views id ≡ some v
+      → TurnRule stands maker start record {
+        words = set s.words 0 (get_or s.words 0 0);
+        homes = s.homes;
+        views = set s.views id v;
+      }
+  stays s r id v at = subst (λ (z : List ℕ × List (View T E)). TurnRule stands maker start record {
+    words = z.0;
+    homes = s.homes;
+    views = z.1;
+  }) (λ i. (sym (set-get_or s.words 0 0) i, sym (set_again s.views id v at) i)) r
+
+  pub looks : (slots id : ℕ) (me : Seated T E) → Allows (TurnRule stands maker start) slots id me 0 (λ n. n) (looked
+      (step slots 0 0 0 none) me)
   looks slots id me s r _ at _ =
       let n : ℕ = get_or s.words 0 0 in
-      let v : V = me.0 in
+      let v : View T E = me.0 in
       let k = r.each id v at in
       let small = r.small in
       let is = r.word_is in
       dite (dec_le (2 ^ 63) n)
-      (λ full. let w : V = record v { used_up = true } in
+      (λ full. let w : View T E = record v { used_up = true } in
       let len : length r.log * 2 + r.busy ≡ 2 ^ 63 = omega arith in (
         w,
         keeps,
@@ -106,9 +99,9 @@ module _ {T E : Type 0} (stands : T → T → List E → Type 0) (maker : E → 
             (λ here. let same : h.1 ≡ v = some-injective h.1 v (sym h.2 ∙ (ap (get_elem? s.views) here ∙ at)) in (
               id,
               w,
-              at_here stands maker start s.views id v w at,
-              subst (λ (z : V). z.stage ≢ Gone) same h.3,
-              ap (λ (z : V). z.seen) (sym same) ∙ h.4,
+              at_here s.views id v w at,
+              subst (λ (z : View T E). z.stage ≢ Gone) same h.3,
+              ap (λ (z : View T E). z.seen) (sym same) ∙ h.4,
             ))
             (λ else. (h.0, h.1, set_else s.views id h.0 w else ∙ h.2, h.3, h.4)))
             refl refl (λ _. refl) r.made_before,
@@ -118,40 +111,36 @@ module _ {T E : Type 0} (stands : T → T → List E → Type 0) (maker : E → 
         v,
         keeps,
         tt,
-        steps stands maker start s r id v v at n s.homes r.log r.busy r.holder refl r.word_is r.small r.home r.out (λ e.
-            let h = r.held e in (h.0, ap (λ (l : List V). get_elem? l r.holder) (set_again s.views id v at) ∙ h.1, h.2))
-            (r.each id v at) (λ j u _ e. r.each j u e) (let h = r.longest in
-            (h.0, h.1, ap (λ (l : List V). get_elem? l h.0) (set_again s.views id v at) ∙ h.2, h.3, h.4)) refl refl
-            (λ _. refl) r.made_before,
+        stays s r id v at,
         ((λ full. absurd (more full)), λ _. refl),
       ))
 
   -- the word is even, so no seat has the turn
-  even : (s : St) (r : Rule s) → get_or s.words 0 0 % 2 ≡ 0 → r.busy ≡ 0
+  even : (s : Table T E) (r : TurnRule stands maker start s) → get_or s.words 0 0 % 2 ≡ 0 → r.busy ≡ 0
   even s r e = let is = r.word_is in let small = r.small in omega arith
 
-  pub takes_turn : (slots id : ℕ) (me : M) (word : ℕ) → me.0.stage ≡ Resting → word % 2 ≡ 0 → word < 2 ^ 63
-      → Allows Rule slots id me 0 (λ n. either (eqb n word) (word + 1) n)
+  pub takes_turn : (slots id : ℕ) (me : Seated T E) (word : ℕ) → me.0.stage ≡ Resting → word % 2 ≡ 0 → word < 2 ^ 63
+      → Allows (TurnRule stands maker start) slots id me 0 (λ n. either (eqb n word) (word + 1) n)
       (took stands maker (step slots 0 word (word + 1) none) me)
   takes_turn slots id me word sits is_even few s r _ at _ =
       let n : ℕ = get_or s.words 0 0 in
-      let v : V = me.0 in
+      let v : View T E = me.0 in
       let k = r.each id v at in
       let is = r.word_is in
       let small = r.small in
       let alone : numbers v ≡ v.number ∷ [] = ap (numbers_at v.number) sits in
       dite (ℕ_discrete n word)
       (λ hit. let free : r.busy ≡ 0 = even s r (omega arith) in let home = r.home free in let deep = r.deep in
-      let w : V = record v { seen = v.seen ++ k.later; stage = Holding } in (
+      let w : View T E = record v { seen = v.seen ++ k.later; stage = Holding } in (
         w,
         takes 0 (Some home.0),
         home.1,
-        subst (λ b. Rule (stepped s 0 (either b (word + 1) n) id me.1 w (takes 0 (Some home.0))))
+        subst (λ b. TurnRule stands maker start (stepped s 0 (either b (word + 1) n) id me.1 w (takes 0 (Some home.0))))
             (sym (eq-eqb n word hit))
             (steps stands maker start s r id v w at (word + 1) (set s.homes 0 none) r.log 1 id
             (length-set s.homes 0 none) (omega arith)
             (omega arith, omega arith) (λ e. absurd (omega arith)) (λ _. set_here s.homes 0 none (omega arith))
-            (λ _. (w, at_here stands maker start s.views id v w at, refl))
+            (λ _. (w, at_here s.views id v w at, refl))
             record {
               later = [];
               begins = k.begins ∙ sym (append-nil (v.seen ++ k.later));
@@ -174,7 +163,7 @@ module _ {T E : Type 0} (stands : T → T → List E → Type 0) (maker : E → 
               heard = h.heard;
               holds = λ held. let t = (h.holds held).0 in absurd (omega arith);
             })
-            (id, w, at_here stands maker start s.views id v w at, (λ e. absurd (cc)), sym k.begins)
+            (id, w, at_here s.views id v w at, (λ e. absurd (cc)), sym k.begins)
             (sym alone) refl (λ _. refl) r.made_before),
         (
           (λ _. record {
@@ -184,7 +173,7 @@ module _ {T E : Type 0} (stands : T → T → List E → Type 0) (maker : E → 
             view = refl;
             by_others = subst (λ (ns : List ℕ). ByOthers maker ns k.later) alone k.by_others;
             turns = let len : length r.log ≡ length (v.seen ++ k.later) = ap length k.begins in omega arith;
-            unspent = not_true stands maker start v.used_up (λ e. let t = k.spent e in absurd (omega arith));
+            unspent = not_true v.used_up (λ e. let t = k.spent e in absurd (omega arith));
             stand = λ x start_is.
                 let same : start ≡ x = cc (k.start_is (λ e. absurd (cc))) in
                 subst (λ (z : T × List E). stands z.0 home.0 z.1) (λ i. (same i, k.begins i)) home.2;
@@ -196,22 +185,19 @@ module _ {T E : Type 0} (stands : T → T → List E → Type 0) (maker : E → 
         v,
         keeps,
         tt,
-        subst (λ b. Rule (stepped s 0 (either b (word + 1) n) id me.1 v keeps)) (sym (ne_eqb n word miss))
-            (steps stands maker start s r id v v at n s.homes r.log r.busy r.holder refl r.word_is r.small r.home r.out
-            (λ e. let h =
-            r.held e in (h.0, ap (λ (l : List V). get_elem? l r.holder) (set_again s.views id v at) ∙ h.1, h.2))
-            (r.each id v at) (λ j u _ e. r.each j u e) (let h = r.longest in
-            (h.0, h.1, ap (λ (l : List V). get_elem? l h.0) (set_again s.views id v at) ∙ h.2, h.3, h.4)) refl refl
-            (λ _. refl) r.made_before),
+        subst (λ b. TurnRule stands maker start (stepped s 0 (either b (word + 1) n) id me.1 v keeps)) (sym
+            (ne_eqb n word miss))
+            (stays s r id v at),
         ((λ hit. absurd (miss hit)), λ _. refl),
       ))
 
-  pub gives_turn : (slots id : ℕ) (me : M) (word : ℕ) (y : T) (e : E) (added : List E) → me.0.stage ≡ Holding
+  pub gives_turn : (slots id : ℕ) (me : Seated T E) (word : ℕ) (y : T) (e : E) (added : List E) → me.0.stage ≡ Holding
       → word ≡ length me.0.seen * 2 + 2 → me.1 ≡ (0, Some y) ∷ []
       → ((x : T) → me.0.start ≡ Some x → stands x y (me.0.seen ++ added)) → added ≡ e ∷ [] → maker e ≡ me.0.number
-      → Allows Rule slots id me 0 (λ _. word) (λ _. gave added (step slots 0 word 0 none) me word)
+      → Allows (TurnRule stands maker start) slots id me 0 (λ _. word) (λ _. gave added
+      (step slots 0 word 0 none) me word)
   gives_turn slots id me word y e added holds word_is hand stand one by s r _ at _ =
-      let v : V = me.0 in
+      let v : View T E = me.0 in
       let k = r.each id v at in
       let is = r.word_is in
       let small = r.small in
@@ -220,7 +206,7 @@ module _ {T E : Type 0} (stands : T → T → List E → Type 0) (maker : E → 
       let all : r.log ≡ v.seen = k.begins ∙ (ap (λ (l : List E). v.seen ++ l) held.2 ∙ append-nil v.seen) in
       let len : length r.log ≡ length v.seen = ap length all in
       let log' : List E = v.seen ++ added in
-      let w : V = record v { seen = log'; mine = v.mine ++ length v.seen ∷ []; stage = Resting } in
+      let w : View T E = record v { seen = log'; mine = v.mine ++ length v.seen ∷ []; stage = Resting } in
       let alone : numbers v ≡ v.number ∷ [] = ap (numbers_at v.number) holds in
       let len' : length log' ≡ length v.seen + 1 =
       length-append v.seen added ∙ ap (λ (l : List E). length v.seen + length l) one in
@@ -230,26 +216,17 @@ module _ {T E : Type 0} (stands : T → T → List E → Type 0) (maker : E → 
         w,
         gives,
         tt,
-        subst (λ (cs : List (ℕ × Option T)). Rule (stepped s 0 word id cs w gives)) (sym hand)
+        subst (λ (cs : List (ℕ × Option T)). TurnRule stands maker start (stepped s 0 word id cs w gives)) (sym hand)
             (steps stands maker start s r id v w at word (set s.homes 0 (some (Some y))) log' 0 id
             (length-set s.homes 0 (some (Some y)))
             (omega arith) (omega arith, omega arith)
             (λ _. (y, set_here s.homes 0 (some (Some y)) (omega arith), stand start start_is))
             (λ f. absurd (omega arith)) (λ f. absurd (omega arith))
-            record {
-              later = [];
-              begins = sym (append-nil log');
-              by_others = tt;
-              start_is = λ _. start_is;
-              above = k.above;
-              bare = λ g. absurd (cc);
-              spent = λ g. let t = k.spent g in absurd (omega arith);
-              heard = λ k' owner told g. absurd (cc);
-              holds = λ g. absurd (cc);
-            }
+            (knows_resting stands maker start _ id w [] refl (sym (append-nil log')) tt start_is k.above
+            (λ g. let t = k.spent g in absurd (omega arith)))
             (λ j u other f. let h = r.each j u f in
             let mine : 1 ≤ has_number (maker e) v =
-            subst (λ (n : ℕ). 1 ≤ has_number n v) (sym by) (has_one stands maker start v (λ g. absurd (cc))) in
+            subst (λ (n : ℕ). 1 ≤ has_number n v) (sym by) (has_one v (λ g. absurd (cc))) in
             let none' : times (maker e) (numbers u) ≡ 0 =
             apart stands maker start s r (maker e) id j v u at f other mine in
             record {
@@ -268,7 +245,7 @@ module _ {T E : Type 0} (stands : T → T → List E → Type 0) (maker : E → 
                     ap (λ (l : List E). l ++ added) (sym all ∙ t.1) ∙ append_assoc told t.0 added,
                     Each-append (λ (z : E). times (maker z) (owner ∷ []) ≡ 0) t.0 added t.2 (subst (ByOthers maker
                         (owner ∷ [])) (sym one) (
-                          not_in stands maker start (maker e) owner (u.number ∷ k' ∷ []) known t.3,
+                          not_in (maker e) owner (u.number ∷ k' ∷ []) known t.3,
                           tt,
                         )),
                     t.3,
@@ -276,7 +253,7 @@ module _ {T E : Type 0} (stands : T → T → List E → Type 0) (maker : E → 
                   );
               holds = λ g. let t = h.holds g in absurd (other (sym t.1 ∙ held.1));
             })
-            (id, w, at_here stands maker start s.views id v w at, (λ g. absurd (cc)), refl)
+            (id, w, at_here s.views id v w at, (λ g. absurd (cc)), refl)
             (sym alone) refl
             (λ n. let a = times-append n v.mine (length v.seen ∷ []) in let b = once_more n (length v.seen) in
             let c : once_below n (length log') ≡ once_below n (length v.seen + 1) = ap (once_below n) len' in
@@ -288,9 +265,10 @@ module _ {T E : Type 0} (stands : T → T → List E → Type 0) (maker : E → 
         ap (λ (cs : List (ℕ × Option T)). (w, Rattle.atomic_table.specs.Table.rest cs)) hand,
       )
     where
-      below : (s : St) (r : Rule s) (id : ℕ) (v : V) → get_elem? s.views id ≡ some v → maker e ≡ v.number
+      below : (s : Table T E) (r : TurnRule stands maker start s) (id : ℕ) (v : View T E)
+          → get_elem? s.views id ≡ some v → maker e ≡ v.number
           → v.stage ≢ Gone → maker e < r.made
       below s r id v at by there = dite (dec_le r.made (maker e)) (λ h. let none' = r.fresh (maker e) h in
           let mine : 1 ≤ has_number (maker e) v =
-          subst (λ (n : ℕ). 1 ≤ has_number n v) (sym by) (has_one stands maker start v there) in
+          subst (λ (n : ℕ). 1 ≤ has_number n v) (sym by) (has_one v there) in
           let t = total_at (has_number (maker e)) s.views id v at in absurd (omega arith)) (λ h. omega arith)

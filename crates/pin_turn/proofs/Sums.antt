@@ -1,8 +1,7 @@
 -- Sums over the views, when one of them changes.
-use Rattle.std.proofs.Common.{Bool, true, false, ◌||◌, ◌≡◌, ◌≢◌, ℕ, zero, suc, ◌+◌, ◌<◌, ◌≤◌, ◌⊎◌, inl, inr, ⊎_elim}
-use Rattle.std.proofs.Common.{List, [], ◌∷◌, ◌++◌, length, set, sym, refl, ap, ◌∙◌, subst, arith, eq-eqb, ne_eqb}
-use Rattle.std.proofs.Common.{length-append}
-use Rattle.std.proofs.{lemmas.Bool.Decides.nat_tests, lemmas.List.append-nil}
+use Rattle.std.proofs.Common.{Bool, cond, nat_lt, true, false, ◌||◌, ◌≡◌, ◌≢◌, ℕ, zero, suc, ◌+◌, ◌<◌, ◌≤◌, ◌⊎◌, inl}
+use Rattle.std.proofs.Common.{inr, ⊎_elim, List, [], ◌∷◌, ◌++◌, length, set, sym, refl, ap, ◌∙◌, subst, arith, eq-eqb}
+use Rattle.std.proofs.{Common.ne_eqb, Common.length-append, lemmas.Bool.Decides.nat_tests, lemmas.List.append-nil}
 use Rattle.pin_turn.specs.Counts.{Each, times, without, once_below, total, longer, shorter, of_shorter}
 use mathlib.Core.Logic.{dite}
 use mathlib.Core.Option.{some, some-injective, some-ne-none}
@@ -82,21 +81,16 @@ once_more k n = grind (arith, nat_tests)
 pub times-without : (n k : ℕ) (xs : List ℕ) → 0 < times k xs → times n (without k xs) + times n (k ∷ []) ≡ times n xs
 times-without n k [] h = absurd (omega arith)
 times-without n k (x ∷ xs) h = dite (ℕ_discrete x k)
-    (λ e. subst (λ b. times n (Rattle.std.proofs.Common.cond b xs (x ∷ without k xs)) + times n (k ∷ [])
-    ≡ times n (x ∷ xs)) (sym (eq-eqb x k e))
+    (λ e. subst (λ b. times n (cond b xs (x ∷ without k xs)) + times n (k ∷ []) ≡ times n (x ∷ xs)) (sym (eq-eqb x k e))
     (let g : times n (k ∷ []) ≡ times n (x ∷ []) = ap (λ (z : ℕ). times n (z ∷ [])) (sym e) in omega arith))
-    (λ e. subst (λ b. times n (Rattle.std.proofs.Common.cond b xs (x ∷ without k xs)) + times n (k ∷ [])
-    ≡ times n (x ∷ xs)) (sym (ne_eqb x k e))
+    (λ e. subst (λ b. times n (cond b xs (x ∷ without k xs)) + times n (k ∷ []) ≡ times n (x ∷ xs)) (sym (ne_eqb x k e))
     (let none = times_else k x e in let t = times-without n k xs (omega arith) in omega arith))
 
 pub Each-without : (P : ℕ → Type 0) (k : ℕ) (xs : List ℕ) → Each P xs → Each P (without k xs)
 Each-without P k [] h = tt
 Each-without P k (x ∷ xs) h = dite (ℕ_discrete x k)
-    (λ e. subst (λ b. Each P (Rattle.std.proofs.Common.cond b xs (x ∷ without k xs))) (sym (eq-eqb x k e)) h.1)
-    (λ e. subst (λ b. Each P (Rattle.std.proofs.Common.cond b xs (x ∷ without k xs))) (sym (ne_eqb x k e)) (
-      h.0,
-      Each-without P k xs h.1,
-    ))
+    (λ e. subst (λ b. Each P (cond b xs (x ∷ without k xs))) (sym (eq-eqb x k e)) h.1)
+    (λ e. subst (λ b. Each P (cond b xs (x ∷ without k xs))) (sym (ne_eqb x k e)) (h.0, Each-without P k xs h.1))
 
 -- where n stands in the list, what holds of each holds of n
 pub Each_times : (P : ℕ → Type 0) (n : ℕ) (xs : List ℕ) → Each P xs → 0 < times n xs → P n
@@ -109,13 +103,31 @@ Each_of P [] h = tt
 Each_of P (x ∷ xs) h = (h x (let t = times_here x in omega arith), Each_of P xs (λ n there. h n (omega arith)))
 
 module _ {A : Type 0} where
-  pub longer_cases : (xs ys : List A)
-      → (longer xs ys ≡ xs) × (length ys ≤ length xs) ⊎ (longer xs ys ≡ ys) × (length xs ≤ length ys)
-  longer_cases xs ys = dite (dec_le (length ys) (length xs))
-      (λ h. let e : Rattle.std.specs.Prelude.nat_lt (length xs) (length ys) ≡ Rattle.std.proofs.Common.false = grind
-      (arith, nat_tests) in inl (ap (λ b. Rattle.std.proofs.Common.cond b ys xs) e, h))
-      (λ h. let e : Rattle.std.specs.Prelude.nat_lt (length xs) (length ys) ≡ Rattle.std.proofs.Common.true = grind
-      (arith, nat_tests) in inr (ap (λ b. Rattle.std.proofs.Common.cond b ys xs) e, omega arith))
+  -- the first of two lists is the longer, or the second; where they are as long, the first
+  abbrev pub FirstLonger : List A → List A → ℕ → ℕ → Type 0
+  FirstLonger xs ys m n = (longer xs ys ≡ xs) × (shorter xs ys ≡ ys) × (of_shorter xs ys m n ≡ n)
+      × (length ys ≤ length xs)
+
+  abbrev pub SecondLonger : List A → List A → ℕ → ℕ → Type 0
+  SecondLonger xs ys m n = (longer xs ys ≡ ys) × (shorter xs ys ≡ xs) × (of_shorter xs ys m n ≡ m)
+      × (length xs ≤ length ys)
+
+  pub sorted_cases : (xs ys : List A) (m n : ℕ) → FirstLonger xs ys m n ⊎ SecondLonger xs ys m n
+  sorted_cases xs ys m n = dite (dec_le (length ys) (length xs))
+      (λ h. let e : nat_lt (length xs) (length ys) ≡ false = grind (arith, nat_tests) in
+      inl (
+        ap (λ b. cond b ys xs) e,
+        ap (λ b. cond b xs ys) e,
+        ap (λ b. cond b m n) e,
+        h,
+      ))
+      (λ h. let e : nat_lt (length xs) (length ys) ≡ true = grind (arith, nat_tests) in
+      inr (
+        ap (λ b. cond b ys xs) e,
+        ap (λ b. cond b xs ys) e,
+        ap (λ b. cond b m n) e,
+        omega arith,
+      ))
 
   -- of two beginnings of one list, the shorter begins the longer
   pub shorter_begins : (xs ys us bs : List A) → xs ++ us ≡ ys ++ bs → length xs ≤ length ys
@@ -128,18 +140,6 @@ module _ {A : Type 0} where
       let t = shorter_begins xs ys us bs tail (omega arith) in
       (t.0, (λ i. sym head i ∷ t.1 i), t.2)
 
-  pub shorter_cases : (xs ys : List A) (a b : ℕ) → (shorter xs ys ≡ ys) × (of_shorter xs ys a b ≡ b)
-      × (length ys ≤ length xs) ⊎ (shorter xs ys ≡ xs) × (of_shorter xs ys a b ≡ a) × (length xs ≤ length ys)
-  shorter_cases xs ys m n = dite (dec_le (length ys) (length xs))
-      (λ h. let e : Rattle.std.specs.Prelude.nat_lt (length xs) (length ys) ≡ false = grind (arith, nat_tests) in
-      inl (ap (λ b. Rattle.std.proofs.Common.cond b xs ys) e, ap (λ b. Rattle.std.proofs.Common.cond b m n) e, h))
-      (λ h. let e : Rattle.std.specs.Prelude.nat_lt (length xs) (length ys) ≡ true = grind (arith, nat_tests) in inr (
-        ap
-            (λ b. Rattle.std.proofs.Common.cond b xs ys) e,
-        ap (λ b. Rattle.std.proofs.Common.cond b m n) e,
-        omega arith,
-      ))
-
   pub whole_if_long : (xs us log : List A) → log ≡ xs ++ us → length log ≤ length xs → xs ≡ log
   whole_if_long xs [] log e h = sym (append-nil xs) ∙ sym e
   whole_if_long xs (u ∷ us) log e h =
@@ -148,10 +148,12 @@ module _ {A : Type 0} where
       absurd (omega arith)
 
   pub long_enough : (xs ys : List A) → (length xs ≤ length (longer xs ys)) × (length ys ≤ length (longer xs ys))
-  long_enough xs ys = ⊎_elim (λ (t : (longer xs ys ≡ xs) × (length ys ≤ length xs)).
-      let e : length (longer xs ys) ≡ length xs = ap length t.0 in let h = t.1 in (omega arith, omega arith))
-      (λ (t : (longer xs ys ≡ ys) × (length xs ≤ length ys)). let e : length (longer xs ys)
-      ≡ length ys = ap length t.0 in let h = t.1 in (omega arith, omega arith)) (longer_cases xs ys)
+  long_enough xs ys = ⊎_elim (λ (c : FirstLonger xs ys 0 0). long xs c.0 (omega arith) c.3)
+      (λ (c : SecondLonger xs ys 0 0). long ys c.0 c.3 (omega arith)) (sorted_cases xs ys 0 0)
+    where
+      long : (zs : List A) → longer xs ys ≡ zs → length xs ≤ length zs → length ys ≤ length zs
+          → (length xs ≤ length (longer xs ys)) × (length ys ≤ length (longer xs ys))
+      long zs e h g = let same : length (longer xs ys) ≡ length zs = ap length e in (omega arith, omega arith)
 
   pub Each-any : (P : A → Type 0) → ((x : A) → P x) → (xs : List A) → Each P xs
   Each-any P f [] = tt
@@ -180,33 +182,12 @@ pub or_cases : (a b : Bool) → a || b ≡ true → (a ≡ true) ⊎ (b ≡ true
 or_cases true b h = inl refl
 or_cases false b h = inr h
 
-module _ {A : Type 0} where
-  -- which of two lists is the longer, and which the shorter
-  pub sorted_cases : (xs ys : List A) (m n : ℕ)
-      → (longer xs ys ≡ xs) × (shorter xs ys ≡ ys) × (of_shorter xs ys m n ≡ n) × (length ys ≤ length xs)
-      ⊎ (longer xs ys ≡ ys) × (shorter xs ys ≡ xs) × (of_shorter xs ys m n ≡ m) × (length xs ≤ length ys)
-  sorted_cases xs ys m n = dite (dec_le (length ys) (length xs))
-      (λ h. let e : Rattle.std.specs.Prelude.nat_lt (length xs) (length ys) ≡ false = grind (arith, nat_tests) in
-      inl (
-        ap (λ b. Rattle.std.proofs.Common.cond b ys xs) e,
-        ap (λ b. Rattle.std.proofs.Common.cond b xs ys) e,
-        ap (λ b. Rattle.std.proofs.Common.cond b m n) e,
-        h,
-      ))
-      (λ h. let e : Rattle.std.specs.Prelude.nat_lt (length xs) (length ys) ≡ true = grind (arith, nat_tests) in
-      inr (
-        ap (λ b. Rattle.std.proofs.Common.cond b ys xs) e,
-        ap (λ b. Rattle.std.proofs.Common.cond b xs ys) e,
-        ap (λ b. Rattle.std.proofs.Common.cond b m n) e,
-        omega arith,
-      ))
-
 length-without : (k : ℕ) (xs : List ℕ) → 0 < times k xs → length (without k xs) + 1 ≡ length xs
 length-without k [] h = absurd (omega arith)
 length-without k (x ∷ xs) h = dite (ℕ_discrete x k)
-    (λ e. subst (λ b. length (Rattle.std.proofs.Common.cond b xs (x ∷ without k xs)) + 1 ≡ length (x ∷ xs))
+    (λ e. subst (λ b. length (cond b xs (x ∷ without k xs)) + 1 ≡ length (x ∷ xs))
     (sym (eq-eqb x k e)) (omega arith))
-    (λ e. subst (λ b. length (Rattle.std.proofs.Common.cond b xs (x ∷ without k xs)) + 1 ≡ length (x ∷ xs))
+    (λ e. subst (λ b. length (cond b xs (x ∷ without k xs)) + 1 ≡ length (x ∷ xs))
     (sym (ne_eqb x k e))
     (let none' = times_else k x e in let t = length-without k xs (omega arith) in omega arith))
 
@@ -229,8 +210,8 @@ counted_length (suc n) xs h =
 
 -- a seat that was split off and joined again leaves `away` as it was
 pub without_last : (n : ℕ) (xs : List ℕ) → Each (λ k. k < n) xs → without n (xs ++ n ∷ []) ≡ xs
-without_last n [] h = ap (λ b. Rattle.std.proofs.Common.cond b [] (n ∷ [])) (eq-eqb n n refl)
-without_last n (x ∷ xs) h = ap (λ b. Rattle.std.proofs.Common.cond b (xs ++ n ∷ []) (x ∷ without n (xs ++ n ∷ [])))
+without_last n [] h = ap (λ b. cond b [] (n ∷ [])) (eq-eqb n n refl)
+without_last n (x ∷ xs) h = ap (λ b. cond b (xs ++ n ∷ []) (x ∷ without n (xs ++ n ∷ [])))
     (ne_eqb x n (λ e. let low = h.0 in omega arith)) ∙ ap (λ l. x ∷ l) (without_last n xs h.1)
 
 pub times_last : (n : ℕ) (xs : List ℕ) → 0 < times n (xs ++ n ∷ [])

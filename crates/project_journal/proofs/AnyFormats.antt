@@ -1,15 +1,12 @@
 -- A header of each version has a format that a header may have.
-use Rattle.std.proofs.Common.{◌≡◌, ◌⊎◌, ℕ, zero, suc, ◌-◌, ◌%◌, ◌^◌, ◌<◌, ◌≤◌, min, max, List, [], ◌∷◌, ◌++◌, None, eqb}
-use Rattle.std.proofs.Common.{refl, sym, arith, subst, inl, inr, ⊎_elim, Bool, true, false}
-use Rattle.std.proofs.lemmas.Bool.{eqb-true}
-use Rattle.std.specs.Prelude.{if◌then◌else◌, nat_lt}
-use Rattle.project_journal.specs.Header.{Form, IsForm, IsFormat, first_failed, number_tests, base_tests, base_tests_in}
-use Rattle.project_journal.specs.Header.{last_tests, the_zeros, base_fields, base_header_tests, depth_in}
-use Rattle.project_journal.specs.Header.{wide_header_tests, wide_tests}
-use Rattle.project_journal.specs.Journal.{Log, HasLog, IsHeader}
-use Rattle.project_journal.specs.{Fields.field, declared.base.Base.Base, declared.fault.Damaged.Damaged}
-use Rattle.disk_model.specs.Disk.{Files}
-use Rattle.project_journal.proofs.{Formats.passed, Formats.is_size, Seen.both_pass}
+use Rattle.project_journal.proofs.Common.{◌≡◌, ◌⊎◌, ℕ, zero, suc, ◌-◌, ◌^◌, ◌<◌, ◌≤◌, min, max, List, [], ◌∷◌, ◌++◌}
+use Rattle.project_journal.proofs.Common.{None, eqb, refl, arith, subst, inl, inr, Bool, true, false, eqb-true}
+use Rattle.project_journal.proofs.Common.{if◌then◌else◌, nat_lt, Form, IsForm, IsFormat, first_failed, base_tests}
+use Rattle.project_journal.proofs.Common.{last_tests, base_fields, no_base, wide_tests, Log, HasLog, IsHeader, field}
+use Rattle.project_journal.proofs.Common.{Base, Damaged, Files}
+use Rattle.std.proofs.Common.{rules}
+use Rattle.project_journal.specs.Header.{number_tests, base_tests_in, the_zeros, depth_in}
+use Rattle.project_journal.proofs.{Formats.passed, Formats.is_size, Parses.by_form, Seen.both_pass, Seen.base_passes}
 
 -- no version has more points than the last one
 depth_bounds : (version : ℕ) → (1 ≤ depth_in version) × (depth_in version ≤ 65536)
@@ -46,32 +43,24 @@ numbers_format version head e =
 -- of each version
 pub numbers_valid : (form : Form) (head : List ℕ) → IsForm form → first_failed (form.tests head) ≡ None
     → IsFormat (field 9 4 head) (field 13 4 head) (field 17 4 head)
-numbers_valid form head known valid = ⊎_elim
-    (λ one.
-    let is = subst (λ (f : Form). first_failed (f.tests head) ≡ None) one valid in
-    numbers_format 1 head (both_pass (number_tests 1 head) (the_zeros head) is).0)
-    (λ later. ⊎_elim
-    (λ two.
-    let is = subst (λ (f : Form). first_failed (f.tests head) ≡ None) two valid in
-    numbers_format 2 head (both_pass (number_tests 2 head) (base_tests head ++ last_tests head) is).0)
-    (λ three.
-    let is = subst (λ (f : Form). first_failed (f.tests head) ≡ None) three valid in
-    numbers_format 3 head (both_pass (number_tests 3 head) (base_tests head ++ wide_tests head) is).0)
-    later)
-    known
+numbers_valid form head known =
+    by_form (λ (f : Form). first_failed (f.tests head) ≡ None
+    → IsFormat (field 9 4 head) (field 13 4 head) (field 17 4 head)) form known
+    (λ is. numbers_format 1 head (both_pass (number_tests 1 head) (the_zeros head) is).0)
+    (λ is. numbers_format 2 head (both_pass (number_tests 2 head) (base_tests head ++ last_tests head) is).0)
+    (λ is. numbers_format 3 head (both_pass (number_tests 3 head) (base_tests head ++ wide_tests head) is).0)
+
+-- the numbers of a header's bytes under other names
+pub format_as : {r s d rate block_size depth : ℕ} → IsFormat r s d → r ≡ rate → s ≡ block_size → d ≡ depth
+    → IsFormat rate block_size depth
+format_as {r = r} {s = s} {block_size = m} {depth = n} format rate block_size depth =
+    subst (λ (k : ℕ). IsFormat k m n) rate
+    (subst (λ (k : ℕ). IsFormat r k n) block_size (subst (λ (k : ℕ). IsFormat r s k) depth format))
 
 pub header_format : (form : Form) (head : List ℕ) (log : Log) → IsForm form → IsHeader form head log
     → IsFormat log.rate log.block_size log.depth
 header_format form head log known is =
-    let format = numbers_valid form head known is.valid in
-    record {
-      rate_least = omega (arith, format.rate_least, is.rate);
-      even = subst (λ (m : ℕ). m % 2 ≡ 0) is.block_size format.even;
-      block_least = omega (arith, format.block_least, is.block_size);
-      block_most = omega (arith, format.block_most, is.block_size);
-      depth_least = omega (arith, format.depth_least, is.depth);
-      depth_most = omega (arith, format.depth_most, is.depth);
-    }
+    format_as (numbers_valid form head known is.valid) is.rate is.block_size is.depth
 
 pub any_format : (form : Form) (log : Log) (c : Files) → IsForm form → HasLog form log c
     → IsFormat log.rate log.block_size log.depth
@@ -85,6 +74,9 @@ pub record HasBase (b : Base) : Type 0 where
   pub block_most : b.next_block ≤ 2 ^ 62
   pub track_least : 1 ≤ b.next_track
   pub track_most : b.next_track ≤ 2 ^ 62
+
+none_bounds : HasBase no_base
+none_bounds = search (rules, arith)
 
 base_bounds : (head : List ℕ) → first_failed (base_tests head) ≡ None → HasBase (base_fields head)
 unfolding base_tests_in
@@ -137,52 +129,21 @@ base_counts head e =
     let cursor : min (field 53 4 head - 1) (field 57 4 head) ≡ field 57 4 head = pass.1.1.1.1.1.1.1.1.1.1.0 in
     record { few = omega (arith, count); current = zero_or_below (field 53 4 head) (field 57 4 head) cursor }
 
-second_base : (head : List ℕ) → first_failed (base_header_tests head) ≡ None → first_failed (base_tests head) ≡ None
-second_base head valid =
-    (both_pass (base_tests head) (last_tests head)
-    (both_pass (number_tests 2 head) (base_tests head ++ last_tests head) valid).1).0
-
-third_base : (head : List ℕ) → first_failed (wide_header_tests head) ≡ None → first_failed (base_tests head) ≡ None
-third_base head valid =
-    (both_pass (base_tests head) (wide_tests head)
-    (both_pass (number_tests 3 head) (base_tests head ++ wide_tests head) valid).1).0
-
 pub base_valid : (form : Form) (head : List ℕ) → IsForm form → first_failed (form.tests head) ≡ None
     → HasBase (form.base_at head)
-base_valid form head known valid = ⊎_elim
-    (λ one. subst (λ (f : Form). HasBase (f.base_at head)) (sym one) (record {
-      generation = omega arith;
-      commit = omega arith;
-      block_least = omega arith;
-      block_most = omega arith;
-      track_least = omega arith;
-      track_most = omega arith;
-    }))
-    (λ later. ⊎_elim
-    (λ two.
-    let is = subst (λ (f : Form). first_failed (f.tests head) ≡ None) two valid in
-    subst (λ (f : Form). HasBase (f.base_at head)) (sym two) (base_bounds head (second_base head is)))
-    (λ three.
-    let is = subst (λ (f : Form). first_failed (f.tests head) ≡ None) three valid in
-    subst (λ (f : Form). HasBase (f.base_at head)) (sym three) (base_bounds head (third_base head is)))
-    later)
-    known
+base_valid form head known =
+    by_form (λ (f : Form). first_failed (f.tests head) ≡ None → HasBase (f.base_at head)) form known
+    (λ is. none_bounds)
+    (λ is. base_bounds head (base_passes 2 head (last_tests head) is))
+    (λ is. base_bounds head (base_passes 3 head (wide_tests head) is))
 
 pub counts_valid : (form : Form) (head : List ℕ) → IsForm form → first_failed (form.tests head) ≡ None
     → HasCounts (field 17 4 head) (form.base_at head)
-counts_valid form head known valid = ⊎_elim
-    (λ one. subst (λ (f : Form). HasCounts (field 17 4 head) (f.base_at head)) (sym one)
-    (record { few = omega arith; current = inl refl }))
-    (λ later. ⊎_elim
-    (λ two.
-    let is = subst (λ (f : Form). first_failed (f.tests head) ≡ None) two valid in
-    subst (λ (f : Form). HasCounts (field 17 4 head) (f.base_at head)) (sym two) (base_counts head (second_base head is)))
-    (λ three.
-    let is = subst (λ (f : Form). first_failed (f.tests head) ≡ None) three valid in
-    subst (λ (f : Form). HasCounts (field 17 4 head) (f.base_at head)) (sym three)
-    (base_counts head (third_base head is)))
-    later)
-    known
+counts_valid form head known =
+    by_form (λ (f : Form). first_failed (f.tests head) ≡ None → HasCounts (field 17 4 head) (f.base_at head)) form known
+    (λ is. record { few = omega arith; current = inl refl })
+    (λ is. base_counts head (base_passes 2 head (last_tests head) is))
+    (λ is. base_counts head (base_passes 3 head (wide_tests head) is))
 
 pub any_base : (form : Form) (log : Log) (c : Files) → IsForm form → HasLog form log c → HasBase log.base
 any_base form log c known has =

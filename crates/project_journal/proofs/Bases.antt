@@ -1,11 +1,9 @@
 -- What is said of the points of a header.
-use Rattle.std.proofs.Common.{◌≡◌, ℕ, List, [], ◌∷◌, ◌++◌, length, map, take, drop, refl, sym, ◌∙◌, ap, arith}
-use Rattle.std.proofs.Common.{append_assoc, length-append, length-drop, take-append-drop}
-use Rattle.std.proofs.lemmas.List.{take_at, drop_at, length-take-le}
-use Rattle.std.specs.List.{flat_map, AllByRecursion}
-use Rattle.byteorder.specs.Endian.{little_number}
-use Rattle.project_journal.specs.Journal.{Log, Row, row, bytes_in, IsRow, IsHeader, points_size, header_end}
-use Rattle.project_journal.specs.{Header.Form, Header.IsForm, Header.no_base, Header.form_1, declared.base.Base.Base}
+use Rattle.project_journal.proofs.Common.{◌≡◌, ℕ, ◌≤◌, List, [], ◌∷◌, ◌++◌, length, map, take, drop, refl, sym, ◌∙◌, ap}
+use Rattle.project_journal.proofs.Common.{arith, append_assoc, length-append, length-drop, take-append-drop, take_at}
+use Rattle.project_journal.proofs.Common.{drop_at, length-take-le, flat_map, AllByRecursion, little_number, Log, Row}
+use Rattle.project_journal.proofs.Common.{row, bytes_in, IsRow, IsHeader, points_size, header_end, Form, IsForm}
+use Rattle.project_journal.proofs.Common.{no_base, form_1, Base}
 use Rattle.project_journal.proofs.Parses.{form_base}
 
 -- two cuts of one list at the same place
@@ -63,6 +61,34 @@ pub record SameRows (xs ys : List Row) (x y : List ℕ) : Type 0 where
   pub bytes : flat_map row xs ≡ flat_map row ys
   pub rest : x ≡ y
 
+-- two rows at the front of some bytes are one
+pub record SameRow (a b : Row) (x y : List ℕ) : Type 0 where
+  pub size : a.size ≡ b.size
+  pub bytes : a.bytes ≡ b.bytes
+  pub rest : x ≡ y
+
+pub same_row : (a b : Row) (xs ys : List Row) (x y : List ℕ) → IsRow a → IsRow b
+    → flat_map row (a ∷ xs) ++ x ≡ flat_map row (b ∷ ys) ++ y
+    → SameRow a b (flat_map row xs ++ x) (flat_map row ys ++ y)
+same_row a b xs ys x y p q e =
+    let f : a.size ++ (a.bytes ++ (flat_map row xs ++ x)) ≡ b.size ++ (b.bytes ++ (flat_map row ys ++ y)) =
+    sym (append_assoc a.size a.bytes (flat_map row xs ++ x)) ∙ sym (append_assoc (row a) (flat_map row xs) x) ∙ e
+    ∙ append_assoc (row b) (flat_map row ys) y ∙ append_assoc b.size b.bytes (flat_map row ys ++ y) in
+    let four : length a.size ≡ length b.size = p.size ∙ sym q.size in
+    let size : a.size ≡ b.size = front_same a.size b.size _ _ four f in
+    let g : a.bytes ++ (flat_map row xs ++ x) ≡ b.bytes ++ (flat_map row ys ++ y) =
+    rest_same a.size b.size _ _ four f in
+    let long : length a.bytes ≡ length b.bytes = sym p.bytes ∙ ap (little_number 4) size ∙ q.bytes in
+    record { size = size; bytes = front_same a.bytes b.bytes _ _ long g; rest = rest_same a.bytes b.bytes _ _ long g }
+
+pub more_rows : {a b : Row} {xs ys : List Row} {x y v w : List ℕ} → SameRow a b v w → SameRows xs ys x y
+    → SameRows (a ∷ xs) (b ∷ ys) x y
+more_rows one more = record {
+  points = λ i. one.bytes i ∷ more.points i;
+  bytes = λ i. (one.size i ++ one.bytes i) ++ more.bytes i;
+  rest = more.rest;
+}
+
 -- this many rows, each after its length, stand at the front of some bytes in one way at most
 same_rows : (xs ys : List Row) (x y : List ℕ) → length xs ≡ length ys → AllByRecursion IsRow xs
     → AllByRecursion IsRow ys → flat_map row xs ++ x ≡ flat_map row ys ++ y → SameRows xs ys x y
@@ -70,23 +96,39 @@ same_rows [] [] x y len p q e = record { points = refl; bytes = refl; rest = e }
 same_rows [] (b ∷ ys) x y len p q e = absurd (omega (arith, len))
 same_rows (a ∷ xs) [] x y len p q e = absurd (omega (arith, len))
 same_rows (a ∷ xs) (b ∷ ys) x y len p q e =
-    let xs-bytes = flat_map row xs in
-    let ys-bytes = flat_map row ys in
-    let f : a.size ++ (a.bytes ++ (xs-bytes ++ x)) ≡ b.size ++ (b.bytes ++ (ys-bytes ++ y)) =
-    sym (append_assoc a.size a.bytes (xs-bytes ++ x)) ∙ sym (append_assoc (row a) xs-bytes x) ∙ e
-    ∙ append_assoc (row b) ys-bytes y ∙ append_assoc b.size b.bytes (ys-bytes ++ y) in
-    let four : length a.size ≡ length b.size = p.0.size ∙ sym q.0.size in
-    let size : a.size ≡ b.size = front_same a.size b.size _ _ four f in
-    let g : a.bytes ++ (xs-bytes ++ x) ≡ b.bytes ++ (ys-bytes ++ y) = rest_same a.size b.size _ _ four f in
-    let len-bytes : length a.bytes ≡ length b.bytes = sym p.0.bytes ∙ ap (little_number 4) size ∙ q.0.bytes in
-    let bytes : a.bytes ≡ b.bytes = front_same a.bytes b.bytes _ _ len-bytes g in
-    let more = same_rows xs ys x y (omega (arith, len)) p.1 q.1 (rest_same a.bytes b.bytes _ _ len-bytes g) in
+    let one = same_row a b xs ys x y p.0 q.0 e in
+    more_rows one (same_rows xs ys x y (omega (arith, len)) p.1 q.1 one.rest)
+
+-- the fields before the rows, where bytes begin with two headers, and what stands after the fields
+pub record SameFields (n : ℕ) (g h v w : List ℕ) : Type 0 where
+  pub fields : take n g ≡ take n h
+  pub rest : v ≡ w
+
+cut_at : (n : ℕ) (g xs x : List ℕ) → drop n g ≡ xs → g ++ x ≡ take n g ++ (xs ++ x)
+cut_at n g xs x is = ap (λ (l : List ℕ). l ++ x) (sym (take-append-drop n g)) ∙ append_assoc (take n g) (drop n g) x
+    ∙ ap (λ (l : List ℕ). take n g ++ (l ++ x)) is
+
+pub same_fields : (n : ℕ) (g h xs ys x y : List ℕ) → n ≤ length g → n ≤ length h → drop n g ≡ xs → drop n h ≡ ys
+    → g ++ x ≡ h ++ y → SameFields n g h (xs ++ x) (ys ++ y)
+same_fields n g h xs ys x y g-least h-least g-rest h-rest e =
+    let long : length (take n g) ≡ length (take n h) = length-take-le n g g-least ∙ sym (length-take-le n h h-least) in
+    let whole : take n g ++ (xs ++ x) ≡ take n h ++ (ys ++ y) =
+    sym (cut_at n g xs x g-rest) ∙ e ∙ cut_at n h ys y h-rest in
     record {
-      points = ap (λ (l : List ℕ). l ∷ map bytes_in xs) bytes ∙ ap (λ (l : List (List ℕ)). b.bytes ∷ l) more.points;
-      bytes = ap (λ (l : List ℕ). (l ++ a.bytes) ++ xs-bytes) size ∙ ap (λ (l : List ℕ). (b.size ++ l) ++ xs-bytes) bytes
-          ∙ ap (λ (l : List ℕ). row b ++ l) more.bytes;
-      rest = more.rest;
+      fields = front_same (take n g) (take n h) _ _ long whole;
+      rest = rest_same (take n g) (take n h) _ _ long whole;
     }
+
+-- the same fields and the same rows after them
+pub same_front : (n : ℕ) (g h xs ys : List ℕ) → take n g ≡ take n h → drop n g ≡ xs → drop n h ≡ ys → xs ≡ ys → g ≡ h
+same_front n g h xs ys fields g-rest h-rest rows =
+    let rest : drop n g ≡ drop n h = g-rest ∙ rows ∙ sym h-rest in
+    sym (take-append-drop n g) ∙ (λ i. fields i ++ rest i) ∙ take-append-drop n h
+
+pub same_base : (form : Form) (g h : List ℕ) → IsForm form → take form.header_size g ≡ take form.header_size h
+    → form.base_at g ≡ form.base_at h
+same_base form g h known fields = sym (form_base form form.header_size g known (omega arith)) ∙ ap form.base_at fields
+    ∙ form_base form form.header_size h known (omega arith)
 
 pub record SameHead (a b : Log) (g h x y : List ℕ) : Type 0 where
   pub head : g ≡ h
@@ -98,26 +140,12 @@ pub record SameHead (a b : Log) (g h x y : List ℕ) : Type 0 where
 pub same_head : (form : Form) (a b : Log) (g h x y : List ℕ) → IsForm form → IsHeader form g a → IsHeader form h b
     → g ++ x ≡ h ++ y → SameHead a b g h x y
 same_head form a b g h x y known p q e =
-    let n = form.header_size in
-    let g-fields = take n g in
-    let h-fields = take n h in
-    let g-parts : g ≡ g-fields ++ flat_map row p.rows =
-    sym (take-append-drop n g) ∙ ap (λ (l : List ℕ). g-fields ++ l) p.parts in
-    let h-parts : h ≡ h-fields ++ flat_map row q.rows =
-    sym (take-append-drop n h) ∙ ap (λ (l : List ℕ). h-fields ++ l) q.parts in
-    let whole : g-fields ++ (flat_map row p.rows ++ x) ≡ h-fields ++ (flat_map row q.rows ++ y) =
-    sym (append_assoc g-fields (flat_map row p.rows) x) ∙ ap (λ (l : List ℕ). l ++ x) (sym g-parts) ∙ e
-    ∙ ap (λ (l : List ℕ). l ++ y) h-parts ∙ append_assoc h-fields (flat_map row q.rows) y in
-    let long : length g-fields ≡ length h-fields =
-    length-take-le n g p.least ∙ sym (length-take-le n h q.least) in
-    let fields : g-fields ≡ h-fields = front_same g-fields h-fields _ _ long whole in
-    let base : a.base ≡ b.base = sym p.base ∙ sym (form_base form n g known (omega arith)) ∙ ap form.base_at fields
-    ∙ form_base form n h known (omega arith) ∙ q.base in
+    let first = same_fields form.header_size g h _ _ x y p.least q.least p.parts q.parts e in
+    let base : a.base ≡ b.base = sym p.base ∙ same_base form g h known first.fields ∙ q.base in
     let rows = same_rows p.rows q.rows x y (p.count ∙ ap (λ (z : Base). z.count) base ∙ sym q.count) p.each q.each
-    (rest_same g-fields h-fields _ _ long whole) in
+    first.rest in
     record {
-      head = g-parts ∙ ap (λ (l : List ℕ). l ++ flat_map row p.rows) fields
-          ∙ ap (λ (l : List ℕ). h-fields ++ l) rows.bytes ∙ sym h-parts;
+      head = same_front form.header_size g h _ _ first.fields p.parts q.parts rows.bytes;
       base = base;
       points = sym p.points ∙ rows.points ∙ q.points;
       rest = rows.rest;

@@ -1,20 +1,15 @@
 -- The choice of a file, by the front of each.
-use Rattle.std.proofs.Common.{◌≡◌, inl, inr, ℕ, zero, suc, ◌^◌, ◌≤◌, min, Option, Some, None, Result, Ok, Err, List, []}
-use Rattle.std.proofs.Common.{◌∷◌, ◌++◌, length, take, drop, refl, sym, ◌∙◌, ap, subst, arith, if◌then◌else◌, Bool}
-use Rattle.std.proofs.Common.{true, false}
-use Rattle.std.proofs.lemmas.Bool.{eq-eqb}
-use Rattle.std.proofs.lemmas.List.{get_or-take, length-take, take_at, take_min}
-use Rattle.std.specs.Prelude.{◌==◌}
-use Rattle.disk_model.specs.Disk.{Files, bytes_of}
-use Rattle.project_journal.specs.declared.fault.JournalFault.TheVariants.{Absent, Exists, Damaged, SpaceSpent}
-use Rattle.project_journal.specs.declared.fault.JournalFault.TheVariants.{DiskFault, NoMemory}
-use Rattle.project_journal.specs.Choice.{FailsIn, IsOlder, IsPicked, choice_tests, generation_at, newer_test}
-use Rattle.project_journal.specs.Choice.{other_file}
-use Rattle.project_journal.specs.Header.{IsProject, first_failed, form_of}
-use Rattle.project_journal.specs.Opening.{Chooses, ChoosesSome, Opens, OpensSome, StartsIn, StartsSome, two_files}
+use Rattle.project_journal.proofs.Common.{◌≡◌, inl, inr, ℕ, zero, suc, ◌^◌, ◌≤◌, min, Option, Some, None, Result, Ok}
+use Rattle.project_journal.proofs.Common.{Err, List, [], ◌∷◌, ◌++◌, length, take, drop, refl, sym, ◌∙◌, ap, subst}
+use Rattle.project_journal.proofs.Common.{arith, Bool, true, false, eq-eqb, get_or-take, length-take, take_at, take_min}
+use Rattle.project_journal.proofs.Common.{◌==◌, Files, bytes_of, Absent, Exists, SpaceSpent, DiskFault, NoMemory}
+use Rattle.project_journal.proofs.Common.{FailsIn, IsOlder, IsPicked, newer_test, other_file, IsProject, first_failed}
+use Rattle.project_journal.proofs.Common.{form_of, Chooses, Opens, StartsIn, two_files, Reader, field, differ}
+use Rattle.std.proofs.Common.{if◌then◌else◌}
+use Rattle.project_journal.specs.declared.fault.JournalFault.TheVariants.{Damaged}
+use Rattle.project_journal.specs.Choice.{choice_tests, generation_at}
+use Rattle.project_journal.specs.Opening.{ChoosesSome, OpensSome, StartsSome}
 use Rattle.project_journal.specs.{declared.fault.Damaged.Damaged as Fault, declared.fault.JournalFault.JournalFault}
-use Rattle.project_journal.specs.{declared.reader.Reader.Reader, Fields.field}
-use Rattle.pcm_base.proofs.ListFacts.{differ}
 use Rattle.project_journal.proofs.Parses.{field_take}
 
 -- what is read at the front of a file

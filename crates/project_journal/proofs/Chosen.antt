@@ -1,12 +1,9 @@
 -- A disk has one journal at most, whichever file and version it is in.
-use Rattle.std.proofs.Common.{◌≡◌, ⊎_elim, ℕ, ◌<◌, ◌≤◌, List, ◌∷◌, ◌++◌, sym, ◌∙◌, ap, subst, arith, append_assoc}
-use Rattle.std.proofs.lemmas.Bool.{cases_eq}
-use Rattle.std.specs.List.{flat_map}
-use Rattle.disk_model.specs.Disk.{Files, bytes_of}
-use Rattle.project_journal.specs.Header.{Form, IsForm, IsProject, form_of}
-use Rattle.project_journal.specs.{Choice.HasNoNewer, Choice.other_file, Choice.generation_at, Fields.field, Journal.Log}
-use Rattle.project_journal.specs.{Journal.entry, Journal.HasLog}
-use Rattle.project_journal.proofs.Seen.{log_seen, form_by, least_head, field_front}
+use Rattle.project_journal.proofs.Common.{◌≡◌, ⊎_elim, ℕ, ◌<◌, ◌≤◌, ◌∷◌, sym, ◌∙◌, ap, subst, arith, cases_eq, Files}
+use Rattle.project_journal.proofs.Common.{bytes_of, Form, IsForm, IsProject, form_of, HasNoNewer, other_file, field}
+use Rattle.project_journal.proofs.Common.{Log, HasLog}
+use Rattle.project_journal.specs.{Choice.generation_at}
+use Rattle.project_journal.proofs.Seen.{log_seen, form_by, header_first, least_head, field_front}
 use Rattle.project_journal.proofs.{Kept.is_project, Once.log_once, Parses.form_least}
 
 -- a disk that has a journal has a project in its file
@@ -18,15 +15,12 @@ pub generation_is : (form : Form) (log : Log) (c : Files) → IsForm form → Ha
     → generation_at (bytes_of (c form.file)) ≡ log.base.generation
 generation_is form log c known has = (log_seen form has.front log form.file c known has.spelled has.shut).is
 
-version_here : (form : Form) (log : Log) (c : Files) → IsForm form → (has : HasLog form log c)
+pub version_here : (form : Form) (log : Log) (c : Files) → IsForm form → (has : HasLog form log c)
     → field 5 4 (bytes_of (c form.file)) ≡ field 5 4 has.spelled.head
 version_here form log c known has =
     let is = has.spelled in
-    let rest = flat_map entry is.entries ++ 0 ∷ has.shut.0 in
-    let bytes : bytes_of (c form.file) ≡ is.head ++ rest =
-    ap bytes_of has.shut.1 ∙ ap (λ (l : List ℕ). l ++ 0 ∷ has.shut.0) is.parts
-    ∙ append_assoc is.head (flat_map entry is.entries) (0 ∷ has.shut.0) in
-    ap (field 5 4) bytes ∙ field_front 5 4 is.head rest (omega arith) (least_head form is.head log known is.header)
+    ap (field 5 4) (header_first is _ (0 ∷ has.shut.0) (ap bytes_of has.shut.1))
+    ∙ field_front 5 4 is.head _ (omega arith) (least_head form is.head log known is.header)
 
 pub record IsOne (f g : Form) (a b : Log) : Type 0 where
   pub form : f ≡ g

@@ -1,19 +1,16 @@
 -- Bytes that begin with the fields of a header and points: one point more, and all of them.
-use Rattle.std.proofs.Common.{◌≡◌, ℕ, zero, suc, ltb, ◌+◌, ◌-◌, ◌<◌, ◌≤◌, inl, inr, Some, List, [], ◌∷◌, ◌++◌, length}
-use Rattle.std.proofs.Common.{map, take, drop, refl, sym, ◌∙◌, ap, subst, arith, ◌%◌, append_assoc, length-append}
-use Rattle.std.proofs.Common.{length-drop}
-use Rattle.std.proofs.lemmas.List.{append-nil, map-append, get_or_append_left, length-map, drop-append-le}
-use Rattle.std.specs.List.{flat_map, AllByRecursion}
-use Rattle.byteorder.specs.Endian.{little_number}
-use Rattle.project_journal.specs.declared.records.Next.TheVariants.{Whole, Shut, Early}
-use Rattle.project_journal.specs.Header.{Form, IsForm, IsFormat, first_failed}
-use Rattle.project_journal.specs.Journal.{Contents, Row, row, bytes_in, IsRow, IsHeaded, IsCut, IsRead, body_at}
-use Rattle.project_journal.specs.Journal.{next_point, header_end, placed, points_size}
-use Rattle.project_journal.specs.{declared.fault.Damaged.Damaged, declared.records.Next.Next, Fields.field}
-use Rattle.project_journal.specs.{declared.base.Base.Base, Reader.IsBegun}
-use Rattle.project_journal.proofs.AnyFormats.{HasBase, HasCounts, base_valid, counts_valid, numbers_valid}
+use Rattle.project_journal.proofs.Common.{◌≡◌, ℕ, zero, suc, ltb, ◌+◌, ◌-◌, ◌<◌, ◌≤◌, inl, inr, Option, Some, List, []}
+use Rattle.project_journal.proofs.Common.{◌∷◌, ◌++◌, length, map, take, drop, refl, sym, ◌∙◌, ap, subst, arith}
+use Rattle.project_journal.proofs.Common.{append_assoc, length-append, length-drop, append-nil, map-append}
+use Rattle.project_journal.proofs.Common.{get_or_append_left, length-map, flat_map, AllByRecursion, little_number}
+use Rattle.project_journal.proofs.Common.{Whole, Shut, Early, Form, IsForm, IsFormat, first_failed, Contents, Row, row}
+use Rattle.project_journal.proofs.Common.{bytes_in, IsRow, IsHeaded, IsCut, IsRead, body_at, next_point, header_end}
+use Rattle.project_journal.proofs.Common.{placed, points_size, Damaged, Next, field, Base, IsBegun}
+use Rattle.std.proofs.lemmas.List.{drop-append-le}
+use Rattle.project_journal.proofs.AnyFormats.{HasBase, HasCounts, base_valid, counts_valid, format_as, numbers_valid}
 use Rattle.project_journal.proofs.Parses.{form_least, not_shut, tests_front, base_front}
-use Rattle.project_journal.proofs.{Bases.length-rows, Begun.continued, Seen.field_front, Splits.front_of}
+use Rattle.project_journal.proofs.{Bases.length-rows, Begun.HasNumbers, Begun.continued, Seen.field_front}
+use Rattle.project_journal.proofs.{Splits.front_of}
 
 -- one point more
 unfoldable pub point_more_of : Contents → ℕ → List ℕ → Contents
@@ -112,15 +109,7 @@ headed_begun form bytes j is all = record {
 pub headed_format : (form : Form) (bytes : List ℕ) (j : Contents) → IsForm form → IsHeaded form bytes j
     → IsFormat j.rate j.block_size j.depth
 headed_format form bytes j known is =
-    let format = numbers_valid form is.front known is.valid in
-    record {
-      rate_least = omega (arith, format.rate_least, is.rate);
-      even = subst (λ (m : ℕ). m % 2 ≡ 0) is.block_size format.even;
-      block_least = omega (arith, format.block_least, is.block_size);
-      block_most = omega (arith, format.block_most, is.block_size);
-      depth_least = omega (arith, format.depth_least, is.depth);
-      depth_most = omega (arith, format.depth_most, is.depth);
-    }
+    format_as (numbers_valid form is.front known is.valid) is.rate is.block_size is.depth
 
 pub headed_base : (form : Form) (bytes : List ℕ) (j : Contents) → IsForm form → IsHeaded form bytes j → HasBase j.base
 headed_base form bytes j known is = subst HasBase is.base (base_valid form is.front known is.valid)
@@ -137,10 +126,7 @@ pub record ReadOn (form : Form) (bytes : List ℕ) (j : Contents) : Type 0 where
   pub is : IsRead form bytes whole
   pub more : List (List ℕ)
   pub points : whole.points ≡ j.points ++ more
-  pub rate : whole.rate ≡ j.rate
-  pub block_size : whole.block_size ≡ j.block_size
-  pub depth : whole.depth ≡ j.depth
-  pub base : whole.base ≡ j.base
+  pub numbers : HasNumbers whole j.rate j.block_size j.depth j.base
 
 all_read : (form : Form) (bytes : List ℕ) (j : Contents) → IsHeaded form bytes j
     → length j.points ≡ j.base.count → ReadOn form bytes j
@@ -151,35 +137,39 @@ all_read form bytes j is all =
       is = inl on.is;
       more = [];
       points = on.points ∙ sym (append-nil j.points);
-      rate = on.rate;
-      block_size = on.block_size;
-      depth = on.depth;
-      base = on.base;
+      numbers = on.numbers;
     }
+
+-- the same header before other bytes, and with another end
+unfoldable pub headed_as : (form : Form) (bytes : List ℕ) (j : Contents) (is : IsHeaded form bytes j)
+    (early : Option Damaged) (other rest : List ℕ) → other ≡ is.front ++ rest
+    → IsHeaded form other (record j { early = early })
+headed_as form bytes j is early other rest parts = record {
+  front = is.front;
+  rest = rest;
+  parts = parts;
+  rows = is.rows;
+  least = is.least;
+  fields = is.fields;
+  each = is.each;
+  points = is.points;
+  base = is.base;
+  gate = is.gate;
+  valid = is.valid;
+  rate = is.rate;
+  block_size = is.block_size;
+  depth = is.depth;
+  none = is.none;
+  place = is.place;
+}
 
 -- a point that is not whole
 pub cut_here : (form : Form) (bytes : List ℕ) (j : Contents) (d : Damaged) → (is : IsHeaded form bytes j)
     → length j.points < j.base.count → next_point j.end is.rest ≡ Early d
     → IsCut form bytes (record j { early = Some d })
+unfolding headed_as
 cut_here form bytes j d is fewer ends = record {
-  headed = record {
-    front = is.front;
-    rest = is.rest;
-    parts = is.parts;
-    rows = is.rows;
-    least = is.least;
-    fields = is.fields;
-    each = is.each;
-    points = is.points;
-    base = is.base;
-    gate = is.gate;
-    valid = is.valid;
-    rate = is.rate;
-    block_size = is.block_size;
-    depth = is.depth;
-    none = is.none;
-    place = is.place;
-  };
+  headed = headed_as form bytes j is (Some d) bytes is.rest is.parts;
   fewer = fewer;
   fault = d;
   early = refl;
@@ -201,10 +191,7 @@ point_step form bytes j known is fewer again (Early d) e = record {
   is = inr (cut_here form bytes j d is fewer e);
   more = [];
   points = sym (append-nil j.points);
-  rate = refl;
-  block_size = refl;
-  depth = refl;
-  base = refl;
+  numbers = record { rate = refl; block_size = refl; depth = refl; base = refl };
 }
 point_step form bytes j known is fewer again (Whole len) e =
     let one : List ℕ = take len (drop 4 is.rest) in
@@ -215,10 +202,7 @@ point_step form bytes j known is fewer again (Whole len) e =
       is = on.is;
       more = one ∷ on.more;
       points = on.points ∙ append_assoc j.points (one ∷ []) on.more;
-      rate = on.rate;
-      block_size = on.block_size;
-      depth = on.depth;
-      base = on.base;
+      numbers = on.numbers;
     }
 
 read_on_from : (left : ℕ) (form : Form) (bytes : List ℕ) (j : Contents) → IsForm form → IsHeaded form bytes j

@@ -1,3 +1,4 @@
+mod Common
 pub mod Once
 pub mod Kept
 pub mod Formats
@@ -21,7 +22,6 @@ mod Standing
 pub mod Begun
 pub mod Headed
 mod Padded
-mod PointStanding
 pub mod Choices
 pub mod Picked
 mod Cuts

@@ -1,10 +1,7 @@
 -- The journal of a new project, as it is written.
-use Rattle.std.proofs.Common.{◌≡◌, ◌⊎◌, inl, inr, ℕ, ◌^◌, ◌<◌, List, [], ◌∷◌, ◌++◌, length, refl, ap, ◌∙◌, arith}
-use Rattle.std.proofs.Common.{length-append}
-use Rattle.disk_model.specs.{Disk.Files, declared.store.Store.Ghosts}
-use Rattle.project_journal.specs.Gate.{IsShut, IsOpen, IsShutOrOpen, IsDurable, EachNow}
-use Rattle.project_journal.specs.Journal.{fresh, HasLog, IsAt}
-use Rattle.project_journal.specs.{Header.IsFormat, Header.form_3, Packing.header_row, Packing.IsText, Start.NoProject}
+use Rattle.project_journal.proofs.Common.{◌≡◌, ◌⊎◌, inl, inr, ℕ, ◌^◌, ◌<◌, List, [], ◌∷◌, ◌++◌, length, refl, ap, ◌∙◌}
+use Rattle.project_journal.proofs.Common.{arith, length-append, Files, Ghosts, IsShut, IsOpen, IsShutOrOpen, IsDurable}
+use Rattle.project_journal.proofs.Common.{EachNow, fresh, HasLog, IsAt, IsFormat, form_3, header_row, IsText, NoProject}
 use Rattle.project_journal.proofs.{Packed.text_log, Packed.text_there, Starts.fresh_shut, Starts.none_shut}
 use Rattle.project_journal.proofs.{Texts.text_is}
 

@@ -1,14 +1,11 @@
 -- What is left of the two files of journals while one is put into the other.
-use Rattle.std.proofs.Common.{◌≡◌, ◌≢◌, ◌⊎◌, inl, inr, ⊎_elim, ℕ, ◌<◌, ◌≤◌, Bool, Option, Some, None, List, [], ◌∷◌}
-use Rattle.std.proofs.Common.{length, sym, ◌∙◌, ap, subst, arith, length-append}
-use Rattle.std.proofs.lemmas.List.{append-nil}
-use Rattle.disk_model.specs.Disk.{Files, Follows, SameElsewhere, RemoveStep, WriteStep, bytes_of}
-use Rattle.disk_model.specs.{MomentLaws.upto_refl, declared.store.Store.Ghosts}
-use Rattle.disk_model.proofs.Moments.{each_from, each_on}
-use Rattle.project_journal.specs.Gate.{IsShut, IsOpen, HasGate, IsShutOrOpen, IsDurable, EachNow, EachSince}
-use Rattle.project_journal.specs.{Choice.HasNoNewer, Choice.IsOlder, Choice.IsNewest, Choice.other_file, Header.Form}
-use Rattle.project_journal.specs.{Header.IsProject, Header.form_3, Journal.Log, Journal.HasLog, Journal.IsAt}
-use Rattle.project_journal.specs.{Journal.IsLog, Packing.IsText, Packing.MayPack, Packing.HasEither, Start.NoProject}
+use Rattle.project_journal.proofs.Common.{◌≡◌, ◌≢◌, ◌⊎◌, inl, inr, ⊎_elim, ℕ, ◌<◌, ◌≤◌, Bool, Option, Some, None, List}
+use Rattle.project_journal.proofs.Common.{[], ◌∷◌, length, sym, ◌∙◌, ap, subst, arith, length-append, append-nil, Files}
+use Rattle.project_journal.proofs.Common.{Follows, SameElsewhere, RemoveStep, WriteStep, bytes_of, upto_refl, Ghosts}
+use Rattle.project_journal.proofs.Common.{each_from, each_on, IsShut, IsOpen, HasGate, IsShutOrOpen, IsDurable, EachNow}
+use Rattle.project_journal.proofs.Common.{EachSince, HasNoNewer, IsOlder, IsNewest, other_file, Form, IsProject, form_3}
+use Rattle.project_journal.proofs.Common.{Log, HasLog, IsAt, IsLog, IsText, NoProject}
+use Rattle.project_journal.specs.{Packing.MayPack, Packing.HasEither}
 use Rattle.project_journal.proofs.Starts.{stays_short, none_shut, fresh_shut}
 use Rattle.project_journal.proofs.{Kept.others_differ, Seen.log_older}
 

@@ -1,12 +1,11 @@
 -- The first 64 bytes, with zeros where there are fewer.
-use Rattle.std.proofs.Common.{◌≡◌, ℕ, zero, suc, ◌+◌, ◌-◌, ◌*◌, ◌<◌, ◌≤◌, min, List, [], ◌∷◌, ◌++◌, length, take, drop}
-use Rattle.std.proofs.Common.{replicate, get_or, refl, sym, ◌∙◌, ap, arith}
-use Rattle.std.proofs.lemmas.List.{drop-replicate, get_or-drop, take_min}
-use Rattle.std.specs.Prelude.{slice_index}
+use Rattle.project_journal.proofs.Common.{◌≡◌, ℕ, zero, suc, ◌+◌, ◌-◌, ◌*◌, ◌<◌, ◌≤◌, min, List, [], ◌∷◌, ◌++◌, length}
+use Rattle.project_journal.proofs.Common.{take, drop, replicate, get_or, refl, sym, ◌∙◌, ap, arith, take_min}
+use Rattle.project_journal.proofs.Common.{slice_index, base_fields, base_tests, last_tests, wide_tests, Damaged, field}
+use Rattle.std.proofs.lemmas.List.{drop-replicate, get_or-drop}
 use Rattle.byteorder.specs.Endian.{little_from}
-use Rattle.project_journal.specs.Header.{base_fields, base_tests, base_tests_in, last_tests, last_tests_in, wide_tests}
-use Rattle.project_journal.specs.Header.{wide_tests_in}
-use Rattle.project_journal.specs.{declared.fault.Damaged.Damaged, Fields.field}
+use Rattle.project_journal.specs.Header.{base_tests_in, last_tests_in, wide_tests_in}
+use Rattle.project_journal.proofs.Parses.{fields_same}
 
 zeros_get : (n j : ℕ) → ◌≡◌ {A = ℕ} (get_or (replicate n 0) j 0) 0
 zeros_get zero j = refl
@@ -55,14 +54,7 @@ pub padded_byte : (at : ℕ) (bytes : List ℕ) → at < 64 → slice_index (pad
 padded_byte at bytes lt = padded_get 64 bytes at lt
 
 pub padded_base : (bytes : List ℕ) → base_fields (padded bytes) ≡ base_fields bytes
-padded_base bytes = λ i. record {
-  generation = padded_field 21 8 bytes (omega arith) i;
-  commit = padded_field 29 8 bytes (omega arith) i;
-  next_block = padded_field 37 8 bytes (omega arith) i;
-  next_track = padded_field 45 8 bytes (omega arith) i;
-  count = padded_field 53 4 bytes (omega arith) i;
-  cursor = padded_field 57 4 bytes (omega arith) i;
-}
+padded_base bytes = fields_same (padded bytes) bytes (λ at n fits. padded_field at n bytes fits)
 
 pub padded_tests : (len : ℕ) (bytes : List ℕ) → base_tests_in len (padded bytes) ≡ base_tests_in len bytes
 unfolding base_tests_in
@@ -78,19 +70,13 @@ padded_tests len bytes = rw (
 
 pub padded_zeros : (len : ℕ) (bytes : List ℕ) → last_tests_in len (padded bytes) ≡ last_tests_in len bytes
 unfolding last_tests_in
-padded_zeros len bytes = rw (
-  padded_byte 61 bytes (omega arith),
-  padded_byte 62 bytes (omega arith),
-  padded_byte 63 bytes (omega arith),
-) refl
+padded_zeros len bytes =
+    rw (padded_byte 61 bytes (omega arith), padded_byte 62 bytes (omega arith), padded_byte 63 bytes (omega arith)) refl
 
 pub padded_wide : (len : ℕ) (bytes : List ℕ) → wide_tests_in len (padded bytes) ≡ wide_tests_in len bytes
 unfolding wide_tests_in
-padded_wide len bytes = rw (
-  padded_byte 61 bytes (omega arith),
-  padded_byte 62 bytes (omega arith),
-  padded_byte 63 bytes (omega arith),
-) refl
+padded_wide len bytes =
+    rw (padded_byte 61 bytes (omega arith), padded_byte 62 bytes (omega arith), padded_byte 63 bytes (omega arith)) refl
 
 -- so the tests of the padded bytes are those of all
 pub tests_same : (len : ℕ) (head bytes : List ℕ) (tests : List Damaged) → head ≡ padded bytes → len ≡ length bytes

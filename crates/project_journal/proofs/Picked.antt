@@ -1,13 +1,10 @@
 -- One file is chosen at most, and where one is, no choice fails.
-use Rattle.std.proofs.Common.{◌≡◌, ◌⊎◌, inl, inr, ⊎_elim, ℕ, zero, suc, ◌<◌, ◌≤◌, Some, None, List, [], ◌∷◌, ◌++◌, refl}
-use Rattle.std.proofs.Common.{sym, ◌∙◌, ap, subst, arith}
-use Rattle.std.proofs.lemmas.Bool.{cases_eq, eq-eqb}
-use Rattle.disk_model.specs.Disk.{Files, bytes_of}
-use Rattle.project_journal.specs.Choice.{FailsIn, HasChoiceFault, IsPicked, choice_tests, generation_at, newer_test}
-use Rattle.project_journal.specs.Choice.{other_file}
-use Rattle.project_journal.specs.{declared.fault.Damaged.Damaged, Header.IsProject, Header.first_failed}
+use Rattle.project_journal.proofs.Common.{◌≡◌, ◌⊎◌, inl, inr, ⊎_elim, ℕ, zero, suc, ◌<◌, ◌≤◌, Some, None, List, [], ◌∷◌}
+use Rattle.project_journal.proofs.Common.{◌++◌, refl, sym, ◌∙◌, ap, subst, arith, cases_eq, eq-eqb, Files, bytes_of}
+use Rattle.project_journal.proofs.Common.{FailsIn, IsPicked, newer_test, other_file, Damaged, IsProject, first_failed}
+use Rattle.project_journal.proofs.Common.{differ}
+use Rattle.project_journal.specs.Choice.{HasChoiceFault, choice_tests, generation_at}
 use Rattle.project_journal.proofs.Headers.{none_first}
-use Rattle.pcm_base.proofs.ListFacts.{differ}
 
 pub zero_or_one : (n : ℕ) → n ≤ 1 → (n ≡ 0) ⊎ (n ≡ 1)
 zero_or_one zero few = inl refl

@@ -1,12 +1,10 @@
 -- What a journal says that was read: a format that it may have, and records that lie in its file.
-use Rattle.std.proofs.Common.{◌≡◌, ℕ, zero, suc, ◌+◌, ◌*◌, ◌<◌, ◌≤◌, ◌^◌, List, [], ◌∷◌, length, map, get_or, sym, ap}
-use Rattle.std.proofs.Common.{subst, ◌∙◌, arith, length-append, ◌++◌}
-use Rattle.std.proofs.lemmas.List.{length-map}
-use Rattle.std.specs.List.{flat_map, All, AllByRecursion}
-use Rattle.std.specs.{Prelude.slice_index, List.Sorted.IsStrictlyIncreasing}
-use Rattle.project_journal.specs.Header.{Form, IsForm}
-use Rattle.project_journal.specs.Journal.{Entry, entry, body_of, body_at, placed, IsEntry, Contents, IsJournal, log_of}
-use Rattle.project_journal.specs.Journal.{header_end}
+use Rattle.project_journal.proofs.Common.{◌≡◌, ℕ, zero, suc, ◌+◌, ◌*◌, ◌<◌, ◌≤◌, ◌^◌, List, [], ◌∷◌, length, map}
+use Rattle.project_journal.proofs.Common.{get_or, sym, ap, subst, ◌∙◌, arith, length-append, ◌++◌, length-map, flat_map}
+use Rattle.project_journal.proofs.Common.{AllByRecursion, slice_index, Form, IsForm, Entry, entry, body_of, body_at}
+use Rattle.project_journal.proofs.Common.{placed, IsEntry, Contents, IsJournal, log_of, header_end}
+use Rattle.std.specs.List.{All}
+use Rattle.std.specs.{List.Sorted.IsStrictlyIncreasing}
 use Rattle.project_journal.specs.Readable.{IsReadable, LiesBelow, place_of}
 use Rattle.project_journal.proofs.{AnyFormats.header_format, Bases.length-head, Parses.form_least, Splits.length-entry}
 

@@ -1,15 +1,13 @@
 -- What the choice of a file sees of a journal.
-use Rattle.std.proofs.Common.{◌≡◌, ◌⊎◌, inl, inr, ⊎_elim, ℕ, ◌+◌, ◌^◌, ◌<◌, ◌≤◌, min, max, None, List, [], ◌∷◌, ◌++◌}
-use Rattle.std.proofs.Common.{length, eqb, refl, sym, ◌∙◌, ap, subst, arith, append_assoc}
-use Rattle.std.proofs.{lemmas.Bool.eq-eqb, lemmas.Bool.eqb-true, lemmas.List.take-append-le}
-use Rattle.std.specs.List.{flat_map}
-use Rattle.disk_model.specs.Disk.{Files, bytes_of}
-use Rattle.project_journal.specs.Choice.{IsOlder, generation_at, choice_tests}
-use Rattle.project_journal.specs.Header.{Form, IsForm, first_failed, form_1, form_2, form_3, form_of, number_tests}
-use Rattle.project_journal.specs.Header.{base_tests, base_tests_in, last_tests, the_zeros, wide_tests}
-use Rattle.project_journal.specs.Journal.{Log, entry, IsHeader, IsLog}
-use Rattle.project_journal.specs.{Fields.field, Gate.IsShut, declared.base.Base.Base, declared.fault.Damaged.Damaged}
-use Rattle.project_journal.proofs.{Formats.passed, Parses.field_take}
+use Rattle.project_journal.proofs.Common.{◌≡◌, ◌⊎◌, inl, inr, ⊎_elim, ℕ, ◌+◌, ◌^◌, ◌<◌, ◌≤◌, min, max, None, List, []}
+use Rattle.project_journal.proofs.Common.{◌∷◌, ◌++◌, length, eqb, refl, sym, ◌∙◌, ap, subst, arith, append_assoc}
+use Rattle.project_journal.proofs.Common.{eq-eqb, eqb-true, flat_map, Files, bytes_of, IsOlder, Form, IsForm}
+use Rattle.project_journal.proofs.Common.{first_failed, form_of, base_fields, base_tests, last_tests, wide_tests, Log}
+use Rattle.project_journal.proofs.Common.{entry, IsHeader, IsLog, field, IsShut, Base, Damaged}
+use Rattle.std.proofs.{lemmas.List.take-append-le}
+use Rattle.project_journal.specs.Choice.{generation_at, choice_tests}
+use Rattle.project_journal.specs.Header.{number_tests, base_tests_in, the_zeros}
+use Rattle.project_journal.proofs.{Formats.passed, Parses.by_form, Parses.field_take, Parses.form_least}
 
 -- a field of the first 32 bytes
 pub field_front : (at n : ℕ) (head rest : List ℕ) → at + n ≤ 32 → 32 ≤ length head
@@ -67,88 +65,66 @@ bound_passes bytes e =
     let most : min (2 ^ 62) (field 21 8 bytes) ≡ field 21 8 bytes = eqb-true _ _ first.0 in
     omega (arith, most)
 
-chosen_1 : (file : ℕ) (head : List ℕ) (log : Log) → IsHeader (form_1 file) head log
+-- of each version, its numbers are there
+pub numbers_of : (form : Form) (head : List ℕ) → IsForm form → first_failed (form.tests head) ≡ None
+    → Numbers form.version head
+numbers_of form head known =
+    by_form (λ (f : Form). first_failed (f.tests head) ≡ None → Numbers f.version head) form known
+    (λ is. numbers_pass 1 head (both_pass (number_tests 1 head) (the_zeros head) is).0)
+    (λ is. numbers_pass 2 head (both_pass (number_tests 2 head) (base_tests head ++ last_tests head) is).0)
+    (λ is. numbers_pass 3 head (both_pass (number_tests 3 head) (base_tests head ++ wide_tests head) is).0)
+
+-- and where it has a base, the tests of that pass
+pub base_passes : (version : ℕ) (head : List ℕ) (more : List Damaged)
+    → first_failed (number_tests version head ++ (base_tests head ++ more)) ≡ None
+    → first_failed (base_tests head) ≡ None
+base_passes version head more is =
+    (both_pass (base_tests head) more (both_pass (number_tests version head) (base_tests head ++ more) is).1).0
+
+chosen_base : (version : ℕ) (head : List ℕ) (more : List Damaged) (base : Base) → IsVersion version
+    → (field 5 4 head ≡ version → generation_at head ≡ field 21 8 head)
+    → first_failed (number_tests version head ++ (base_tests head ++ more)) ≡ None → base_fields head ≡ base
+    → Numbers version head → Chosen head base.generation
+chosen_base version head more base among at valid is numbers =
+    let same : field 21 8 head ≡ base.generation = ap (λ (b : Base). b.generation) is in
+    record {
+      magic = numbers.magic;
+      version = subst IsVersion (sym numbers.version_is) among;
+      bound = omega (arith, same, bound_passes head (base_passes version head more valid));
+      is = at numbers.version_is ∙ same;
+    }
+
+pub chosen : (form : Form) (head : List ℕ) (log : Log) → IsForm form → IsHeader form head log
     → Chosen head log.base.generation
-chosen_1 file head log is =
-    let numbers = numbers_pass 1 head (both_pass (number_tests 1 head) (the_zeros head) is.valid).0 in
-    let none : 0 ≡ log.base.generation = ap (λ (b : Base). b.generation) is.base in
+chosen form head log known is =
+    by_form (λ (f : Form). first_failed (f.tests head) ≡ None → f.base_at head ≡ log.base → Numbers f.version head
+    → Chosen head log.base.generation) form known
+    (λ valid base numbers.
+    let none : 0 ≡ log.base.generation = ap (λ (b : Base). b.generation) base in
     record {
       magic = numbers.magic;
       version = inl numbers.version_is;
       bound = omega (arith, none);
       is = first_version head numbers.version_is ∙ none;
-    }
-
-chosen_2 : (file : ℕ) (head : List ℕ) (log : Log) → IsHeader (form_2 file) head log
-    → Chosen head log.base.generation
-chosen_2 file head log is =
-    let parts = both_pass (number_tests 2 head) (base_tests head ++ last_tests head) is.valid in
-    let numbers = numbers_pass 2 head parts.0 in
-    let bound = bound_passes head (both_pass (base_tests head) (last_tests head) parts.1).0 in
-    let same : field 21 8 head ≡ log.base.generation = ap (λ (b : Base). b.generation) is.base in
-    record {
-      magic = numbers.magic;
-      version = inr (inl numbers.version_is);
-      bound = omega (arith, same, bound);
-      is = second_version head numbers.version_is ∙ same;
-    }
-
-chosen_3 : (file : ℕ) (head : List ℕ) (log : Log) → IsHeader (form_3 file) head log
-    → Chosen head log.base.generation
-chosen_3 file head log is =
-    let parts = both_pass (number_tests 3 head) (base_tests head ++ wide_tests head) is.valid in
-    let numbers = numbers_pass 3 head parts.0 in
-    let bound = bound_passes head (both_pass (base_tests head) (wide_tests head) parts.1).0 in
-    let same : field 21 8 head ≡ log.base.generation = ap (λ (b : Base). b.generation) is.base in
-    record {
-      magic = numbers.magic;
-      version = inr (inr numbers.version_is);
-      bound = omega (arith, same, bound);
-      is = third_version head numbers.version_is ∙ same;
-    }
-
-pub chosen : (form : Form) (head : List ℕ) (log : Log) → IsForm form → IsHeader form head log
-    → Chosen head log.base.generation
-chosen form head log known is = ⊎_elim
-    (λ one. chosen_1 form.file head log (subst (λ (f : Form). IsHeader f head log) one is))
-    (λ later. ⊎_elim
-    (λ two. chosen_2 form.file head log (subst (λ (f : Form). IsHeader f head log) two is))
-    (λ three. chosen_3 form.file head log (subst (λ (f : Form). IsHeader f head log) three is))
-    later)
-    known
+    })
+    (chosen_base 2 head (last_tests head) log.base (inr (inl refl)) (second_version head))
+    (chosen_base 3 head (wide_tests head) log.base (inr (inr refl)) (third_version head))
+    is.valid is.base (numbers_of form head known is.valid)
 
 -- the version that a header says is that of its form
+pub form_valid : (form : Form) (head : List ℕ) → IsForm form → first_failed (form.tests head) ≡ None
+    → form_of (field 5 4 head) form.file ≡ form
+form_valid form head known valid =
+    by_form (λ (f : Form). field 5 4 head ≡ f.version → form_of (field 5 4 head) f.file ≡ f) form known
+    (λ one. ap (λ (v : ℕ). form_of v form.file) one) (λ two. ap (λ (v : ℕ). form_of v form.file) two)
+    (λ three. ap (λ (v : ℕ). form_of v form.file) three) (numbers_of form head known valid).version_is
+
 pub form_by : (form : Form) (head : List ℕ) (log : Log) → IsForm form → IsHeader form head log
     → form_of (field 5 4 head) form.file ≡ form
-form_by form head log known is = ⊎_elim
-    (λ one.
-    let valid = (subst (λ (f : Form). IsHeader f head log) one is).valid in
-    let numbers = numbers_pass 1 head (both_pass (number_tests 1 head) (the_zeros head) valid).0 in
-    ap (λ (v : ℕ). form_of v form.file) numbers.version_is ∙ sym one)
-    (λ later. ⊎_elim
-    (λ two.
-    let valid = (subst (λ (f : Form). IsHeader f head log) two is).valid in
-    let numbers = numbers_pass 2 head (both_pass (number_tests 2 head) (base_tests head ++ last_tests head) valid).0 in
-    ap (λ (v : ℕ). form_of v form.file) numbers.version_is ∙ sym two)
-    (λ three.
-    let valid = (subst (λ (f : Form). IsHeader f head log) three is).valid in
-    let numbers = numbers_pass 3 head (both_pass (number_tests 3 head) (base_tests head ++ wide_tests head) valid).0 in
-    ap (λ (v : ℕ). form_of v form.file) numbers.version_is ∙ sym three)
-    later)
-    known
+form_by form head log known is = form_valid form head known is.valid
 
 pub least_head : (form : Form) (head : List ℕ) (log : Log) → IsForm form → IsHeader form head log → 32 ≤ length head
-least_head form head log known is = ⊎_elim
-    (λ one. (subst (λ (f : Form). IsHeader f head log) one is).least)
-    (λ later. ⊎_elim
-    (λ two.
-    let least = (subst (λ (f : Form). IsHeader f head log) two is).least in
-    omega (arith, least))
-    (λ three.
-    let least = (subst (λ (f : Form). IsHeader f head log) three is).least in
-    omega (arith, least))
-    later)
-    known
+least_head form head log known is = omega (arith, form_least form known, is.least)
 
 pub choice_passes : (bytes : List ℕ) (g : ℕ) → Chosen bytes g → first_failed (choice_tests bytes) ≡ None
 unfolding choice_tests
@@ -168,15 +144,19 @@ unfolding generation_at
 generation_front head rest least =
     rw (field_front 5 4 head rest (omega arith) least, field_front 21 8 head rest (omega arith) least) refl
 
+-- bytes that begin with a journal begin with its header
+pub header_first : {form : Form} {front : List ℕ} {log : Log} (is : IsLog form front log) (bytes rest : List ℕ)
+    → bytes ≡ front ++ rest → bytes ≡ is.head ++ (flat_map entry is.entries ++ rest)
+header_first is bytes rest parts =
+    parts ∙ ap (λ (l : List ℕ). l ++ rest) is.parts ∙ append_assoc is.head (flat_map entry is.entries) rest
+
 -- what the choice sees of the file of a journal
 pub log_seen : (form : Form) (front : List ℕ) (log : Log) (file : ℕ) (c : Files) → IsForm form → IsLog form front log
     → IsShut file front c → Chosen (bytes_of (c file)) log.base.generation
 log_seen form front log file c known is shut =
     let head = is.head in
     let rest = flat_map entry is.entries ++ 0 ∷ shut.0 in
-    let bytes : bytes_of (c file) ≡ head ++ rest =
-    ap bytes_of shut.1 ∙ ap (λ (l : List ℕ). l ++ 0 ∷ shut.0) is.parts
-    ∙ append_assoc head (flat_map entry is.entries) (0 ∷ shut.0) in
+    let bytes : bytes_of (c file) ≡ head ++ rest = header_first is _ (0 ∷ shut.0) (ap bytes_of shut.1) in
     let least = least_head form head log known is.header in
     let was = chosen form head log known is.header in
     let now : Chosen (head ++ rest) log.base.generation = record {

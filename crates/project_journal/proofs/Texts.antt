@@ -1,14 +1,13 @@
 -- A header of version 3 as it is written.
-use Rattle.std.proofs.Common.{◌≡◌, ◌≢◌, ℕ, ◌+◌, ◌-◌, ◌^◌, ◌<◌, ◌≤◌, min, max, None, List, [], ◌∷◌, ◌++◌, length, map}
-use Rattle.std.proofs.Common.{replicate, refl, sym, ◌∙◌, ap, subst, arith}
-use Rattle.std.proofs.{lemmas.Bool.eq-eqb, lemmas.List.append-nil, lemmas.List.length-map}
-use Rattle.std.specs.{List.flat_map, List.AllByRecursion, Prelude.slice_index}
-use Rattle.byteorder.specs.{Endian.little_number, Endian.little_bytes, Numbers.little_number-reads_back}
-use Rattle.project_journal.specs.Header.{IsFormat, IsBase, first_failed, nearest_size, number_tests, base_tests_in}
-use Rattle.project_journal.specs.Header.{base_fields, form_3, wide_header_tests, wide_tests_in, zero_tests}
-use Rattle.project_journal.specs.Journal.{Log, Row, row, bytes_in, IsRow, IsHeader}
-use Rattle.project_journal.specs.Packing.{sized, header_row, IsText, AreShort}
-use Rattle.project_journal.specs.{Fields.field, declared.base.Base.Base}
+use Rattle.project_journal.proofs.Common.{◌≡◌, ◌≢◌, ℕ, ◌+◌, ◌-◌, ◌^◌, ◌<◌, ◌≤◌, min, max, None, List, [], ◌∷◌, ◌++◌}
+use Rattle.project_journal.proofs.Common.{length, map, replicate, refl, sym, ◌∙◌, ap, subst, arith, eq-eqb, append-nil}
+use Rattle.project_journal.proofs.Common.{length-map, flat_map, AllByRecursion, slice_index, little_number}
+use Rattle.project_journal.proofs.Common.{little_bytes, little_number-reads_back, IsFormat, first_failed, nearest_size}
+use Rattle.project_journal.proofs.Common.{base_fields, form_3, wide_header_tests, zero_tests, Log, Row, row, bytes_in}
+use Rattle.project_journal.proofs.Common.{IsRow, IsHeader, header_row, IsText, field, Base}
+use Rattle.project_journal.specs.Header.{IsBase, number_tests, base_tests_in, wide_tests_in}
+use Rattle.project_journal.specs.Packing.{sized, AreShort}
+use Rattle.project_journal.proofs.Parses.{base_same}
 
 row_of : List ℕ → Row
 row_of point = record { size = little_bytes 4 (length point); bytes = point }
@@ -128,14 +127,7 @@ module _ (log : Log) (gate : ℕ) (format : IsFormat log.rate log.block_size log
       (omega (arith, is.current, is.few, format.depth_most))
 
   base_is : base_fields head ≡ b
-  base_is = λ i. record {
-    generation = generation_is i;
-    commit = commit_is i;
-    next_block = block_is i;
-    next_track = track_is i;
-    count = count_is i;
-    cursor = cursor_is i;
-  }
+  base_is = base_same (base_fields head) b generation_is commit_is block_is track_is count_is cursor_is
 
   head_valid : first_failed (wide_header_tests head) ≡ None
   head_valid =

@@ -1,16 +1,14 @@
 -- Records that are added together make the log with all their bodies more.
-use Rattle.std.proofs.Common.{◌≡◌, ◌≢◌, ℕ, ◌+◌, ◌≤◌, Some, List, [], ◌∷◌, ◌++◌, length, map, drop, refl, sym, ◌∙◌, ap}
-use Rattle.std.proofs.Common.{suc, ◌-◌, take, arith, inl, inr, append_assoc, length-append, subst}
-use Rattle.std.proofs.lemmas.List.{append-nil, length-drop, take_all}
-use Rattle.std.specs.{List.flat_map, List.AllByRecursion, Prelude.IsTrue}
-use Rattle.byteorder.specs.Endian.{little_bytes}
-use Rattle.disk_model.specs.Disk.{Files, SameElsewhere}
-use Rattle.disk_model.specs.{Frames.Changed, MomentLaws.upto_refl, Room.Room, declared.store.Store.Ghosts}
-use Rattle.project_journal.specs.Gate.{IsShut, IsOpen, HasGate, IsShutOrOpen, IsDurable, EachNow, EachSince}
-use Rattle.project_journal.specs.Journal.{AreWaiting, Entry, HasOneOf, IsAt, IsEntry, IsLog, IsShort, Log, body_of}
-use Rattle.project_journal.specs.Journal.{entry, entry_of, opened, rows_length, with_bodies, with_body}
-use Rattle.project_journal.specs.{Choice.IsNewest, Header.Form}
-use Rattle.project_journal.proofs.{Adds.newest_since, Kept.newest_elsewhere, Logs.is_entry, Logs.longer, Logs.regrouped}
+use Rattle.project_journal.proofs.Common.{◌≡◌, ◌≢◌, ℕ, ◌+◌, ◌≤◌, Some, List, [], ◌∷◌, ◌++◌, length, map, drop, refl}
+use Rattle.project_journal.proofs.Common.{sym, ◌∙◌, ap, suc, ◌-◌, take, arith, inl, inr, append_assoc, length-append}
+use Rattle.project_journal.proofs.Common.{subst, append-nil, take_all, flat_map, AllByRecursion, IsTrue, little_bytes}
+use Rattle.project_journal.proofs.Common.{Files, SameElsewhere, Changed, upto_refl, Room, Ghosts, IsShut, IsOpen}
+use Rattle.project_journal.proofs.Common.{HasGate, IsShutOrOpen, IsDurable, EachNow, EachSince, AreWaiting, Entry}
+use Rattle.project_journal.proofs.Common.{HasOneOf, IsAt, IsEntry, IsLog, Log, body_of, entry, entry_of, opened}
+use Rattle.project_journal.proofs.Common.{with_body, IsNewest, Form}
+use Rattle.std.proofs.lemmas.List.{length-drop}
+use Rattle.project_journal.specs.Journal.{IsShort, rows_length, with_bodies}
+use Rattle.project_journal.proofs.{Kept.newest_elsewhere, Logs.is_entry, Logs.longer, Logs.regrouped}
 
 -- one more of those that wait
 pub opened_more : (bodies : List (List ℕ)) (body : List ℕ)
@@ -95,9 +93,9 @@ pub tail_is : (all rows : List ℕ) → all ≡ rows → take (length all - 1) (
 tail_is all rows is =
     take_all (length all - 1) (drop 1 all) (omega (arith, length-drop 1 all)) ∙ ap (λ (l : List ℕ). drop 1 l) is
 
-pub tail_length : (all rows : List ℕ) → all ≡ rows ++ 0 ∷ []
-    → length (take (length all - 1) (drop 1 all)) ≡ length rows
-tail_length all rows is = omega (
+pub row_length : (all rows : List ℕ) → all ≡ rows ++ 0 ∷ [] → 5 ≤ length rows
+    → length (take (length all - 1) (drop 1 all)) ≡ 5 + (length rows - 5)
+row_length all rows is some = omega (
   arith,
   ap length (tail_is all (rows ++ 0 ∷ []) is),
   length-drop 1 (rows ++ 0 ∷ []),
@@ -199,6 +197,13 @@ done_all form disk store log front rows row (first ∷ more) at next some are is
     each =
     at_next_all form disk store log front rows row first more at next is place are.short are.spelled
     (behind_is rows row first more are.spelled row-is) next-is gated same newest each
+
+-- no image since the start has a newer journal
+newest_since : {D : Type 0} (disk : Ghosts D) (old new : D) (file : ℕ) (much : Room)
+    → Changed disk (SameElsewhere file) much old new → (generation : ℕ) → EachNow disk old (IsNewest file generation)
+    → EachSince disk old new (IsNewest file generation)
+newest_since disk old new file much changed generation each c since =
+    let d = changed.images.from c since in newest_elsewhere file generation d.0 c d.2 (each d.0 d.1)
 
 -- ---- an append, by the row that is written after a gate
 

@@ -1,7 +1,7 @@
 // The fields of a header of version 2 or 3, and their tests.
 ghost use Rattle.std.specs.Prelude.{◌≡◌, ◌+◌, ◌-◌, ◌≤◌, ◌++◌, ℕ, List, length, take, replicate};
-ghost use Rattle.project_journal.specs.Header.{base_tests, base_tests_in, last_tests, last_tests_in, base_header_tests};
-ghost use Rattle.project_journal.specs.Header.{wide_header_tests, wide_tests, wide_tests_in};
+ghost use Rattle.project_journal.specs.Header.{base_tests, base_tests_in, last_tests_in, base_header_tests};
+ghost use Rattle.project_journal.specs.Header.{number_tests, wide_header_tests, wide_tests_in};
 ghost use Rattle.project_journal.specs.Header.{base_fields, ends, Tested};
 
 use super::base::Base;
@@ -48,21 +48,11 @@ pub(crate) fn test_second(bytes: &[u8]) -> Result<(), Damaged>
     requires { 32 ≤ length bytes.now }
     ensures { Tested (base_header_tests bytes.now) result }
 {
-    match first_failure(&tests_of(bytes, BASE_VERSION)) {
-        Ok(()) => test_base(bytes),
-        Err(damaged) => Err(damaged),
-    }
-}
-
-// The same after the fields that all versions have.
-fn test_base(bytes: &[u8]) -> Result<(), Damaged>
-    ensures { Tested (base_tests bytes.now ++ last_tests bytes.now) result }
-{
-    let head = head_of(bytes);
-    match first_failure(&base_tests_of(&head, bytes.len())) {
-        Ok(()) => first_failure(&last_tests_of(&head, bytes.len())),
-        Err(damaged) => Err(damaged),
-    }
+    test_later(
+        bytes,
+        BASE_VERSION,
+        &last_tests_of(&head_of(bytes), bytes.len()),
+    )
 }
 
 // The first test of version 3 that fails.
@@ -70,19 +60,30 @@ pub(crate) fn test_third(bytes: &[u8]) -> Result<(), Damaged>
     requires { 32 ≤ length bytes.now }
     ensures { Tested (wide_header_tests bytes.now) result }
 {
-    match first_failure(&tests_of(bytes, WIDE_VERSION)) {
-        Ok(()) => test_wide(bytes),
+    test_later(
+        bytes,
+        WIDE_VERSION,
+        &wide_tests_of(&head_of(bytes), bytes.len()),
+    )
+}
+
+// The first test that fails of a version that has a base, with these tests after those of the base.
+fn test_later(bytes: &[u8], version: u32, last: &[Damaged]) -> Result<(), Damaged>
+    requires { 32 ≤ length bytes.now }
+    ensures { Tested (number_tests version bytes.now ++ (base_tests bytes.now ++ last.now)) result }
+{
+    match first_failure(&tests_of(bytes, version)) {
+        Ok(()) => test_base(bytes, last),
         Err(damaged) => Err(damaged),
     }
 }
 
 // The same after the fields that all versions have.
-fn test_wide(bytes: &[u8]) -> Result<(), Damaged>
-    ensures { Tested (base_tests bytes.now ++ wide_tests bytes.now) result }
+fn test_base(bytes: &[u8], last: &[Damaged]) -> Result<(), Damaged>
+    ensures { Tested (base_tests bytes.now ++ last.now) result }
 {
-    let head = head_of(bytes);
-    match first_failure(&base_tests_of(&head, bytes.len())) {
-        Ok(()) => first_failure(&wide_tests_of(&head, bytes.len())),
+    match first_failure(&base_tests_of(&head_of(bytes), bytes.len())) {
+        Ok(()) => first_failure(last),
         Err(damaged) => Err(damaged),
     }
 }

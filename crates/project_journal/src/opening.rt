@@ -131,8 +131,7 @@ fn sync_both<S: Store>(store: &mut S) -> Result<(), Failed>
     ensures read_faults { S.read_fault_count store.new ≡ S.read_fault_count store.old }
 {
     sync_other(store)?;
-    sync_file(store, FILE)?;
-    Ok(())
+    sync_file(store, FILE)
 }
 
 // Brings file 1 to the disk as it is.

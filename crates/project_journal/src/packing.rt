@@ -36,7 +36,7 @@ fn clear<S: Store>(store: &mut S, file: u64, there: bool) -> Result<(), Failed>
 {
     sync_file(store, file)?;
     if there {
-        remove_through(store, file)?;
+        return remove_through(store, file);
     }
     Ok(())
 }
@@ -56,8 +56,7 @@ fn shut_file<S: Store>(store: &mut S, file: u64, there: bool) -> Result<(), Fail
     ensures read_faults { S.read_fault_count store.new ≡ S.read_fault_count store.old }
 {
     clear(store, file, there)?;
-    write_through(store, file, 0, &[0])?;
-    Ok(())
+    write_through(store, file, 0, &[0])
 }
 
 // Brings a file to the disk that holds an open gate and this text, and nothing else. Before the gate opens no project
@@ -76,8 +75,7 @@ fn write_text<S: Store>(store: &mut S, file: u64, there: bool, text: &[u8]) -> R
     ensures read_faults { S.read_fault_count store.new ≡ S.read_fault_count store.old }
 {
     shut_file(store, file, there)?;
-    add(store, file, 0, text)?;
-    Ok(())
+    add(store, file, 0, text)
 }
 
 /// Puts the journal that stands in this file, 0 or 1, into one header: writes the text after an open gate into the
@@ -111,6 +109,5 @@ pub fn compact<S: Store>(store: &mut S, file: u64, there: bool, text: &[u8]) -> 
     ensures read_faults { S.read_fault_count store.new ≡ S.read_fault_count store.old }
 {
     write_text(store, 1 - file, there, text)?;
-    remove_through(store, file)?;
-    Ok(())
+    remove_through(store, file)
 }

@@ -1,11 +1,9 @@
 -- Tracks that agree by the numbers of their layouts.
-use Rattle.std.proofs.Common.{◌≡◌, ℕ, zero, suc, ◌==◌, nat_lt, true, List, [], ◌∷◌, slice_get, Some, subst}
-use Rattle.std.proofs.lemmas.Bool.{eqb-true, ltb-true}
-use Rattle.clip_track.specs.declared.clips.Clip.{Clip}
-use Rattle.record_body.specs.declared.body.Body.TheVariants.{Edit, Undo, Redo, Purge}
-use Rattle.record_body.specs.{declared.body.Body.Body, Batches.with_point, Changes.same_clips, Numbers.BodyAgrees}
-use Rattle.project_state.specs.Numbers.{AgreeById, AgreesIfAny, NumbersAgree, are_numbered_alike}
-use Rattle.project_state.specs.{declared.track.Track.Track, Tracks.track_of}
+use Rattle.record_body.proofs.Common.{◌≡◌, ℕ, zero, suc, ◌==◌, nat_lt, true, List, [], ◌∷◌, slice_get, Some, subst}
+use Rattle.record_body.proofs.Common.{eqb-true, ltb-true, Clip, Edit, Undo, Redo, Purge, Body, same_clips, BodyAgrees}
+use Rattle.record_body.proofs.Common.{AgreesIfAny, Track, track_of}
+use Rattle.record_body.specs.{Batches.with_point}
+use Rattle.project_state.specs.Numbers.{AgreeById, NumbersAgree, are_numbered_alike}
 use Rattle.record_body.proofs.ChangeLaws.{both, clips_refl}
 
 -- layouts of one number are the same clip by clip, so the numbers alone lead to the same choice

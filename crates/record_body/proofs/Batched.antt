@@ -1,13 +1,11 @@
 -- The records of pieces that come together lead to the point of the last.
-use Rattle.std.proofs.Common.{◌≡◌, refl, sym, ap, subst, ◌∙◌, ℕ, zero, suc, ◌+◌, ◌^◌, ◌≤◌, ◌<◌, List, [], ◌∷◌, ◌++◌}
-use Rattle.std.proofs.Common.{length, drop, arith}
-use Rattle.pcm_base.specs.History.{History, recorded}
+use Rattle.record_body.proofs.Common.{◌≡◌, refl, sym, ap, subst, ◌∙◌, ℕ, zero, suc, ◌+◌, ◌^◌, ◌≤◌, ◌<◌, List, [], ◌∷◌}
+use Rattle.record_body.proofs.Common.{◌++◌, length, drop, arith, History, recorded, Body, Edit, IsNextIn, Saved, LeadIn}
+use Rattle.record_body.proofs.Common.{after_body, before_of, current_tracks, first_tracks, HasShortEnds, IsValidBody}
+use Rattle.record_body.proofs.Common.{Track}
 use Rattle.model_laws.proofs.Again.{recorded_again, recorded_depth, recorded_last}
-use Rattle.record_body.specs.{declared.body.Body.Body, declared.body.Body.TheVariants.Edit, Batches.after_bodies}
-use Rattle.record_body.specs.{Batches.bodies_in, Changes.spelling_in, Saved.IsNextIn, Saved.Saved, Saved.LeadIn}
-use Rattle.record_body.specs.{Saved.MayFollow, Saved.after_body, Saved.before_of, Saved.current_tracks}
-use Rattle.record_body.specs.{Saved.first_tracks, Laws.BatchesLead, Laws.HasShortEnds, Valid.IsValidBody}
-use Rattle.project_state.specs.declared.track.Track.{Track}
+use Rattle.record_body.specs.{Batches.after_bodies, Batches.bodies_in, Changes.spelling_in, Saved.MayFollow}
+use Rattle.record_body.specs.{Laws.BatchesLead}
 use Rattle.record_body.proofs.{DeltaBack.delta_read_back, DiffBack.are_short}
 
 -- a valid body, as a journal of this version has it, may come next

@@ -1,16 +1,13 @@
 -- What the writer's choice says.
-use Rattle.std.proofs.Common.{◌≡◌, ℕ, zero, suc, ◌-◌, ◌<◌, ◌≤◌, ◌==◌, ◌&&◌, nat_lt, Bool, true, false, inl, inr, List}
-use Rattle.std.proofs.Common.{[], ◌∷◌, ◌++◌, length, take, drop, Option, Some, None, refl, sym, ◌∙◌, ap, ap₂, arith}
-use Rattle.std.proofs.Common.{take-append-drop}
-use Rattle.std.proofs.lemmas.Bool.{cases_Bool, eqb-true, eq-eqb, ltb-true}
-use Rattle.pcm_base.specs.{declared.block.BlockRef.BlockRef, declared.sound.Side.Side}
-use Rattle.clip_track.specs.declared.clips.Clip.{Clip}
-use Rattle.project_state.specs.{declared.track.Track.Track, Numbers.unnumbered}
-use Rattle.record_body.specs.Spelling.{side_byte, mute_byte}
-use Rattle.record_body.specs.Changes.{Same, is_block, common, same_blocks, same_clip, same_clips, front_clips}
-use Rattle.record_body.specs.Changes.{last_blocks, last_start, same_but_last, same_settings, change_of, with_last}
-use Rattle.record_body.specs.Changes.{tailed, changed}
-use Rattle.record_body.proofs.Commons.{common_least}
+use Rattle.record_body.proofs.Common.{◌≡◌, ℕ, zero, suc, ◌-◌, ◌<◌, ◌≤◌, ◌==◌, ◌&&◌, nat_lt, Bool, true, false, inl, inr}
+use Rattle.record_body.proofs.Common.{List, [], ◌∷◌, ◌++◌, length, take, drop, Option, Some, None, refl, sym, ◌∙◌, ap}
+use Rattle.record_body.proofs.Common.{ap₂, arith, take_all, cases_Bool, eqb-true, eq-eqb, ltb-true, BlockRef, Side}
+use Rattle.record_body.proofs.Common.{Clip, Track, unnumbered, side_byte, mute_byte, Same, is_block, common, same_clip}
+use Rattle.record_body.proofs.Common.{same_clips, last_blocks, last_start, same_but_last, same_settings, change_of}
+use Rattle.record_body.proofs.Common.{with_last, tailed, changed}
+use Rattle.std.proofs.{Common.take-append-drop}
+use Rattle.record_body.specs.Changes.{same_blocks, front_clips}
+use Rattle.record_body.proofs.Commons.{common_within}
 use Rattle.pcm_base.specs.declared.sound.Side.TheVariants as side
 
 -- ---- tests that hold
@@ -37,18 +34,13 @@ common_take (x ∷ xs) (y ∷ ys) = elim (cases_Bool (is_block x y)) [
   | inr differ ↦ rw differ refl
 ]
 
-take_whole : (n : ℕ) (xs : List BlockRef) → n ≡ length xs → take n xs ≡ xs
-take_whole zero [] e = refl
-take_whole zero (x ∷ xs) e = absurd (omega (arith, e))
-take_whole (suc n) [] e = refl
-take_whole (suc n) (x ∷ xs) e = ap (λ (l : List BlockRef). x ∷ l) (take_whole n xs (omega (arith, e)))
-
 blocks_same : (xs ys : List BlockRef) → same_blocks xs ys ≡ true → xs ≡ ys
 blocks_same xs ys e =
     let is = both (length xs == length ys) (common xs ys == length xs) e in
     let long : length xs ≡ length ys = eqb-true (length xs) (length ys) is.first in
     let all : common xs ys ≡ length xs = eqb-true (common xs ys) (length xs) is.second in
-    sym (take_whole (common xs ys) xs all) ∙ common_take xs ys ∙ take_whole (common xs ys) ys (all ∙ long)
+    sym (take_all (common xs ys) xs (omega (arith, all))) ∙ common_take xs ys
+    ∙ take_all (common xs ys) ys (omega (arith, all, long))
 
 clip_same : (a b : Clip) → same_clip a b ≡ true → a ≡ b
 clip_same a b e =
@@ -73,9 +65,8 @@ side_same _ _ e = absurd (omega (arith, e))
 
 mute_same : (a b : Bool) → mute_byte a ≡ mute_byte b → a ≡ b
 mute_same true true e = refl
-mute_same true false e = absurd (omega (arith, e))
-mute_same false true e = absurd (omega (arith, e))
 mute_same false false e = refl
+mute_same _ _ e = absurd (omega (arith, e))
 
 record Alike (a b : Track) : Type 0 where
   gain : a.gain ≡ b.gain
@@ -122,24 +113,40 @@ own_last [] = refl
 own_last (c ∷ []) = refl
 own_last (c ∷ d ∷ cs) = ap (λ (l : List Clip). c ∷ l) (own_last (d ∷ cs))
 
--- clips that differ in the blocks of the last alone
-last_alike : (xs ys : List Clip) → same_but_last xs ys ≡ true → with_last (last_blocks ys) xs ≡ ys
-last_alike xs ys e =
+-- where all but the blocks of the last clip is the same, it begins at one place
+pub record BeginAlike (xs ys : List Clip) : Type 0 where
+  pub some : 0 < length xs
+  pub other : 0 < length ys
+  pub start : last_start xs ≡ last_start ys
+  pub front : front_clips xs ≡ front_clips ys
+
+pub last_starts : (xs ys : List Clip) → same_but_last xs ys ≡ true → BeginAlike xs ys
+last_starts xs ys e =
     let one = both (nat_lt 0 (length xs)) _ e in
     let two = both (nat_lt 0 (length ys)) _ one.second in
     let three = both (last_start xs == last_start ys) (same_clips (front_clips xs) (front_clips ys)) two.second in
+    record {
+      some = ltb-true 0 (length xs) one.first;
+      other = ltb-true 0 (length ys) two.first;
+      start = eqb-true (last_start xs) (last_start ys) three.first;
+      front = clips_same (front_clips xs) (front_clips ys) three.second;
+    }
+
+-- clips that differ in the blocks of the last alone
+last_alike : (xs ys : List Clip) → same_but_last xs ys ≡ true → with_last (last_blocks ys) xs ≡ ys
+last_alike xs ys e =
+    let alike = last_starts xs ys e in
     let bs = last_blocks ys in
-    split_last xs bs (ltb-true 0 (length xs) one.first)
-    ∙ ap₂ (λ (l : List Clip) (start : ℕ). l ++ clip_of start bs ∷ [])
-    (clips_same (front_clips xs) (front_clips ys) three.second) (eqb-true (last_start xs) (last_start ys) three.first)
-    ∙ sym (split_last ys bs (ltb-true 0 (length ys) two.first)) ∙ own_last ys
+    split_last xs bs alike.some
+    ∙ ap₂ (λ (l : List Clip) (start : ℕ). l ++ clip_of start bs ∷ []) alike.front alike.start
+    ∙ sym (split_last ys bs alike.other) ∙ own_last ys
 
 -- what is common, and what comes after it
 tail_blocks : (xs ys : List BlockRef)
     → take (length xs - (length xs - common xs ys)) xs ++ drop (common xs ys) ys ≡ ys
 tail_blocks xs ys =
     let k = common xs ys in
-    let same : length xs - (length xs - k) ≡ k = omega (arith, common_least xs ys) in
+    let same : length xs - (length xs - k) ≡ k = omega (arith, (common_within xs ys).0) in
     ap (λ n. take n xs ++ drop k ys) same ∙ ap (λ (l : List BlockRef). l ++ drop k ys) (common_take xs ys)
     ∙ take-append-drop k ys
 
@@ -224,20 +231,3 @@ same_stays t =
       eq-eqb (mute_byte t.mute) (mute_byte t.mute) refl,
       clips_refl t.layout,
     ) refl
-
--- where all but the blocks of the last clip is the same, it begins at one place
-pub record BeginAlike (xs ys : List Clip) : Type 0 where
-  pub some : 0 < length xs
-  pub other : 0 < length ys
-  pub start : last_start xs ≡ last_start ys
-
-pub last_starts : (xs ys : List Clip) → same_but_last xs ys ≡ true → BeginAlike xs ys
-last_starts xs ys e =
-    let one = both (nat_lt 0 (length xs)) _ e in
-    let two = both (nat_lt 0 (length ys)) _ one.second in
-    let three = both (last_start xs == last_start ys) (same_clips (front_clips xs) (front_clips ys)) two.second in
-    record {
-      some = ltb-true 0 (length xs) one.first;
-      other = ltb-true 0 (length ys) two.first;
-      start = eqb-true (last_start xs) (last_start ys) three.first;
-    }

@@ -1,25 +1,16 @@
 -- Each way to tell a track passes its tests and is read back.
-use Rattle.std.proofs.Common.{◌≡◌, ℕ, ◌+◌, ◌-◌, ◌≤◌, ◌<◌, ◌==◌, ◌&&◌, Bool, true, false, List, [], ◌∷◌, ◌++◌, length}
-use Rattle.std.proofs.Common.{drop, Option, Some, None, nat_lt, refl, sym, ap, ap₂, subst, ◌∙◌, arith, slice_index}
-use Rattle.std.proofs.Common.{if◌then◌else◌}
-use Rattle.std.proofs.lemmas.Bool.{eqb-true}
-use Rattle.std.specs.List.{flat_map}
-use Rattle.byteorder.specs.Endian.{little_bytes}
-use Rattle.pcm_base.specs.{Blocks.blocks_len, declared.block.BlockRef.BlockRef}
-use Rattle.project_journal.specs.Fields.{field}
-use Rattle.record_body.specs.declared.limits.Limits.{Limits}
-use Rattle.record_body.specs.Changes.{Change, Same, Whole, Tail, change_bytes, heard_bytes, last_blocks, last_start}
-use Rattle.record_body.specs.ChangePlaces.{mark_at, gone_at, fresh_at, whole_at, change_at, diff_size}
-use Rattle.record_body.specs.ChangeTests.{mark_want, mark_tests, how_tests, whole_tests, is_lone, kept_blocks}
-use Rattle.record_body.specs.ChangeTests.{tail_head_tests, marked_tests, change_tests}
-use Rattle.record_body.specs.FirstFault.{place, blocks_tests, clips_tests}
-use Rattle.record_body.specs.Places.{blocks_at, side_of, clip_count, clips_at, clips_size}
-use Rattle.record_body.specs.Spelling.{block_bytes, clip_bytes, side_byte, mute_byte}
-use Rattle.project_state.specs.declared.track.Track.{Track}
-use Rattle.record_body.proofs.ClipsBack.{AreNarrow, has_blocks, blocks_pass, has_clips, clips_pass}
+use Rattle.record_body.proofs.Common.{◌≡◌, ℕ, ◌+◌, ◌-◌, ◌≤◌, ◌<◌, ◌==◌, ◌&&◌, Bool, true, false, List, [], ◌∷◌, ◌++◌}
+use Rattle.record_body.proofs.Common.{length, drop, Option, Some, None, nat_lt, refl, sym, ap, ap₂, subst, ◌∙◌, arith}
+use Rattle.record_body.proofs.Common.{if◌then◌else◌, eqb-true, flat_map, little_bytes, blocks_len, BlockRef, field}
+use Rattle.record_body.proofs.Common.{Limits, Change, Same, Whole, Tail, change_bytes, heard_bytes, last_blocks}
+use Rattle.record_body.proofs.Common.{last_start, mark_at, gone_at, fresh_at, whole_at, change_at, diff_size, mark_want}
+use Rattle.record_body.proofs.Common.{mark_tests, whole_tests, is_lone, kept_blocks, tail_head_tests, marked_tests}
+use Rattle.record_body.proofs.Common.{change_tests, place, blocks_tests, blocks_at, side_of, clip_count, clips_at}
+use Rattle.record_body.proofs.Common.{clips_size, block_bytes, clip_bytes, Track}
+use Rattle.record_body.proofs.ClipsBack.{AreNarrow, has_blocks, has_clips}
 use Rattle.record_body.proofs.FieldsBack.{NoneFails, both_pass, passes, byte_there, least_passes, most_passes, no_test}
 use Rattle.record_body.proofs.FieldsBack.{number_there, past}
-use Rattle.record_body.proofs.TracksBack.{IsGoodTrack, side_back, side_most, mute_back, mute_most}
+use Rattle.record_body.proofs.TracksBack.{IsGoodTrack, has_heard, side_back, mute_back, whole_pass}
 use Rattle.record_body.proofs.{Parts.length_blocks, GoodTails.IsGoodTail}
 
 -- a change that passes its tests
@@ -45,42 +36,6 @@ back_same l o at bytes rest e =
     }
 
 -- ---- written out
-
-record HasHeard (t : Track) (at : ℕ) (bytes rest : List ℕ) : Type 0 where
-  gain : field (at + 8) 4 bytes ≡ t.gain
-  side : slice_index bytes (at + 12) ≡ side_byte t.side
-  mute : slice_index bytes (at + 13) ≡ mute_byte t.mute
-  count : clip_count at bytes ≡ length t.layout
-  clips : drop (at + 18) bytes ≡ flat_map clip_bytes t.layout ++ rest
-
-has_heard : (l : Limits) (from : ℕ) (t : Track) (at : ℕ) (bytes rest : List ℕ) → IsGoodTrack l from t
-    → drop (at + 8) bytes ≡ heard_bytes t ++ rest → HasHeard t at bytes rest
-has_heard l from t at bytes rest good e =
-    let all = flat_map clip_bytes t.layout ++ rest in
-    let counted = little_bytes 4 (length t.layout) ++ all in
-    let muted = mute_byte t.mute ∷ counted in
-    let sided = side_byte t.side ∷ muted in
-    let at_side = past (at + 8) (at + 12) bytes (little_bytes 4 t.gain) sided e (omega arith) in
-    let at_mute = past (at + 12) (at + 13) bytes (side_byte t.side ∷ []) muted at_side (omega arith) in
-    let at_count = past (at + 13) (at + 14) bytes (mute_byte t.mute ∷ []) counted at_mute (omega arith) in
-    record {
-      gain = number_there 4 t.gain (at + 8) bytes sided e (omega (arith, good.gain));
-      side = byte_there (side_byte t.side) (at + 12) bytes muted at_side;
-      mute = byte_there (mute_byte t.mute) (at + 13) bytes counted at_mute;
-      count = number_there 4 (length t.layout) (at + 14) bytes all at_count good.few;
-      clips = past (at + 14) (at + 18) bytes (little_bytes 4 (length t.layout)) all at_count (omega arith);
-    }
-
-whole_pass : (l : Limits) (from : ℕ) (t : Track) (at : ℕ) (bytes rest : List ℕ) → AreNarrow l → IsGoodTrack l from t
-    → HasHeard t at bytes rest → NoneFails (whole_tests l at bytes)
-whole_pass l from t at bytes rest narrow good has =
-    let how : NoneFails (how_tests l at bytes) =
-    most_passes _ _ _ _ _ has.gain good.gain
-    (most_passes _ _ _ _ _ has.side (side_most t.side)
-    (most_passes _ _ _ _ _ has.mute (mute_most t.mute) no_test)) in
-    let clips = clips_pass l 0 t.layout (at + 18) bytes rest narrow good.clips has.clips in
-    both_pass (how_tests l at bytes) _ how
-    (subst (λ (n : ℕ). NoneFails (clips_tests l n 0 (at + 18) bytes)) (sym has.count) clips)
 
 marked_whole : (l : Limits) (old : Option Track) (at : ℕ) (bytes : List ℕ) → mark_at at bytes ≡ 1
     → NoneFails (whole_tests l (at + 1) bytes) → NoneFails (change_tests l old at bytes)
@@ -145,7 +100,6 @@ back_tail l o gone bs at bytes rest narrow good e =
     let several = nat_lt 1 (length olds - gone + length bs) in
     let before = start + blocks_len (kept_blocks olds gone) in
     let has = has_blocks l several before bs (at + 17) bytes rest narrow good.blocks at_blocks in
-    let pass = blocks_pass l several before bs (at + 17) bytes rest narrow good.blocks at_blocks in
     let head : NoneFails (tail_head_tests l olds at bytes) =
     most_passes _ _ _ _ _ goes good.within
     (least_passes _ _ _ _ _ goes
@@ -157,7 +111,7 @@ back_tail l o gone bs at bytes rest narrow good e =
     subst (λ (n : ℕ). NoneFails (blocks_tests l (nat_lt 1 (length olds - gone_at at bytes + n)) n
     (start + blocks_len (kept_blocks olds (gone_at at bytes))) (at + 17) bytes)) (sym comes)
     (subst (λ (g : ℕ). NoneFails (blocks_tests l (nat_lt 1 (length olds - g + length bs)) (length bs)
-    (start + blocks_len (kept_blocks olds g)) (at + 17) bytes)) (sym goes) pass) in
+    (start + blocks_len (kept_blocks olds g)) (at + 17) bytes)) (sym goes) has.passes) in
     let tail = both_pass (tail_head_tests l olds at bytes) _ head blocks in
     let want : mark_want (Some o) (mark_at at bytes) ≡ mark_at at bytes =
     rw (mark, some_layout (length o.layout) good.some) refl in

@@ -1,17 +1,12 @@
 -- Blocks and clips that meet their bounds pass their tests and are read back.
-use Rattle.std.proofs.Common.{◌≡◌, ℕ, ◌+◌, ◌^◌, ◌≤◌, ◌<◌, Bool, List, [], ◌∷◌, ◌++◌, length, drop, nat_lt, refl, sym}
-use Rattle.std.proofs.Common.{ap, ap₂, subst, ◌∙◌, arith, append_assoc, length-append}
-use Rattle.std.specs.List.{flat_map}
-use Rattle.byteorder.specs.Endian.{little_bytes}
-use Rattle.pcm_base.specs.{declared.block.BlockRef.BlockRef, Blocks.blocks_len}
-use Rattle.clip_track.specs.{declared.clips.Clip.Clip, Clips.clip_end}
-use Rattle.project_journal.specs.Fields.{field}
+use Rattle.record_body.proofs.Common.{◌≡◌, ℕ, ◌+◌, ◌^◌, ◌≤◌, ◌<◌, Bool, List, [], ◌∷◌, ◌++◌, length, drop, nat_lt, refl}
+use Rattle.record_body.proofs.Common.{sym, ap, ap₂, subst, ◌∙◌, arith, append_assoc, length-append, flat_map}
+use Rattle.record_body.proofs.Common.{little_bytes, BlockRef, blocks_len, Clip, clip_end, field, blocks_at, lens_at}
+use Rattle.record_body.proofs.Common.{block_count, clip_at, clip_end_at, clip_size, clips_at, clips_size, least_len}
+use Rattle.record_body.proofs.Common.{block_tests, blocks_tests, clip_head_tests, clip_tests, clips_tests, Limits}
+use Rattle.record_body.proofs.Common.{block_bytes, clip_bytes}
 use Rattle.record_body.proofs.Parts.{length_clip}
 use Rattle.record_body.proofs.FieldsBack.{NoneFails, both_pass, least_passes, most_passes, no_test, number_there, past}
-use Rattle.record_body.specs.Places.{blocks_at, lens_at, block_count, clip_at, clip_end_at, clip_size, clips_at}
-use Rattle.record_body.specs.Places.{clips_size}
-use Rattle.record_body.specs.FirstFault.{least_len, block_tests, blocks_tests, clip_head_tests, clip_tests, clips_tests}
-use Rattle.record_body.specs.{declared.limits.Limits.Limits, Spelling.block_bytes, Spelling.clip_bytes}
 
 -- a block that meets its bounds, after this many cells
 pub record IsGoodBlock (l : Limits) (several : Bool) (before : ℕ) (b : BlockRef) : Type 0 where
@@ -51,9 +46,12 @@ block_passes l several before b at bytes rest good has =
     (most_passes _ _ _ _ _ has.len good.fits
     (least_passes _ _ _ _ _ has.len good.enough no_test)))))
 
-pub record HasBlocks (bs : List BlockRef) (at : ℕ) (bytes : List ℕ) : Type 0 where
+-- blocks where their bytes stand, which pass
+pub record HasBlocks (l : Limits) (several : Bool) (before : ℕ) (bs : List BlockRef) (at : ℕ) (bytes : List ℕ)
+    : Type 0 where
   pub blocks : blocks_at (length bs) at bytes ≡ bs
   pub lens : lens_at (length bs) at bytes ≡ blocks_len bs
+  pub passes : NoneFails (blocks_tests l several (length bs) before at bytes)
 
 -- the bounds by which ids and lengths fit their fields
 pub record AreNarrow (l : Limits) : Type 0 where
@@ -61,35 +59,22 @@ pub record AreNarrow (l : Limits) : Type 0 where
   pub tracks : l.next_track ≤ 2 ^ 62
   pub lens : l.block_size < 2 ^ 32
 
-good_has : (l : Limits) (several : Bool) (before : ℕ) (b : BlockRef) (at : ℕ) (bytes rest : List ℕ) → AreNarrow l
-    → IsGoodBlock l several before b → drop at bytes ≡ block_bytes b ++ rest → HasBlock b at bytes rest
-good_has l several before b at bytes rest narrow good e =
-    has_block b at bytes rest (omega (arith, narrow.ids, good.given)) (omega (arith, narrow.lens, good.fits)) e
-
 pub has_blocks : (l : Limits) (several : Bool) (before : ℕ) (bs : List BlockRef) (at : ℕ) (bytes rest : List ℕ)
     → AreNarrow l → AreGoodBlocks l several before bs → drop at bytes ≡ flat_map block_bytes bs ++ rest
-    → HasBlocks bs at bytes
-has_blocks l several before [] at bytes rest narrow good e = record { blocks = refl; lens = refl }
+    → HasBlocks l several before bs at bytes
+has_blocks l several before [] at bytes rest narrow good e = record { blocks = refl; lens = refl; passes = no_test }
 has_blocks l several before (b ∷ bs) at bytes rest narrow good e =
-    let one = good_has l several before b at bytes (flat_map block_bytes bs ++ rest) narrow good.0
-    (e ∙ append_assoc (block_bytes b) (flat_map block_bytes bs) rest) in
+    let one = has_block b at bytes (flat_map block_bytes bs ++ rest) (omega (arith, narrow.ids, good.0.given))
+    (omega (arith, narrow.lens, good.0.fits)) (e ∙ append_assoc (block_bytes b) (flat_map block_bytes bs) rest) in
     let more = has_blocks l several (before + b.len) bs (at + 12) bytes rest narrow good.1 one.left in
     record {
       blocks = ap₂ (λ (id len : ℕ). record { id = id; len = len } ∷ blocks_at (length bs) (at + 12) bytes) one.id
           one.len ∙ ap (λ (r : List BlockRef). b ∷ r) more.blocks;
       lens = ap₂ (λ (n k : ℕ). n + k) one.len more.lens;
+      passes = both_pass (block_tests l several before at bytes) _
+          (block_passes l several before b at bytes _ good.0 one) (subst (λ (n : ℕ). NoneFails (blocks_tests l several (length bs) (before + n) (at + 12) bytes)) (sym one.len)
+          more.passes);
     }
-
-pub blocks_pass : (l : Limits) (several : Bool) (before : ℕ) (bs : List BlockRef) (at : ℕ) (bytes rest : List ℕ)
-    → AreNarrow l → AreGoodBlocks l several before bs → drop at bytes ≡ flat_map block_bytes bs ++ rest
-    → NoneFails (blocks_tests l several (length bs) before at bytes)
-blocks_pass l several before [] at bytes rest narrow good e = no_test
-blocks_pass l several before (b ∷ bs) at bytes rest narrow good e =
-    let one = good_has l several before b at bytes (flat_map block_bytes bs ++ rest) narrow good.0
-    (e ∙ append_assoc (block_bytes b) (flat_map block_bytes bs) rest) in
-    let more = blocks_pass l several (before + b.len) bs (at + 12) bytes rest narrow good.1 one.left in
-    both_pass (block_tests l several before at bytes) _ (block_passes l several before b at bytes _ good.0 one)
-    (subst (λ (n : ℕ). NoneFails (blocks_tests l several (length bs) (before + n) (at + 12) bytes)) (sym one.len) more)
 
 -- a clip that meets its bounds, from a cell on
 pub record IsGoodClip (l : Limits) (from : ℕ) (c : Clip) : Type 0 where
@@ -142,42 +127,31 @@ clip_passes l from c at bytes rest narrow good has =
     least_passes _ _ _ _ _ has.start good.behind
     (most_passes _ _ _ _ _ has.start good.reached
     (least_passes _ _ _ _ _ has.count good.some no_test)) in
-    let all = blocks_pass l (nat_lt 1 (length c.blocks)) c.start c.blocks
+    let all = has_blocks l (nat_lt 1 (length c.blocks)) c.start c.blocks
     (at + 12) bytes rest narrow good.blocks has.blocks in
     let counted =
-    subst (λ (n : ℕ). NoneFails (blocks_tests l (nat_lt 1 n) n c.start (at + 12) bytes)) (sym has.count) all in
+    subst (λ (n : ℕ). NoneFails (blocks_tests l (nat_lt 1 n) n c.start (at + 12) bytes)) (sym has.count) all.passes in
     both_pass (clip_head_tests l from at bytes) _ head
     (subst (λ (n : ℕ). NoneFails (blocks_tests l (nat_lt 1 (block_count at bytes)) (block_count at bytes) n
     (at + 12) bytes)) (sym has.start) counted)
 
-pub record HasClips (cs : List Clip) (at : ℕ) (bytes : List ℕ) : Type 0 where
+-- clips where their bytes stand, which pass
+pub record HasClips (l : Limits) (from : ℕ) (cs : List Clip) (at : ℕ) (bytes : List ℕ) : Type 0 where
   pub clips : clips_at (length cs) at bytes ≡ cs
   pub size : clips_size (length cs) at bytes ≡ length (flat_map clip_bytes cs)
-
-first_clip : (l : Limits) (from : ℕ) (c : Clip) (cs : List Clip) (at : ℕ) (bytes rest : List ℕ)
-    → AreNarrow l → IsGoodClip l from c → drop at bytes ≡ flat_map clip_bytes (c ∷ cs) ++ rest
-    → HasClip c at bytes (flat_map clip_bytes cs ++ rest)
-first_clip l from c cs at bytes rest narrow good e = has_clip l from c at bytes
-    (flat_map clip_bytes cs ++ rest) narrow good (e ∙ append_assoc (clip_bytes c) (flat_map clip_bytes cs) rest)
+  pub passes : NoneFails (clips_tests l (length cs) from at bytes)
 
 pub has_clips : (l : Limits) (from : ℕ) (cs : List Clip) (at : ℕ) (bytes rest : List ℕ) → AreNarrow l
-    → AreGoodClips l from cs → drop at bytes ≡ flat_map clip_bytes cs ++ rest → HasClips cs at bytes
-has_clips l from [] at bytes rest narrow good e = record { clips = refl; size = refl }
+    → AreGoodClips l from cs → drop at bytes ≡ flat_map clip_bytes cs ++ rest → HasClips l from cs at bytes
+has_clips l from [] at bytes rest narrow good e = record { clips = refl; size = refl; passes = no_test }
 has_clips l from (c ∷ cs) at bytes rest narrow good e =
-    let one = first_clip l from c cs at bytes rest narrow good.0 e in
+    let one = has_clip l from c at bytes (flat_map clip_bytes cs ++ rest) narrow good.0
+    (e ∙ append_assoc (clip_bytes c) (flat_map clip_bytes cs) rest) in
     let more = has_clips l (clip_end c + 1) cs (at + clip_size at bytes) bytes rest narrow good.1 one.left in
     record {
       clips = ap₂ (λ (d : Clip) (ds : List Clip). d ∷ ds) one.clip more.clips;
       size = omega (arith, one.size, more.size, length-append (clip_bytes c) (flat_map clip_bytes cs));
+      passes = both_pass (clip_tests l from at bytes) _ (clip_passes l from c at bytes _ narrow good.0 one)
+          (subst (λ (n : ℕ). NoneFails (clips_tests l (length cs) (n + 1) (at + clip_size at bytes) bytes))
+          (sym one.end) more.passes);
     }
-
-pub clips_pass : (l : Limits) (from : ℕ) (cs : List Clip) (at : ℕ) (bytes rest : List ℕ)
-    → AreNarrow l → AreGoodClips l from cs → drop at bytes ≡ flat_map clip_bytes cs ++ rest
-    → NoneFails (clips_tests l (length cs) from at bytes)
-clips_pass l from [] at bytes rest narrow good e = no_test
-clips_pass l from (c ∷ cs) at bytes rest narrow good e =
-    let one = first_clip l from c cs at bytes rest narrow good.0 e in
-    let more = clips_pass l (clip_end c + 1) cs (at + clip_size at bytes) bytes rest narrow good.1 one.left in
-    both_pass (clip_tests l from at bytes) _ (clip_passes l from c at bytes _ narrow good.0 one)
-    (subst (λ (n : ℕ). NoneFails (clips_tests l (length cs) (n + 1) (at + clip_size at bytes) bytes))
-    (sym one.end) more)

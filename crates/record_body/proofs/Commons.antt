@@ -1,10 +1,8 @@
 -- What two lists of blocks, or of clips, have in common.
-use Rattle.std.proofs.Common.{◌≡◌, ℕ, suc, ◌-◌, ◌<◌, ◌≤◌, get_or, min, Bool, true, false, inl, inr, ◌⊎◌, List, [], ◌∷◌}
-use Rattle.std.proofs.Common.{length, drop, refl, sym, ◌∙◌, ap, arith, ◌&&◌}
-use Rattle.std.proofs.{lemmas.Bool.cases_Bool, lemmas.Bool.cases_lt, lemmas.List.drop_all}
-use Rattle.pcm_base.specs.declared.block.BlockRef.{BlockRef}
-use Rattle.clip_track.specs.declared.clips.Clip.{Clip}
-use Rattle.record_body.specs.Changes.{is_block, common, same_clip, same_clips, last_blocks, last_start}
+use Rattle.record_body.proofs.Common.{◌≡◌, ℕ, suc, ◌-◌, ◌<◌, ◌≤◌, get_or, min, Bool, true, false, inl, inr, ◌⊎◌, List}
+use Rattle.record_body.proofs.Common.{[], ◌∷◌, length, drop, refl, sym, ◌∙◌, ap, arith, ◌&&◌, cases_Bool, cases_lt}
+use Rattle.record_body.proofs.Common.{drop_all, BlockRef, Clip, is_block, common, same_clip, same_clips, last_blocks}
+use Rattle.record_body.proofs.Common.{last_start}
 
 common_nil : (xs : List BlockRef) → common xs [] ≡ 0
 common_nil [] = refl
@@ -25,13 +23,16 @@ common_ends xs ys i past = by_case (drop i xs) (drop i ys) (ends xs ys i past)
     by_case a b (inl none) = ap (λ l. common l b) none
     by_case a b (inr none) = ap (common a) none ∙ common_nil a
 
-pub common_least : (xs ys : List BlockRef) → common xs ys ≤ length xs
-common_least [] ys = omega arith
-common_least (x ∷ xs) [] = omega arith
-common_least (x ∷ xs) (y ∷ ys) = elim (cases_Bool (is_block x y)) [
-  | inl same ↦ rw same (omega (arith, common_least xs ys))
-  | inr differ ↦ rw differ (omega arith)
-]
+-- what is common is within both
+pub common_within : (xs ys : List BlockRef) → (common xs ys ≤ length xs) × (common xs ys ≤ length ys)
+common_within [] ys = (omega arith, omega arith)
+common_within (x ∷ xs) [] = (omega arith, omega arith)
+common_within (x ∷ xs) (y ∷ ys) =
+    let more = common_within xs ys in
+    elim (cases_Bool (is_block x y)) [
+      | inl same ↦ rw same (omega (arith, more.0), omega (arith, more.1))
+      | inr differ ↦ rw differ (omega arith, omega arith)
+    ]
 
 pub clips_unlike : (xs ys : List Clip) → (length xs ≡ length ys → ⊥) → same_clips xs ys ≡ false
 clips_unlike [] [] differ = absurd (differ refl)
@@ -57,11 +58,3 @@ last_at (x ∷ y ∷ cs) c some is =
     let less : length (x ∷ y ∷ cs) - 1 ≡ suc (length (y ∷ cs) - 1) = omega arith in
     let more = last_at (y ∷ cs) c (omega arith) (is ∙ ap (λ n. get_or (x ∷ y ∷ cs) n c) less) in
     record { blocks = more.blocks; start = more.start }
-
-pub common_most : (xs ys : List BlockRef) → common xs ys ≤ length ys
-common_most [] ys = omega arith
-common_most (x ∷ xs) [] = omega arith
-common_most (x ∷ xs) (y ∷ ys) = elim (cases_Bool (is_block x y)) [
-  | inl same ↦ rw same (omega (arith, common_most xs ys))
-  | inr differ ↦ rw differ (omega arith)
-]

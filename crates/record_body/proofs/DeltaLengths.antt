@@ -1,14 +1,10 @@
 -- A body that is written by the current point is hardly longer than one that is written out: by a byte a track.
-use Rattle.std.proofs.Common.{◌≡◌, ℕ, ◌+◌, ◌*◌, ◌≤◌, ◌<◌, ◌&&◌, inl, inr, List, [], ◌∷◌, length, drop, Option, Some}
-use Rattle.std.proofs.Common.{None, arith, length-append, length-drop}
-use Rattle.std.proofs.lemmas.Bool.{cases_Bool}
-use Rattle.std.specs.List.{flat_map}
-use Rattle.pcm_base.specs.{Sizes.project_body_most, Pieces.Sources}
-use Rattle.clip_track.specs.{declared.clips.Clip.Clip, Clips.layout_blocks}
-use Rattle.project_state.specs.{declared.track.Track.Track, Meaning.meant, Tracks.track_of}
-use Rattle.record_body.specs.Changes.{change_of, change_bytes, heard_bytes, diff_bytes, last_blocks, same_settings}
-use Rattle.record_body.specs.Changes.{same_clips, same_but_last, common}
-use Rattle.record_body.specs.{Lengths.AreLayouts, Lengths.AreHalfFull, Spelling.track_bytes}
+use Rattle.record_body.proofs.Common.{◌≡◌, ℕ, ◌+◌, ◌*◌, ◌≤◌, ◌<◌, ◌&&◌, inl, inr, List, [], ◌∷◌, length, drop, Option}
+use Rattle.record_body.proofs.Common.{Some, None, arith, length-append, length-drop, cases_Bool, flat_map, Sources}
+use Rattle.record_body.proofs.Common.{Clip, layout_blocks, Track, meant, track_of, change_of, change_bytes, heard_bytes}
+use Rattle.record_body.proofs.Common.{diff_bytes, last_blocks, same_settings, same_clips, same_but_last, common}
+use Rattle.record_body.proofs.Common.{AreLayouts, AreHalfFull, track_bytes}
+use Rattle.pcm_base.specs.{Sizes.project_body_most}
 use Rattle.record_body.proofs.{Lengths.clips_bytes, Lengths.tracks_short_more, Parts.length_blocks}
 
 last_few : (cs : List Clip) → length (last_blocks cs) ≤ length (layout_blocks cs)

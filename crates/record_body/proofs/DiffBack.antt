@@ -1,23 +1,17 @@
 -- Tracks that are told by the current point pass their tests and are read back.
-use Rattle.std.proofs.Common.{◌≡◌, ℕ, ◌+◌, ◌^◌, ◌<◌, ◌&&◌, inl, inr, List, [], ◌∷◌, ◌++◌, length, map, drop, Option}
-use Rattle.std.proofs.Common.{Some, None, refl, sym, ap, ap₂, subst, ◌∙◌, arith, append_assoc, length-append}
-use Rattle.std.proofs.lemmas.Bool.{cases_Bool}
-use Rattle.std.specs.List.{flat_map}
-use Rattle.byteorder.specs.Endian.{little_bytes}
-use Rattle.project_journal.specs.Fields.{field}
-use Rattle.record_body.specs.Changes.{Change, change_of, changed, change_bytes, diff_bytes, last_blocks, same_settings}
-use Rattle.record_body.specs.Changes.{same_clips, same_but_last}
-use Rattle.record_body.specs.ChangePlaces.{diff_size, diff_at, all_diff_at, diff_widths, all_diff_widths}
-use Rattle.record_body.specs.ChangeTests.{id_tests, change_tests, diff_tests, all_diff_tests}
-use Rattle.record_body.specs.{declared.limits.Limits.Limits, Laws.EndsShort, Laws.HasShortEnds, Widths.total_width}
-use Rattle.project_state.specs.{declared.track.Track.Track, Numbers.unnumbered, Tracks.track_of}
+use Rattle.record_body.proofs.Common.{◌≡◌, ℕ, ◌+◌, ◌^◌, ◌<◌, ◌&&◌, inl, inr, List, [], ◌∷◌, ◌++◌, length, map, drop}
+use Rattle.record_body.proofs.Common.{Option, Some, None, refl, sym, ap, ap₂, subst, ◌∙◌, arith, append_assoc}
+use Rattle.record_body.proofs.Common.{length-append, cases_Bool, flat_map, little_bytes, field, Change, change_of}
+use Rattle.record_body.proofs.Common.{changed, change_bytes, diff_bytes, last_blocks, same_settings, same_clips}
+use Rattle.record_body.proofs.Common.{same_but_last, diff_size, diff_at, all_diff_at, diff_widths, all_diff_widths}
+use Rattle.record_body.proofs.Common.{id_tests, change_tests, diff_tests, all_diff_tests, Limits, EndsShort}
+use Rattle.record_body.proofs.Common.{HasShortEnds, total_width, Track, unnumbered, track_of, all_pass}
 use Rattle.record_body.proofs.FieldsBack.{NoneFails, both_pass, least_passes, most_passes, no_test, number_there, past}
 use Rattle.record_body.proofs.ChangeLaws.{choice_says, HasId, both}
 use Rattle.record_body.proofs.ChangesBack.{IsBack, back_same, back_whole, back_tail}
 use Rattle.record_body.proofs.{ClipsBack.AreNarrow, TracksBack.IsGoodTrack, TracksBack.AreGoodTracks}
 use Rattle.record_body.proofs.{Measured.rest_known, Measured.sum_diff, Reaching.total_width-append, DiffTracks.found_id}
 use Rattle.record_body.proofs.{DiffTracks.known_mark, GoodTails.good_tail}
-use Rattle.project_journal.proofs.AnyFormats.{all_pass}
 
 -- ---- whichever the writer takes
 

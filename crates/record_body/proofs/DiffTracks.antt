@@ -1,18 +1,13 @@
 -- Tracks that are told by those of the current point.
-use Rattle.std.proofs.Common.{◌≡◌, ℕ, zero, suc, ◌+◌, ◌-◌, ◌==◌, ◌<◌, ◌≤◌, inl, inr, List, [], ◌∷◌, ◌++◌, Option, Some}
-use Rattle.std.proofs.Common.{None, Result, Ok, Err, refl, sym, ◌∙◌, ap, subst, arith}
-use Rattle.std.proofs.lemmas.Bool.{cases_Bool, eqb-true}
-use Rattle.pcm_base.specs.declared.block.BlockRef.{BlockRef}
-use Rattle.clip_track.specs.Clips.{AllHalfFull}
-use Rattle.project_journal.specs.{Fields.field, Header.first_failed, declared.fault.Damaged.Damaged}
-use Rattle.record_body.specs.Changes.{Change, Same, Whole, Tail, changed, tailed}
-use Rattle.record_body.specs.ChangePlaces.{mark_at, change_at, diff_at, diff_size, whole_at, HasDiff, HaveDiff}
-use Rattle.record_body.specs.ChangeTests.{id_tests, change_tests, mark_tests, marked_tests, mark_want, diff_tests}
-use Rattle.record_body.specs.FirstFault.{Finds, place}
-use Rattle.record_body.specs.{declared.limits.BadBody.BadBody, declared.limits.Limits.Limits, Lengths.AreHalfFull}
-use Rattle.project_state.specs.{declared.track.Track.Track, Numbers.unnumbered, Tracks.track_of}
+use Rattle.record_body.proofs.Common.{◌≡◌, ℕ, zero, suc, ◌+◌, ◌-◌, ◌==◌, ◌<◌, ◌≤◌, inl, inr, List, [], ◌∷◌, ◌++◌}
+use Rattle.record_body.proofs.Common.{Option, Some, None, Result, Ok, Err, refl, sym, ◌∙◌, ap, subst, arith, cases_Bool}
+use Rattle.record_body.proofs.Common.{eqb-true, BlockRef, AllHalfFull, field, first_failed, Damaged, Change, Same}
+use Rattle.record_body.proofs.Common.{Whole, Tail, changed, tailed, mark_at, change_at, diff_at, diff_size, whole_at}
+use Rattle.record_body.proofs.Common.{HaveDiff, id_tests, change_tests, mark_tests, marked_tests, mark_want, diff_tests}
+use Rattle.record_body.proofs.Common.{Finds, place, BadBody, Limits, AreHalfFull, Track, unnumbered, track_of, Pass}
+use Rattle.record_body.proofs.Common.{none_first}
+use Rattle.record_body.specs.ChangePlaces.{HasDiff}
 use Rattle.record_body.proofs.Passing.{pass_parts}
-use Rattle.project_journal.proofs.{AnyFormats.Pass, Headers.none_first}
 use Rattle.record_body.specs.declared.limits.BadBody.TheVariants as bad
 
 pub some_is : {A : Type 0} (x y : A) → Some x ≡ Some y → x ≡ y

@@ -1,30 +1,21 @@
 -- What a body of kind 5 says by a valid point is valid, where all its tests pass.
-use Rattle.std.proofs.Common.{◌≡◌, ℕ, zero, suc, ◌+◌, ◌-◌, ◌^◌, ◌≤◌, ◌<◌, ◌==◌, inl, inr, List, [], ◌∷◌, ◌++◌, length}
-use Rattle.std.proofs.Common.{map, take, Option, Some, None, refl, sym, ap, subst, ◌∙◌, arith, slice_index}
-use Rattle.std.proofs.lemmas.Bool.{cases_Bool, eq-eqb, eqb-true, eqb-false}
-use Rattle.pcm_base.specs.{Blocks.blocks_len, declared.block.BlockRef.BlockRef}
-use Rattle.clip_track.specs.declared.clips.Clip.{Clip}
-use Rattle.project_journal.specs.{Fields.field, Header.first_failed}
-use Rattle.record_body.specs.declared.body.Body.TheVariants.{Edit, Undo, Redo, Purge}
-use Rattle.record_body.specs.Changes.{changed, last_blocks, last_start, tailed, with_last}
-use Rattle.record_body.specs.ChangePlaces.{mark_at, gone_at, fresh_at, whole_at, change_at, diff_at, diff_size}
-use Rattle.record_body.specs.ChangePlaces.{all_diff_at}
-use Rattle.record_body.specs.ChangeTests.{mark_want, mark_tests, how_tests, whole_tests, kept_blocks, tail_tests}
-use Rattle.record_body.specs.ChangeTests.{id_tests, marked_tests, change_tests, diff_tests, all_diff_tests}
-use Rattle.record_body.specs.ChangeTests.{delta_edit_tests, delta_tests}
-use Rattle.record_body.specs.FirstFault.{place, clips_tests, head_tests, limits_at}
-use Rattle.record_body.specs.Places.{blocks_at, clip_count, track_at, track_count}
-use Rattle.record_body.specs.Valid.{AllGiven, AllClipsGiven, IsValidTrack, AllValidTracks, IsValidPoint, IsValidBody}
-use Rattle.record_body.specs.{declared.body.Body.Body, declared.limits.Before.Before, declared.limits.Limits.Limits}
-use Rattle.record_body.specs.{DeltaBodies.SaysBody}
-use Rattle.project_state.specs.{declared.track.Track.Track, Numbers.AreUnnumbered, Numbers.unnumbered, Tracks.AreAbove}
-use Rattle.project_state.specs.{Tracks.track_of}
-use Rattle.record_body.proofs.ValidBodies.{few_tracks, valid_clips}
+use Rattle.record_body.proofs.Common.{◌≡◌, ℕ, zero, suc, ◌+◌, ◌-◌, ◌^◌, ◌≤◌, ◌<◌, ◌==◌, inl, inr, List, [], ◌∷◌, ◌++◌}
+use Rattle.record_body.proofs.Common.{length, map, take, Option, Some, None, refl, sym, ap, subst, ◌∙◌, arith}
+use Rattle.record_body.proofs.Common.{slice_index, cases_Bool, eq-eqb, eqb-true, eqb-false, blocks_len, BlockRef, Clip}
+use Rattle.record_body.proofs.Common.{field, first_failed, Edit, Undo, Redo, Purge, changed, last_blocks, last_start}
+use Rattle.record_body.proofs.Common.{tailed, with_last, mark_at, gone_at, fresh_at, whole_at, change_at, diff_at}
+use Rattle.record_body.proofs.Common.{diff_size, all_diff_at, mark_want, mark_tests, how_tests, whole_tests}
+use Rattle.record_body.proofs.Common.{kept_blocks, tail_tests, id_tests, marked_tests, change_tests, diff_tests}
+use Rattle.record_body.proofs.Common.{all_diff_tests, delta_edit_tests, delta_tests, place, clips_tests, head_tests}
+use Rattle.record_body.proofs.Common.{limits_at, blocks_at, clip_count, track_at, track_count, AllGiven, AllClipsGiven}
+use Rattle.record_body.proofs.Common.{IsValidTrack, AllValidTracks, IsValidPoint, IsValidBody, Body, Before, Limits}
+use Rattle.record_body.proofs.Common.{SaysBody, Track, AreUnnumbered, unnumbered, AreAbove, track_of, IsBytes, all_pass}
+use Rattle.record_body.proofs.Common.{Pass}
+use Rattle.record_body.proofs.ValidBodies.{valid_clips, valid_edit_of}
 use Rattle.record_body.proofs.Tails.{end_last, last_end, valid_tail, layout_with, half_with}
 use Rattle.record_body.proofs.DiffTracks.{some_is, diff_id, diff_unnumbered, id_bounds}
+use Rattle.record_body.proofs.SaysOnce.{same_edit}
 use Rattle.record_body.proofs.{SavedBounds.tracks_more, Numbers.field_small, Passing.pass_parts}
-use Rattle.sample_block.proofs.Numerals.{IsBytes}
-use Rattle.project_journal.proofs.AnyFormats.{all_pass, Pass}
 
 -- ---- blocks that were given
 
@@ -190,46 +181,34 @@ others_are x y xs ys e = cc
 none_first : {A : Type 0} (x : A) (xs : List A) → [] ≡ x ∷ xs → ⊥
 none_first x xs e = cc
 
-valid_all : (l : Limits) (next : ℕ) (current : List Track) (count from at : ℕ) (bytes : List ℕ) (ts : List Track)
-    → AllValidTracks l.block_size l.next_block next current → Pass (all_diff_tests l current count from at bytes)
+-- tracks whose ids rise from a number that the first reaches
+valid_all : (l : Limits) (next : ℕ) (current : List Track) (count low from at : ℕ) (bytes : List ℕ) (ts : List Track)
+    → ((id : ℕ) → 1 ≤ id → from ≤ id → low ≤ id) → AllValidTracks l.block_size l.next_block next current → Pass (all_diff_tests l current count from at bytes)
     → map Some ts ≡ all_diff_at current count at bytes
-    → AreAbove from ts × AllValidTracks l.block_size l.next_block l.next_track ts × (length ts ≡ count)
+    → AreAbove low ts × AllValidTracks l.block_size l.next_block l.next_track ts × (length ts ≡ count)
     × AreUnnumbered ts
-valid_all l next current zero from at bytes [] valid pass e = (tt, tt, refl, tt)
-valid_all l next current zero from at bytes (t ∷ ts) valid pass e =
+valid_all l next current zero low from at bytes [] reaches valid pass e = (tt, tt, refl, tt)
+valid_all l next current zero low from at bytes (t ∷ ts) reaches valid pass e =
     absurd (none_first (Some t) (map Some ts) (sym e))
-valid_all l next current (suc count) from at bytes [] valid pass e =
+valid_all l next current (suc count) low from at bytes [] reaches valid pass e =
     absurd (none_first (diff_at current at bytes) (all_diff_at current count (at + diff_size at bytes) bytes) e)
-valid_all l next current (suc count) from at bytes (t ∷ ts) valid pass e =
+valid_all l next current (suc count) low from at bytes (t ∷ ts) reaches valid pass e =
     let more = at + diff_size at bytes in
     let p = pass_parts (diff_tests l current from at bytes)
     (all_diff_tests l current count (field at 8 bytes + 1) more bytes) pass in
     let told = diff_at current at bytes in
     let others = all_diff_at current count more bytes in
     let here : told ≡ Some t = sym (first_is (Some t) told (map Some ts) others e) in
-    let rest = valid_all l next current count (field at 8 bytes + 1) more bytes ts valid p.1
+    let from' = field at 8 bytes + 1 in
+    let rest = valid_all l next current count from' from' more bytes ts (λ id one le. le) valid p.1
     (others_are (Some t) told (map Some ts) others e) in
     let id : t.id ≡ field at 8 bytes = diff_id current at bytes t here in
     let bounds = id_bounds l current from at bytes p.0 in (
-      (omega (arith, id, bounds.1), subst (λ (n : ℕ). AreAbove (n + 1) ts) (sym id) rest.0),
+      (omega (arith, id, reaches (field at 8 bytes) bounds.0 bounds.1), subst (λ (n : ℕ). AreAbove (n + 1) ts) (sym id) rest.0),
       (valid_diff l next current from at bytes t valid p.0 here, rest.1),
       omega (arith, rest.2),
       (diff_unnumbered current at bytes t here, rest.3),
     )
-
--- no id is 0
-above_none : (l : Limits) (current : List Track) (count at : ℕ) (bytes : List ℕ) (ts : List Track)
-    → Pass (all_diff_tests l current count 0 at bytes) → map Some ts ≡ all_diff_at current count at bytes
-    → AreAbove 0 ts → AreAbove 1 ts
-above_none l current count at bytes [] pass e above = tt
-above_none l current zero at bytes (t ∷ ts) pass e above = absurd (none_first (Some t) (map Some ts) (sym e))
-above_none l current (suc count) at bytes (t ∷ ts) pass e above =
-    let more = at + diff_size at bytes in
-    let p = pass_parts (diff_tests l current 0 at bytes)
-    (all_diff_tests l current count (field at 8 bytes + 1) more bytes) pass in
-    let told = diff_at current at bytes in
-    let here = first_is (Some t) told (map Some ts) (all_diff_at current count more bytes) e in
-    (omega (arith, diff_id current at bytes t (sym here), (id_bounds l current 0 at bytes p.0).0), above.1)
 
 pub delta_valid : (m : ℕ) (b : Before) (next : ℕ) (current : List Track) (bytes : List ℕ) (body : Body) → IsBytes bytes
     → IsValidPoint m b.next_block next current → first_failed (delta_tests m b current bytes) ≡ None
@@ -241,25 +220,11 @@ delta_valid m b next current bytes (Edit tag next_block next_track ts) fit is no
     let pass : Pass (delta_edit_tests m b current bytes) =
     rw (eq-eqb (slice_index bytes 0) 5 says.0) at (all_pass (delta_tests m b current bytes) none).1.1.1 in
     let p = pass_parts (head_tests b bytes) (all_diff_tests l current count 0 29 bytes) pass in
-    let head = p.0 in
-    let later : b.next_block ≤ field 9 8 bytes = omega (arith, head.1.1.1.0) in
+    let later : b.next_block ≤ field 9 8 bytes = omega (arith, p.0.1.1.1.0) in
     let old = tracks_more m b.next_block next (field 9 8 bytes) next current later (omega arith) is.valid in
-    let all = valid_all l next current count 0 29 bytes ts old p.1 s.3 in
-    record {
-      tag_number = omega (arith, s.0, field_small 1 8 bytes fit);
-      tag_given = omega (arith, s.0, head.0);
-      block_least = omega (arith, s.1, head.1.0);
-      block_most = omega (arith, s.1, head.1.1.0);
-      block_later = omega (arith, s.1, later);
-      track_least = omega (arith, s.2, head.1.1.1.1.0);
-      track_most = omega (arith, s.2, head.1.1.1.1.1.0);
-      track_later = omega (arith, s.2, head.1.1.1.1.1.1.0);
-      few = omega (arith, few_tracks b bytes head, all.2);
-      rising = above_none l current count 29 bytes ts p.1 s.3 all.0;
-      valid = subst (λ (n : ℕ). AllValidTracks m n next_track ts) (sym s.1)
-          (subst (λ (n : ℕ). AllValidTracks m (field 9 8 bytes) n ts) (sym s.2) all.1);
-      unnumbered = all.3;
-    }
+    let all = valid_all l next current count 1 0 29 bytes ts (λ id one le. one) old p.1 s.3 in
+    subst (IsValidBody m b) (sym (same_edit s.0 s.1 s.2 refl))
+    (valid_edit_of m b bytes ts fit p.0 all.2 all.0 all.1 all.3)
 delta_valid m b next current bytes Undo fit is none says = tt
 delta_valid m b next current bytes Redo fit is none says = tt
 delta_valid m b next current bytes (Purge n) fit is none says = omega (arith, says.1, field_small 1 8 bytes fit)

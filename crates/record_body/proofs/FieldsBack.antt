@@ -1,11 +1,11 @@
 -- Numbers and bytes where they stand pass their tests.
-use Rattle.std.proofs.Common.{◌≡◌, ℕ, ◌+◌, ◌^◌, ◌≤◌, ◌<◌, eqb, List, [], ◌∷◌, ◌++◌, length, drop, slice_index}
-use Rattle.std.proofs.Common.{if◌then◌else◌, None, Some, refl, sym, ap, ◌∙◌, arith, drop-drop, get_or-drop, eq-eqb, inl}
-use Rattle.std.proofs.Common.{inr}
-use Rattle.std.proofs.{Math.Seq.drop-append_seam, lemmas.Bool.cases_Bool}
-use Rattle.byteorder.specs.{Endian.little_number, Endian.little_bytes, Numbers.little_number-reads_back}
-use Rattle.project_journal.specs.{Fields.field, Header.first_failed, declared.fault.Damaged.Damaged}
-use Rattle.record_body.specs.FirstFault.{least, most}
+use Rattle.record_body.proofs.Common.{◌≡◌, ℕ, ◌+◌, ◌^◌, ◌≤◌, ◌<◌, List, [], ◌∷◌, ◌++◌, length, drop, slice_index}
+use Rattle.record_body.proofs.Common.{if◌then◌else◌, None, Some, refl, sym, ap, ◌∙◌, arith, inl, inr, cases_Bool}
+use Rattle.record_body.proofs.Common.{little_number, little_bytes, little_number-reads_back, field, first_failed}
+use Rattle.record_body.proofs.Common.{Damaged, least}
+use Rattle.std.proofs.Common.{eqb, drop-drop, get_or-drop, eq-eqb}
+use Rattle.std.proofs.{Math.Seq.drop-append_seam}
+use Rattle.record_body.specs.FirstFault.{most}
 
 -- a number where its bytes stand
 pub number_there : (n x at : ℕ) (bytes rest : List ℕ) → drop at bytes ≡ little_bytes n x ++ rest → x < 256 ^ n

@@ -1,17 +1,13 @@
 -- The end of a last clip, as the writer tells it, meets the bounds of a reader.
-use Rattle.std.proofs.Common.{◌≡◌, ℕ, zero, suc, ◌+◌, ◌-◌, ◌^◌, ◌≤◌, ◌<◌, ◌==◌, ◌&&◌, Bool, true, false, inl, inr, List}
-use Rattle.std.proofs.Common.{[], ◌∷◌, length, take, drop, nat_lt, sym, ap, ap₂, subst, ◌∙◌, arith, length-drop}
-use Rattle.std.proofs.Common.{if◌then◌else◌}
-use Rattle.std.proofs.lemmas.Bool.{cases_Bool, eqb-true, lt-ltb, le-ltb}
-use Rattle.pcm_base.specs.{Blocks.blocks_len, declared.block.BlockRef.BlockRef}
-use Rattle.clip_track.specs.{declared.clips.Clip.Clip, Clips.clip_end}
-use Rattle.record_body.specs.Changes.{is_block, common, last_blocks, last_start, same_but_last}
-use Rattle.record_body.specs.ChangeTests.{is_lone, kept_blocks}
-use Rattle.record_body.specs.{declared.limits.Limits.Limits, FirstFault.least_len}
-use Rattle.project_state.specs.declared.track.Track.{Track}
+use Rattle.record_body.proofs.Common.{◌≡◌, ℕ, zero, suc, ◌+◌, ◌-◌, ◌^◌, ◌≤◌, ◌<◌, ◌==◌, ◌&&◌, Bool, true, false, inl}
+use Rattle.record_body.proofs.Common.{inr, List, [], ◌∷◌, length, take, drop, nat_lt, sym, ap, ap₂, subst, ◌∙◌, arith}
+use Rattle.record_body.proofs.Common.{length-drop, if◌then◌else◌, cases_Bool, eqb-true, lt-ltb, blocks_len, BlockRef}
+use Rattle.record_body.proofs.Common.{Clip, clip_end, is_block, common, last_blocks, last_start, same_but_last, is_lone}
+use Rattle.record_body.proofs.Common.{kept_blocks, Limits, least_len, Track}
+use Rattle.std.proofs.lemmas.Bool.{le-ltb}
 use Rattle.record_body.proofs.ChangeLaws.{last_starts, common_take, block_same}
 use Rattle.record_body.proofs.{ClipsBack.AreGoodBlocks, ClipsBack.AreGoodClips, TracksBack.IsGoodTrack}
-use Rattle.record_body.proofs.{Commons.common_least, Commons.common_most}
+use Rattle.record_body.proofs.Commons.{common_within}
 
 -- blocks that go from the end of the last clip, and that come
 pub record IsGoodTail (l : Limits) (o : Track) (gone : ℕ) (bs : List BlockRef) : Type 0 where
@@ -96,8 +92,8 @@ good_tail l from o t small good alike =
     let k = common olds news in
     let starts = last_starts o.layout t.layout alike in
     let last = good_last l 0 t.layout starts.other good.clips in
-    let le = common_least olds news in
-    let most = common_most olds news in
+    let le = (common_within olds news).0 in
+    let most = (common_within olds news).1 in
     let kept : length olds - (length olds - k) ≡ k = omega (arith, le) in
     let many : length (drop k news) ≡ length news - k = length-drop k news in
     let several : length news ≡ length olds - (length olds - k) + length (drop k news) =

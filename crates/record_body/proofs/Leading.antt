@@ -1,7 +1,7 @@
 -- Records lead to one project at most.
-use Rattle.std.proofs.Common.{◌≡◌, ℕ, zero, suc, ◌≤◌, ◌<◌, ◌^◌, List, [], ◌∷◌, sym, ap, subst, ◌∙◌}
-use Rattle.record_body.specs.Saved.{Saved, before_of, after_body, current_tracks, IsNext, IsNextIn, LeadIn}
-use Rattle.record_body.specs.{declared.body.Body.Body, Places.body_at}
+use Rattle.record_body.proofs.Common.{◌≡◌, ℕ, zero, suc, ◌≤◌, ◌<◌, ◌^◌, List, [], ◌∷◌, sym, ap, subst, ◌∙◌, Saved}
+use Rattle.record_body.proofs.Common.{before_of, after_body, current_tracks, IsNextIn, LeadIn, Body, body_at}
+use Rattle.record_body.specs.Saved.{IsNext}
 use Rattle.record_body.proofs.{ReadBack.read_back, SaysOnce.says_once}
 
 -- what its bytes say

@@ -1,15 +1,14 @@
 -- The body of an edit is as short as the cells of its project let it be.
-use Rattle.std.proofs.Common.{◌≡◌, ℕ, ◌+◌, ◌*◌, ◌≤◌, ◌<◌, List, [], ◌∷◌, ◌++◌, length, refl, arith, length-append}
+use Rattle.record_body.proofs.Common.{◌≡◌, ℕ, ◌+◌, ◌*◌, ◌≤◌, ◌<◌, List, [], ◌∷◌, ◌++◌, length, refl, arith}
+use Rattle.record_body.proofs.Common.{length-append, flat_map, IsHalfFull, AllFull, block_lens, blocks_len, BlockRef}
+use Rattle.record_body.proofs.Common.{Sources, AllHalfFull, IsLayout, layout_blocks, Clip, Track, meant, clip_bytes}
+use Rattle.record_body.proofs.Common.{track_bytes, AreLayouts, AreHalfFull}
 use Rattle.std.proofs.{lemmas.Grind.div_ceil_times, Math.Nat.le_of_mul-le-mul_left}
-use Rattle.std.specs.{List.flat_map, Int.div_ceil}
-use Rattle.pcm_base.specs.Blocks.{IsHalfFull, AllFull, block_lens, blocks_len}
+use Rattle.std.specs.{Int.div_ceil}
 use Rattle.pcm_base.specs.Sizes.{clip_count, sample_count, project_clips, project_samples, body_most}
-use Rattle.pcm_base.specs.{declared.block.BlockRef.BlockRef, Pieces.Sources}
-use Rattle.clip_track.specs.Clips.{AllHalfFull, IsLayout, layout_blocks, layout_cells}
-use Rattle.clip_track.specs.{declared.clips.Clip.Clip, Counts.clips_len}
+use Rattle.clip_track.specs.Clips.{layout_cells}
+use Rattle.clip_track.specs.{Counts.clips_len}
 use Rattle.clip_track.proofs.CellCounts.{clip_count-layout, sample_count-layout}
-use Rattle.project_state.specs.{declared.track.Track.Track, Meaning.meant}
-use Rattle.record_body.specs.{Spelling.clip_bytes, Spelling.track_bytes, Lengths.AreLayouts, Lengths.AreHalfFull}
 use Rattle.record_body.proofs.Parts.{length_clip}
 
 pub AreLayouts-push : (ts : List Track) (t : Track) → AreLayouts ts → IsLayout t.layout → AreLayouts (ts ++ t ∷ [])

@@ -1,11 +1,9 @@
 -- Where tracks end that are told by the current point.
-use Rattle.std.proofs.Common.{◌≡◌, ℕ, zero, suc, ◌+◌, ◌-◌, ◌≤◌, ◌<◌, ◌==◌, nat_le, true, inl, inr, List, [], ◌∷◌, ◌++◌}
-use Rattle.std.proofs.Common.{length, refl, sym, ◌∙◌, ap, ap₂, arith, slice_index, if◌then◌else◌}
-use Rattle.std.proofs.lemmas.Bool.{cases_Bool, eqb-false, le-leb}
-use Rattle.record_body.specs.ChangePlaces.{mark_at, fresh_at, diff_size, diff_widths, all_diff_widths, HaveDiff}
-use Rattle.record_body.specs.ChangePlaces.{asked_delta, delta_widths}
-use Rattle.record_body.specs.{Places.clip_count, Places.track_count, Widths.total_width, Widths.reach}
-use Rattle.record_body.proofs.Reaching.{reach_fits, reach_past, reach_all, sum_clips, sum_blocks, total_width-append}
+use Rattle.record_body.proofs.Common.{◌≡◌, ℕ, zero, suc, ◌+◌, ◌≤◌, ◌==◌, nat_le, true, inl, inr, List, [], ◌∷◌, ◌++◌}
+use Rattle.record_body.proofs.Common.{length, refl, sym, ◌∙◌, ap, arith, slice_index, if◌then◌else◌, cases_Bool}
+use Rattle.record_body.proofs.Common.{eqb-false, le-leb, mark_at, fresh_at, diff_size, diff_widths, all_diff_widths}
+use Rattle.record_body.proofs.Common.{HaveDiff, asked_delta, delta_widths, clip_count, track_count, total_width, reach}
+use Rattle.record_body.proofs.Reaching.{reach_fits, reach_all, sum_clips, sum_blocks, total_width-append}
 
 -- what is known of a mark
 known_of : (m : ℕ) → m ≤ 2 → nat_le m 2 ≡ true
@@ -32,39 +30,6 @@ sum_diff at bytes known = elim (cases_Bool (mark_at at bytes == 0)) [
 pub rest_known : (n at : ℕ) (bytes : List ℕ) → mark_at at bytes ≤ 2
     → all_diff_widths (suc n) at bytes ≡ diff_widths at bytes ++ all_diff_widths n (at + diff_size at bytes) bytes
 rest_known n at bytes known = rw (known_of (mark_at at bytes) known) refl
-
--- a field of the first does not fit
-pub diff_past : (len at n : ℕ) (bytes : List ℕ) → 0 < n → at ≤ len → len < reach len at (diff_widths at bytes)
-    → reach len at (all_diff_widths n at bytes) ≡ reach len at (diff_widths at bytes)
-diff_past len at zero bytes some le past = absurd (omega (arith, some))
-diff_past len at (suc n) bytes some le past = reach_past len at (diff_widths at bytes) _ le past
-
-pub record Fits (len at n next k : ℕ) (bytes : List ℕ) : Type 0 where
-  pub sum : next + total_width (all_diff_widths k next bytes) ≡ at + total_width (all_diff_widths n at bytes)
-  pub ends : reach len next (all_diff_widths k next bytes) ≡ reach len at (all_diff_widths n at bytes)
-
--- the first fits
-pub diff_fits : (len at n next k : ℕ) (bytes : List ℕ) → 0 < n → mark_at at bytes ≤ 2
-    → next ≡ at + total_width (diff_widths at bytes) → k ≡ n - 1 → next ≤ len → Fits len at n next k bytes
-diff_fits len at zero next k bytes some known e f le = absurd (omega (arith, some))
-diff_fits len at (suc n) next k bytes some known e f le =
-    let size = sum_diff at bytes known in
-    let here : k ≡ n = omega (arith, f) in
-    let behind : next ≡ at + diff_size at bytes = omega (arith, e, size) in
-    let all = rest_known n at bytes known in
-    let same : all_diff_widths k next bytes ≡ all_diff_widths n (at + diff_size at bytes) bytes =
-    ap₂ (λ i j. all_diff_widths i j bytes) here behind in
-    record {
-      sum = omega (
-        arith,
-        ap total_width all,
-        ap total_width same,
-        total_width-append (diff_widths at bytes) (all_diff_widths n (at + diff_size at bytes) bytes),
-        e,
-      );
-      ends = ap₂ (reach len) e same
-          ∙ sym (ap (reach len at) all ∙ reach_fits len at (diff_widths at bytes) _ (omega (arith, e, le)));
-    }
 
 -- all that are asked for are there
 pub have_all : (len n at : ℕ) (bytes : List ℕ) → len ≡ length bytes → reach len at (all_diff_widths n at bytes) ≤ len

@@ -1,21 +1,14 @@
 -- The place of a record bears on where its faults are reported alone: its tests pass at any place, or at none.
-use Rattle.std.proofs.Common.{◌≡◌, ℕ, zero, suc, ◌+◌, ◌-◌, ◌==◌, nat_lt, Bool, inl, inr, List, [], ◌∷◌, ◌++◌, length}
-use Rattle.std.proofs.Common.{Option, Some, None, refl, slice_index, if◌then◌else◌}
-use Rattle.std.proofs.lemmas.Bool.{cases_Bool, eq-eqb}
-use Rattle.pcm_base.specs.{Blocks.blocks_len, declared.block.BlockRef.BlockRef}
-use Rattle.project_journal.specs.{Fields.field, Header.first_failed, declared.fault.Damaged.Damaged}
-use Rattle.record_body.specs.Changes.{last_blocks, last_start}
-use Rattle.record_body.specs.ChangePlaces.{mark_at, gone_at, fresh_at, diff_size}
-use Rattle.record_body.specs.ChangeTests.{mark_want, mark_tests, how_tests, whole_tests, kept_blocks, tail_head_tests}
-use Rattle.record_body.specs.ChangeTests.{tail_tests, id_tests, marked_tests, change_tests, diff_tests, all_diff_tests}
-use Rattle.record_body.specs.ChangeTests.{delta_edit_tests, delta_tests}
-use Rattle.record_body.specs.FirstFault.{place, block_tests, blocks_tests, clip_head_tests, clip_tests, clips_tests}
-use Rattle.record_body.specs.FirstFault.{head_tests, limits_at}
-use Rattle.record_body.specs.Places.{block_count, clip_size, clip_count, clip_end_at, track_count}
-use Rattle.record_body.specs.{declared.limits.Before.Before, declared.limits.Limits.Limits}
-use Rattle.project_state.specs.{declared.track.Track.Track, Tracks.track_of}
+use Rattle.record_body.proofs.Common.{◌≡◌, ℕ, zero, suc, ◌+◌, ◌-◌, ◌==◌, nat_lt, Bool, inl, inr, List, [], ◌∷◌, ◌++◌}
+use Rattle.record_body.proofs.Common.{length, Option, Some, None, refl, slice_index, if◌then◌else◌, cases_Bool, eq-eqb}
+use Rattle.record_body.proofs.Common.{blocks_len, BlockRef, field, first_failed, Damaged, last_blocks, last_start}
+use Rattle.record_body.proofs.Common.{mark_at, gone_at, fresh_at, diff_size, mark_want, mark_tests, how_tests}
+use Rattle.record_body.proofs.Common.{whole_tests, kept_blocks, tail_head_tests, tail_tests, id_tests, marked_tests}
+use Rattle.record_body.proofs.Common.{change_tests, diff_tests, all_diff_tests, delta_edit_tests, delta_tests, place}
+use Rattle.record_body.proofs.Common.{block_tests, blocks_tests, clip_head_tests, clip_tests, clips_tests, head_tests}
+use Rattle.record_body.proofs.Common.{limits_at, block_count, clip_size, clip_count, clip_end_at, track_count, Before}
+use Rattle.record_body.proofs.Common.{Limits, Track, track_of, all_pass, Pass}
 use Rattle.record_body.proofs.Passing.{pass_parts}
-use Rattle.project_journal.proofs.AnyFormats.{all_pass, Pass}
 
 pub pass_none : (tests : List Damaged) → Pass tests → first_failed tests ≡ None
 pass_none [] pass = refl

@@ -1,7 +1,6 @@
 -- The journal of a new project begins with the project without commits.
-use Rattle.std.proofs.Common.{ℕ, refl, arith}
+use Rattle.record_body.proofs.Common.{ℕ, refl, arith, Begins, new_project}
 use Rattle.project_journal.specs.Journal.{fresh}
-use Rattle.record_body.specs.Saved.{Begins, new_project}
 
 pub fresh_begins : (rate m depth : ℕ) → Begins (fresh rate m depth) (new_project depth)
 fresh_begins rate m depth = record {

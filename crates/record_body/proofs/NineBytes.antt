@@ -1,19 +1,14 @@
 -- Each track that a record or a point of a header says has at least 9 bytes there.
-use Rattle.std.proofs.Common.{◌≡◌, ℕ, zero, suc, ◌+◌, ◌*◌, ◌≤◌, ◌==◌, Bool, true, false, List, [], ◌∷◌, length}
-use Rattle.std.proofs.Common.{length-append, None, Some, sym, ap, ◌∙◌, arith, slice_index}
-use Rattle.std.proofs.{lemmas.Bool.eq-eqb, lemmas.List.length-map}
-use Rattle.std.specs.{Prelude.if◌then◌else◌, List.flat_map}
-use Rattle.project_journal.specs.{Fields.field, Header.first_failed}
-use Rattle.project_state.specs.declared.track.Track.{Track}
-use Rattle.record_body.specs.declared.body.Body.TheVariants.{Edit, Undo, Redo, Purge}
-use Rattle.record_body.specs.ChangePlaces.{HaveDiff, all_diff_at, fresh_at, mark_at, diff_size}
-use Rattle.record_body.specs.ChangeTests.{all_diff_tests, delta_edit_tests, delta_tests, diff_tests}
-use Rattle.record_body.specs.Saved.{IsNextIn, Saved, before_of, current_tracks, point_bytes}
-use Rattle.record_body.specs.{declared.body.Body.Body, declared.limits.Before.Before, declared.limits.Limits.Limits}
-use Rattle.record_body.specs.{DeltaBodies.SaysBody, FirstFault.head_tests, FirstFault.limits_at, Lengths.body_tracks}
-use Rattle.record_body.specs.{Places.track_count, Places.track_size, Spelling.spelling, Spelling.track_bytes}
+use Rattle.record_body.proofs.Common.{◌≡◌, ℕ, zero, suc, ◌+◌, ◌*◌, ◌≤◌, ◌==◌, Bool, true, false, List, [], ◌∷◌, length}
+use Rattle.record_body.proofs.Common.{length-append, None, Some, sym, ap, ◌∙◌, arith, slice_index, eq-eqb, length-map}
+use Rattle.record_body.proofs.Common.{flat_map, field, first_failed, Track, Edit, Undo, Redo, Purge, HaveDiff}
+use Rattle.record_body.proofs.Common.{all_diff_at, fresh_at, mark_at, diff_size, all_diff_tests, delta_edit_tests}
+use Rattle.record_body.proofs.Common.{delta_tests, diff_tests, IsNextIn, Saved, before_of, current_tracks, point_bytes}
+use Rattle.record_body.proofs.Common.{Body, Before, Limits, SaysBody, head_tests, limits_at, track_count, track_size}
+use Rattle.record_body.proofs.Common.{spelling, track_bytes, all_pass, Pass}
+use Rattle.std.specs.{Prelude.if◌then◌else◌}
+use Rattle.record_body.specs.{Lengths.body_tracks}
 use Rattle.record_body.proofs.{Measured.delta_size, Passing.pass_parts, DiffTracks.known_mark}
-use Rattle.project_journal.proofs.AnyFormats.{all_pass, Pass}
 
 -- ---- written out whole
 

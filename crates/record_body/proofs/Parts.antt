@@ -1,13 +1,15 @@
 -- Parts that are written one after another.
-use Rattle.std.proofs.Common.{◌≡◌, ℕ, ◌+◌, ◌*◌, ◌≤◌, ◌<◌, List, [], ◌∷◌, ◌++◌, length, take, drop, get_or, refl, sym}
-use Rattle.std.proofs.Common.{ap, ◌∙◌, arith, length-append}
-use Rattle.std.proofs.lemmas.List.{append-nil, take_more, drop_more}
+use Rattle.record_body.proofs.Common.{◌≡◌, ℕ, ◌+◌, ◌*◌, ◌≤◌, ◌<◌, List, [], ◌∷◌, ◌++◌, length, take, drop, get_or, refl}
+use Rattle.record_body.proofs.Common.{sym, ap, ◌∙◌, arith, length-append, append-nil, take_more, drop_more, flat_map}
+use Rattle.record_body.proofs.Common.{BlockRef, NoneEmpty, blocks_len, Clip, AreClips, clip_end, end_of, block_bytes}
+use Rattle.record_body.proofs.Common.{clip_bytes}
 use Rattle.std.proofs.{lemmas.Grind.flat_map-append, lemmas.Slice.take-put_mid}
-use Rattle.std.specs.List.{flat_map}
-use Rattle.pcm_base.specs.{declared.block.BlockRef.BlockRef, Blocks.NoneEmpty, Blocks.blocks_len}
-use Rattle.clip_track.specs.{declared.clips.Clip.Clip, Clips.AreClips, Clips.clip_end, Clips.end_of}
-use Rattle.record_body.specs.Spelling.{block_bytes, clip_bytes}
 use borrow.Rule.Slice.PartMut.{put_mid}
+
+-- the parts so far are written, and there is room for those that are left
+pub record Written {X : Type 0} (f : X → List ℕ) (xs : List X) (i at : ℕ) (out : List ℕ) : Type 0 where
+  pub written : take at out ≡ flat_map f (take i xs)
+  pub room : at + length (flat_map f (drop i xs)) ≡ length out
 
 module _ {X : Type 0} (f : X → List ℕ) (xs : List X) where
   pub parts_more : (i : ℕ) (x : X) → take (i + 1) xs ≡ take i xs ++ x ∷ []
@@ -30,6 +32,15 @@ module _ {X : Type 0} (f : X → List ℕ) (xs : List X) where
   pub parts_left : (i : ℕ) (x : X) → drop i xs ≡ x ∷ drop (i + 1) xs
       → length (flat_map f (drop i xs)) ≡ length (f x) + length (flat_map f (drop (i + 1) xs))
   parts_left i x e = ap (λ (ys : List X). length (flat_map f ys)) e ∙ length-append (f x) (flat_map f (drop (i + 1) xs))
+
+  pub part_next : (i k at end : ℕ) (out part : List ℕ) (x : X) → take (i + 1) xs ≡ take i xs ++ x ∷ []
+      → drop i xs ≡ x ∷ drop (i + 1) xs → Written f xs i at out → part ≡ f x → end ≡ at + length (f x)
+      → length (put_mid at k out part) ≡ length out → Written f xs (i + 1) end (put_mid at k out part)
+  part_next i k at end out part x taken left so here ends same = record {
+    written = part_written i k at out part x taken (omega (arith, so.room)) so.written here end
+        (omega (arith, ends, ap length here));
+    room = omega (arith, parts_left i x left, ends, so.room, same);
+  }
 
 pub length_blocks : (bs : List BlockRef) → length (flat_map block_bytes bs) ≡ 12 * length bs
 length_blocks [] = refl

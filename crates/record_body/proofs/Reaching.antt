@@ -1,11 +1,11 @@
 -- Where fields of some widths end.
-use Rattle.std.proofs.Common.{◌≡◌, ℕ, zero, suc, ◌+◌, ◌-◌, ◌*◌, ◌≤◌, ◌<◌, inl, inr, List, [], ◌∷◌, ◌++◌, length, refl}
-use Rattle.std.proofs.Common.{sym, ap, ap₂, ◌∙◌, arith, nat_le, Result, Ok, Err, slice_index}
-use Rattle.std.proofs.lemmas.Bool.{cases_Bool, le-leb, leb-true, leb-false}
-use Rattle.record_body.specs.Places.{block_count, clip_size, clips_size, clip_count, track_size, tracks_size}
-use Rattle.record_body.specs.Places.{track_count}
-use Rattle.record_body.specs.Widths.{blocks_widths, clip_widths, clips_widths, track_widths, tracks_widths, edit_widths}
-use Rattle.record_body.specs.Widths.{total_width, reach, asked_length, Reaches}
+use Rattle.record_body.proofs.Common.{◌≡◌, ℕ, zero, suc, ◌+◌, ◌-◌, ◌*◌, ◌≤◌, ◌<◌, inl, inr, List, [], ◌∷◌, ◌++◌, length}
+use Rattle.record_body.proofs.Common.{refl, sym, ap, ap₂, subst, ◌∙◌, arith, nat_le, Result, Ok, Err, slice_index}
+use Rattle.record_body.proofs.Common.{cases_Bool, le-leb, field, block_count, clip_size, clips_size, clip_count}
+use Rattle.record_body.proofs.Common.{track_size, tracks_size, track_count, blocks_widths, clip_widths, clips_widths}
+use Rattle.record_body.proofs.Common.{track_widths, tracks_widths, edit_widths, total_width, reach, asked_length}
+use Rattle.record_body.proofs.Common.{Reaches}
+use Rattle.std.proofs.lemmas.Bool.{leb-true, leb-false}
 use Rattle.record_body.specs.declared.measuring.PastEnd.{PastEnd}
 
 pub total_width-append : (xs ys : List ℕ) → total_width (xs ++ ys) ≡ total_width xs + total_width ys
@@ -50,28 +50,60 @@ reaches_on len at mid ws rest (Ok end) e h x = (omega (arith, x.0, e, total_widt
 reaches_on len at mid ws rest (Err past) e h x =
     (x.0 ∙ ap (λ n. reach len n rest) e ∙ sym (reach_fits len at ws rest (omega (arith, e, h))), x.1)
 
--- parts that stand one after another, each with the widths of its fields
-module _ (widths : ℕ → ℕ → List ℕ) (one : ℕ → List ℕ) (size : ℕ → ℕ)
-    (more : (n at : ℕ) → widths (suc n) at ≡ one at ++ widths n (at + size at)) where
-  -- a field of the first does not fit
-  pub first_past : (len at n : ℕ) → 0 < n → at ≤ len → len < reach len at (one at)
-      → reach len at (widths n at) ≡ reach len at (one at)
-  first_past len at zero p a h = absurd (omega (arith, p))
-  first_past len at (suc n) p a h =
-      ap (reach len at) (more n at) ∙ reach_past len at (one at) (widths n (at + size at)) a h
+-- the same where the last of these fields says how many parts stand after them
+pub counted_on : (bytes ws : List ℕ) (rest : ℕ → ℕ → List ℕ) (at place to mid n : ℕ) (r : Result ℕ PastEnd)
+    → place + 4 ≡ to → to ≡ at + total_width ws → mid ≡ at + total_width ws → mid ≤ length bytes
+    → n ≡ field (mid - 4) 4 bytes → Reaches (length bytes) mid (rest n mid) r
+    → Reaches (length bytes) at (ws ++ rest (field place 4 bytes) to) r
+counted_on bytes ws rest at place to mid n r four is ends within count h =
+    let here : mid - 4 ≡ place = omega (arith, ends, four, is) in
+    let counted : n ≡ field place 4 bytes = count ∙ ap (λ a. field a 4 bytes) here in
+    reaches_on (length bytes) at mid ws (rest (field place 4 bytes) to) r ends within
+    (subst (λ ws. Reaches (length bytes) mid ws r) (ap₂ rest counted (ends ∙ sym is)) h)
 
-  -- the first fits
-  pub first_fits : (len at n : ℕ) → 0 < n → size at ≡ total_width (one at) → at + size at ≤ len
-      → reach len at (widths n at) ≡ reach len (at + size at) (widths (n - 1) (at + size at))
-  first_fits len at zero p e h = absurd (omega (arith, p))
-  first_fits len at (suc n) p e h =
-      ap (reach len at) (more n at)
-      ∙ reach_fits len at (one at) (widths n (at + size at)) (omega (arith, e, h))
-      ∙ same (at + total_width (one at)) (at + size at) n (suc n - 1) (omega (arith, e)) (omega arith)
-    where
-      same : (j k p q : ℕ) → j ≡ k → p ≡ q
-          → reach len j (widths p (at + size at)) ≡ reach len k (widths q (at + size at))
-      same j k p q a b = ap₂ (λ x y. reach len x (widths y (at + size at))) a b
+-- where all fields fit that are asked for
+pub asked_end : (len at end asked : ℕ) (ws : List ℕ) → asked ≡ reach len at ws
+    → (end ≡ at + total_width ws) × (end ≤ len) → end ≡ asked
+asked_end len at end asked ws is fit = fit.0 ∙ sym (is ∙ reach_whole len at ws (omega (arith, fit.0, fit.1)))
+
+-- Parts that stand one after another: those so far fit, and the widths of those that are left end where all of them do.
+pub record PartsFit (widths : ℕ → ℕ → List ℕ) (len at count end left : ℕ) : Type 0 where
+  pub within : end ≤ len
+  pub sum : end + total_width (widths left end) ≡ at + total_width (widths count at)
+  pub ends : reach len end (widths left end) ≡ reach len at (widths count at)
+
+-- each with the widths of its fields
+module _ (widths : ℕ → ℕ → List ℕ) (one : List ℕ) (len at count end : ℕ) where
+  -- a field of the next part does not fit
+  pub next_past : (rest : ℕ → List ℕ) (left past : ℕ) → 0 < left → ((n : ℕ) → widths (suc n) end ≡ one ++ rest n)
+      → PartsFit widths len at count end left → (past ≡ reach len end one) × (len < past)
+      → (past ≡ reach len at (widths count at)) × (len < past)
+  next_past rest zero past some more fit p = absurd (omega (arith, some))
+  next_past rest (suc n) past some more fit p =
+      let all = reach_past len end one (rest n) fit.within (omega (arith, p.0, p.1)) in
+      (p.0 ∙ sym all ∙ sym (ap (reach len end) (more n)) ∙ fit.ends, p.1)
+
+  -- it fits
+  pub next_fits : (left next k : ℕ) → 0 < left → k ≡ left - 1 → ((n : ℕ) → widths (suc n) end ≡ one ++ widths n next)
+      → PartsFit widths len at count end left → (next ≡ end + total_width one) × (next ≤ len)
+      → PartsFit widths len at count next k
+  next_fits zero next k some less more fit p = absurd (omega (arith, some))
+  next_fits (suc n) next k some less more fit p =
+      let here : widths k next ≡ widths n next = ap (λ j. widths j next) (omega (arith, less)) in
+      let sum = ap total_width (more n) ∙ total_width-append one (widths n next) in
+      record {
+        within = p.1;
+        sum = omega (arith, ap total_width here, sum, p.0, fit.sum);
+        ends = ap (reach len next) here ∙ ap (λ a. reach len a (widths n next)) p.0
+            ∙ sym (ap (reach len end) (more n) ∙ reach_fits len end one (widths n next) (omega (arith, p.0, p.1)))
+            ∙ fit.ends;
+      }
+
+-- where none is left
+pub all_fit : (widths : ℕ → ℕ → List ℕ) (len at count end left : ℕ) → left ≡ 0 → widths 0 end ≡ []
+    → PartsFit widths len at count end left → (end ≡ at + total_width (widths count at)) × (end ≤ len)
+all_fit widths len at count end left none zero_widths fit =
+    (omega (arith, ap (λ n. total_width (widths n end)) none, ap total_width zero_widths, fit.sum), fit.within)
 
 pub sum_blocks : (count : ℕ) → total_width (blocks_widths count) ≡ 12 * count
 sum_blocks zero = refl
@@ -124,54 +156,17 @@ blocks_past len at (suc whole) (suc count) (Err past) p h q x =
       x.1,
     )
 
-pub clips_past : (len at n : ℕ) (bytes : List ℕ) → 0 < n → at ≤ len → len < reach len at (clip_widths at bytes)
-    → reach len at (clips_widths n at bytes) ≡ reach len at (clip_widths at bytes)
-clips_past len at n bytes p a h = first_past (λ k j. clips_widths k j bytes) (λ j. clip_widths j bytes)
-    (λ j. clip_size j bytes) (λ k j. refl) len at n p a h
+-- parts whose sizes are counted together: the first is within all, and those after it end where all do
+module _ (sizes : ℕ → ℕ → ℕ) (size at next : ℕ) (more : (j : ℕ) → sizes (suc j) at ≡ size + sizes j (at + size)) where
+  pub first_within : (n : ℕ) → 0 < n → at + size ≤ at + sizes n at
+  first_within zero some = absurd (omega (arith, some))
+  first_within (suc n) some = omega (arith, more n)
 
-pub tracks_past : (len at n : ℕ) (bytes : List ℕ) → 0 < n → at ≤ len → len < reach len at (track_widths at bytes)
-    → reach len at (tracks_widths n at bytes) ≡ reach len at (track_widths at bytes)
-tracks_past len at n bytes p a h = first_past (λ k j. tracks_widths k j bytes) (λ j. track_widths j bytes)
-    (λ j. track_size j bytes) (λ k j. refl) len at n p a h
-
-pub clips_behind : (at n next k : ℕ) (bytes : List ℕ) → 0 < n → next ≡ at + clip_size at bytes → k ≡ n - 1
-    → next + clips_size k next bytes ≡ at + clips_size n at bytes
-clips_behind at zero next k bytes p e f = absurd (omega (arith, p))
-clips_behind at (suc n) next k bytes p e f =
-    let same : clips_size k next bytes ≡ clips_size n (at + clip_size at bytes) bytes =
-    ap₂ (λ i j. clips_size i j bytes) (omega (arith, f)) e in
-    omega (arith, same, e)
-
--- the clips after the first, and where they end
-pub clips_fit : (len at n next k : ℕ) (bytes : List ℕ) → 0 < n → next ≡ at + clip_size at bytes → k ≡ n - 1
-    → at + clip_size at bytes ≤ len
-    → (next + clips_size k next bytes ≡ at + clips_size n at bytes)
-    × (reach len next (clips_widths k next bytes) ≡ reach len at (clips_widths n at bytes))
-clips_fit len at n next k bytes p e f h = (
-  clips_behind at n next k bytes p e f,
-  ap₂ (λ j i. reach len j (clips_widths i j bytes)) e f
-      ∙ sym (first_fits (λ k j. clips_widths k j bytes) (λ j. clip_widths j bytes) (λ j. clip_size j bytes)
-      (λ k j. refl) len at n p (sym (sum_clip at bytes)) h),
-)
-
-pub tracks_behind : (at n next k : ℕ) (bytes : List ℕ) → 0 < n → next ≡ at + track_size at bytes → k ≡ n - 1
-    → next + tracks_size k next bytes ≡ at + tracks_size n at bytes
-tracks_behind at zero next k bytes p e f = absurd (omega (arith, p))
-tracks_behind at (suc n) next k bytes p e f =
-    let same : tracks_size k next bytes ≡ tracks_size n (at + track_size at bytes) bytes =
-    ap₂ (λ i j. tracks_size i j bytes) (omega (arith, f)) e in
-    omega (arith, same, e)
-
-pub tracks_fit : (len at n next k : ℕ) (bytes : List ℕ) → 0 < n → next ≡ at + track_size at bytes → k ≡ n - 1
-    → at + track_size at bytes ≤ len
-    → (next + tracks_size k next bytes ≡ at + tracks_size n at bytes)
-    × (reach len next (tracks_widths k next bytes) ≡ reach len at (tracks_widths n at bytes))
-tracks_fit len at n next k bytes p e f h = (
-  tracks_behind at n next k bytes p e f,
-  ap₂ (λ j i. reach len j (tracks_widths i j bytes)) e f
-      ∙ sym (first_fits (λ k j. tracks_widths k j bytes) (λ j. track_widths j bytes) (λ j. track_size j bytes)
-      (λ k j. refl) len at n p (sym (sum_track at bytes)) h),
-)
+  pub parts_behind : (n k : ℕ) → 0 < n → k ≡ n - 1 → at + size ≡ next → next + sizes k next ≡ at + sizes n at
+  parts_behind zero k some less ends = absurd (omega (arith, some))
+  parts_behind (suc n) k some less ends =
+      let here : k ≡ n = omega (arith, less) in
+      omega (arith, ap₂ sizes here (sym ends), ends, more n)
 
 pub sum_edit : (bytes : List ℕ) → total_width (edit_widths bytes) ≡ 29 + tracks_size (track_count bytes) 29 bytes
 sum_edit bytes = omega (arith, sum_tracks (track_count bytes) 29 bytes)

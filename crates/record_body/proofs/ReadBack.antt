@@ -1,59 +1,56 @@
 -- The bytes of a valid body pass their tests, and say that body.
-use Rattle.std.proofs.Common.{◌≡◌, ℕ, ◌+◌, ◌^◌, ◌≤◌, ◌<◌, List, [], ◌++◌, length, drop, None, refl, sym, ap, ap₂, subst}
-use Rattle.std.proofs.Common.{◌∙◌, arith}
-use Rattle.std.proofs.lemmas.List.{append-nil}
-use Rattle.std.specs.List.{flat_map}
-use Rattle.byteorder.specs.{Endian.little_bytes, Numbers.little_number-reads_back}
-use Rattle.project_journal.specs.{Fields.field, Header.first_failed}
-use Rattle.project_state.specs.declared.track.Track.{Track}
-use Rattle.record_body.specs.declared.body.Body.TheVariants.{Edit, Undo, Redo, Purge}
-use Rattle.record_body.specs.Places.{tracks_at, tracks_size, track_count, edit_at, body_at}
-use Rattle.record_body.specs.FirstFault.{tracks_tests, head_tests, limits_at, edit_tests, length_test, kind_test}
-use Rattle.record_body.specs.FirstFault.{body_tests}
-use Rattle.record_body.specs.{declared.body.Body.Body, declared.limits.Limits.Limits, declared.limits.Before.Before}
-use Rattle.record_body.specs.{Spelling.track_bytes, Spelling.spelling, Widths.edit_widths, Widths.total_width}
-use Rattle.record_body.specs.{Widths.reach, Valid.EditBody, Valid.IsValidEdit, Valid.IsValidBody}
+use Rattle.record_body.proofs.Common.{◌≡◌, ℕ, ◌+◌, ◌^◌, ◌≤◌, ◌<◌, List, [], ◌∷◌, ◌++◌, length, drop, None, refl, sym}
+use Rattle.record_body.proofs.Common.{ap, ap₂, subst, ◌∙◌, arith, append-nil, flat_map, little_bytes}
+use Rattle.record_body.proofs.Common.{little_number-reads_back, field, first_failed, Track, Edit, Undo, Redo, Purge}
+use Rattle.record_body.proofs.Common.{tracks_at, tracks_size, track_count, edit_at, body_at, tracks_tests, head_tests}
+use Rattle.record_body.proofs.Common.{limits_at, edit_tests, length_test, kind_test, body_tests, Body, Limits, Before}
+use Rattle.record_body.proofs.Common.{track_bytes, spelling, edit_widths, total_width, reach, EditBody, IsValidEdit}
+use Rattle.record_body.proofs.Common.{IsValidBody}
 use Rattle.record_body.proofs.FieldsBack.{NoneFails, both_pass, least_passes, most_passes, no_test, number_there}
 use Rattle.record_body.proofs.FieldsBack.{passes, past}
 use Rattle.record_body.proofs.{Reaching.reach_whole, Reaching.sum_edit, ClipsBack.AreNarrow, TracksBack.has_tracks}
-use Rattle.record_body.proofs.{TracksBack.tracks_pass, ValidBounds.tracks_good}
+use Rattle.record_body.proofs.ValidBounds.{tracks_good}
 
 -- the body that says it
 abbrev body_of : EditBody → Body
 body_of edit = Edit edit.tag edit.next_block edit.next_track edit.tracks
 
--- an edit
-record HasEdit (edit : EditBody) (bytes : List ℕ) : Type 0 where
-  tagged : field 1 8 bytes ≡ edit.tag
-  block : field 9 8 bytes ≡ edit.next_block
-  track : field 17 8 bytes ≡ edit.next_track
-  count : track_count bytes ≡ length edit.tracks
-  tracks : drop 29 bytes ≡ flat_map track_bytes edit.tracks ++ []
+-- An edit in bytes, before the bytes of its tracks. In the one spelling the tracks are written out, and in the other
+-- they are written by the current point.
+pub record HasEdit (rest : List ℕ) (edit : EditBody) (bytes : List ℕ) : Type 0 where
+  pub tagged : field 1 8 bytes ≡ edit.tag
+  pub block : field 9 8 bytes ≡ edit.next_block
+  pub track : field 17 8 bytes ≡ edit.next_track
+  pub count : track_count bytes ≡ length edit.tracks
+  pub tracks : drop 29 bytes ≡ rest ++ []
 
-has_edit : (m : ℕ) (b : Before) (edit : EditBody) (bytes : List ℕ) → IsValidEdit m b edit
-    → bytes ≡ spelling (body_of edit) → HasEdit edit bytes
-has_edit m b edit bytes valid e =
-    let ts = edit.tracks in
-    let all = flat_map track_bytes ts in
-    let counted = little_bytes 4 (length ts) ++ all in
+-- its bytes
+abbrev pub edit_bytes : ℕ → List ℕ → EditBody → List ℕ
+edit_bytes kind tracks edit = kind ∷ (little_bytes 8 edit.tag ++ (little_bytes 8 edit.next_block
+    ++ (little_bytes 8 edit.next_track ++ (little_bytes 4 (length edit.tracks) ++ tracks))))
+
+pub has_edit : (m : ℕ) (b : Before) (kind : ℕ) (tracks : List ℕ) (edit : EditBody) (bytes : List ℕ)
+    → IsValidEdit m b edit → bytes ≡ edit_bytes kind tracks edit → HasEdit tracks edit bytes
+has_edit m b kind tracks edit bytes valid e =
+    let n = length edit.tracks in
+    let counted = little_bytes 4 n ++ tracks in
     let of_track = little_bytes 8 edit.next_track ++ counted in
     let of_block = little_bytes 8 edit.next_block ++ of_track in
     let at_tag : drop 1 bytes ≡ little_bytes 8 edit.tag ++ of_block = ap (drop 1) e in
     let at_block = past 1 9 bytes (little_bytes 8 edit.tag) of_block at_tag (omega arith) in
     let at_track = past 9 17 bytes (little_bytes 8 edit.next_block) of_track at_block (omega arith) in
     let at_count = past 17 25 bytes (little_bytes 8 edit.next_track) counted at_track (omega arith) in
-    let at_all = past 25 29 bytes (little_bytes 4 (length ts)) all at_count (omega arith) in
     record {
       tagged = number_there 8 edit.tag 1 bytes of_block at_tag (omega (arith, valid.tag_number));
       block = number_there 8 edit.next_block 9 bytes of_track at_block (omega (arith, valid.block_most));
       track = number_there 8 edit.next_track 17 bytes counted at_track (omega (arith, valid.track_most));
-      count = number_there 4 (length ts) 25 bytes all at_count (omega (arith, valid.few));
-      tracks = at_all ∙ sym (append-nil all);
+      count = number_there 4 n 25 bytes tracks at_count (omega (arith, valid.few));
+      tracks = past 25 29 bytes (little_bytes 4 n) tracks at_count (omega arith) ∙ sym (append-nil tracks);
     }
 
-head_passes : (m : ℕ) (b : Before) (edit : EditBody) (bytes : List ℕ) → IsValidEdit m b edit → HasEdit edit bytes
-    → NoneFails (head_tests b bytes)
-head_passes m b edit bytes valid has =
+pub head_passes : (m : ℕ) (b : Before) (tracks : List ℕ) (edit : EditBody) (bytes : List ℕ)
+    → IsValidEdit m b edit → HasEdit tracks edit bytes → NoneFails (head_tests b bytes)
+head_passes m b tracks edit bytes valid has =
     most_passes _ _ _ _ _ has.tagged valid.tag_given
     (least_passes _ _ _ _ _ has.block valid.block_least
     (most_passes _ _ _ _ _ has.block valid.block_most
@@ -79,16 +76,16 @@ edit_back m b edit bytes large small valid e =
     let l = limits_of m b edit.next_block edit.next_track in
     let narrow : AreNarrow l = record { ids = valid.block_most; tracks = valid.track_most; lens = small } in
     let good = tracks_good l 0 1 ts large (omega arith) (omega arith) valid.rising valid.valid valid.unnumbered in
-    let has = has_edit m b edit bytes valid e in
+    let spelled = flat_map track_bytes ts in
+    let has = has_edit m b 1 spelled edit bytes valid e in
     let tracks = has_tracks l 0 ts 29 bytes [] narrow good has.tracks in
-    let all_pass = tracks_pass l 0 ts 29 bytes [] narrow good has.tracks in
-    let counted = subst (λ (n : ℕ). NoneFails (tracks_tests l n 0 29 bytes)) (sym has.count) all_pass in
+    let counted = subst (λ (n : ℕ). NoneFails (tracks_tests l n 0 29 bytes)) (sym has.count) tracks.passes in
     let same : limits_at m b bytes ≡ l = ap₂ (limits_of m b) has.block has.track in
     let size = ap (λ (n : ℕ). tracks_size n 29 bytes) has.count ∙ tracks.size in
     let long : length bytes ≡ 29 + length (flat_map track_bytes ts) = ap length e ∙ omega arith in
     let ends : 0 + total_width (edit_widths bytes) ≡ length bytes = omega (arith, sum_edit bytes, size, long) in
     record {
-      tests = both_pass (head_tests b bytes) _ (head_passes m b edit bytes valid has)
+      tests = both_pass (head_tests b bytes) _ (head_passes m b spelled edit bytes valid has)
           (subst (λ (k : Limits). NoneFails (tracks_tests k (track_count bytes) 0 29 bytes)) (sym same) counted);
       says = same_edit has.tagged has.block has.track (ap (λ (n : ℕ). tracks_at n 29 bytes) has.count ∙ tracks.tracks);
       long = reach_whole (length bytes) 0 (edit_widths bytes) (omega (arith, ends)) ∙ ends;

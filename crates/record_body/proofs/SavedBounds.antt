@@ -1,23 +1,20 @@
 -- Each project to which records lead is valid.
-use Rattle.std.proofs.Common.{◌≡◌, ℕ, zero, suc, ◌+◌, ◌-◌, ◌≤◌, ◌^◌, Bool, true, false, if◌then◌else◌, List, [], ◌∷◌}
-use Rattle.std.proofs.Common.{◌++◌, length, map, take, drop, refl, sym, subst, ◌∙◌, arith, Some, slice_get}
+use Rattle.record_body.proofs.Common.{◌≡◌, ℕ, zero, suc, ◌+◌, ◌-◌, ◌≤◌, ◌<◌, ◌^◌, Bool, true, false, if◌then◌else◌}
+use Rattle.record_body.proofs.Common.{List, [], ◌∷◌, ◌++◌, length, map, take, drop, refl, sym, subst, ◌∙◌, arith, Some}
+use Rattle.record_body.proofs.Common.{slice_get, none-some, AllByRecursion, BlockRef, NoneEmpty, IsHalfFull, AllFull}
+use Rattle.record_body.proofs.Common.{block_lens, History, edited, recorded, Clip, AreClips, AllHalfFull, clip_end}
+use Rattle.record_body.proofs.Common.{layout_blocks, Track, point_blocks, Edit, Undo, Redo, Purge, AllGiven}
+use Rattle.record_body.proofs.Common.{AllClipsGiven, AllValidTracks, IsValidBody, IsValidPoint, IsValidTagged, Saved}
+use Rattle.record_body.proofs.Common.{new_project, before_of, after_body, IsNextIn, LeadIn, current_tracks}
+use Rattle.record_body.proofs.Common.{first_tracks, Body}
 use Rattle.std.proofs.lemmas.List.Elements.{All-from_recursion, recursion_from_All, All-nil, All-cons, All-push}
 use Rattle.std.proofs.lemmas.List.Elements.{All-take, All-drop, All-weaker}
-use Rattle.std.proofs.lemmas.Option.{none-some, same_Some}
-use Rattle.std.specs.{Prelude.slice_index, List.All, List.AllByRecursion}
-use Rattle.pcm_base.specs.declared.block.BlockRef.{BlockRef}
-use Rattle.pcm_base.specs.Blocks.{NoneEmpty, IsHalfFull, AllFull, block_lens}
-use Rattle.pcm_base.specs.History.{History, kept, edited, ending_with, recorded, is_of_recording, amended, tag_of}
-use Rattle.pcm_base.specs.History.{tags_of, point_of}
-use Rattle.clip_track.specs.declared.clips.Clip.{Clip}
-use Rattle.clip_track.specs.Clips.{AreClips, AllHalfFull, clip_end, layout_blocks}
+use Rattle.std.proofs.lemmas.Option.{same_Some}
+use Rattle.std.specs.{Prelude.slice_index, List.All}
+use Rattle.pcm_base.specs.declared.limits.TheConstants.{FIRST_BLOCK}
+use Rattle.pcm_base.specs.History.{kept, ending_with, is_of_recording, amended, tag_of, tags_of, point_of}
 use Rattle.sample_block.specs.Spelling.{IsBlock}
-use Rattle.project_state.specs.{declared.track.Track.Track, Meaning.point_blocks}
-use Rattle.record_body.specs.declared.body.Body.TheVariants.{Edit, Undo, Redo, Purge}
-use Rattle.record_body.specs.Valid.{AllGiven, AllClipsGiven, AllValidTracks, IsValidBody, IsValidPoint, IsValidTagged}
-use Rattle.record_body.specs.Saved.{Saved, new_project, before_of, after_body, IsNextIn, LeadIn, current_tracks}
-use Rattle.record_body.specs.Saved.{first_tracks}
-use Rattle.record_body.specs.{declared.body.Body.Body, SavedValid.IsValidSaved}
+use Rattle.record_body.specs.{SavedValid.IsValidSaved}
 
 given_more : (next more : ℕ) (bs : List BlockRef) → next ≤ more → AllGiven next bs → AllGiven more bs
 given_more next more [] h g = tt
@@ -82,6 +79,26 @@ recorded_all P h point tag all one other =
     )
     (ending_all P h (kept h) (point, tag) (All-take P (h.cursor + 1) h.points all) one, refl)
 
+-- one record later the points are as valid
+points_later : (m : ℕ) (k : Saved) → All (IsValidTagged m k.next_block k.next_track k.commit) k.history.points
+    → All (IsValidTagged m k.next_block k.next_track (k.commit + 1)) k.history.points
+points_later m k = All-weaker (IsValidTagged m k.next_block k.next_track k.commit) (IsValidTagged m k.next_block
+    k.next_track (k.commit + 1)) (λ p x. (x.0, omega (arith, x.1))) k.history.points
+
+-- a record that says no point leaves the ids that are next
+steady : (m depth count : ℕ) (k : Saved) (h : History (List Track))
+    → All (IsValidTagged m k.next_block k.next_track (k.commit + 1)) h.points → h.depth ≡ depth
+    → IsValidSaved m depth count k → IsValidSaved m depth (count + 1) (record k { history = h; commit = k.commit + 1 })
+steady m depth count k h points same s = record {
+  points = points;
+  depth_is = same;
+  commit_is = omega (arith, s.commit_is);
+  block_least = s.block_least;
+  block_most = s.block_most;
+  track_least = s.track_least;
+  track_most = s.track_most;
+}
+
 after_valid : (m depth count : ℕ) (k : Saved) (body : Body) → IsValidBody m (before_of k) body → IsValidSaved m depth count k
     → IsValidSaved m depth (count + 1) (after_body k body)
 after_valid m depth count k (Edit tag next_block next_track point) valid s =
@@ -108,37 +125,11 @@ after_valid m depth count k (Edit tag next_block next_track point) valid s =
       track_least = valid.track_least;
       track_most = valid.track_most;
     }
-after_valid m depth count k Undo valid s = record {
-  points = All-weaker (IsValidTagged m k.next_block k.next_track k.commit) (IsValidTagged m k.next_block k.next_track
-      (k.commit + 1)) (λ p x. (x.0, omega (arith, x.1))) k.history.points s.points;
-  depth_is = s.depth_is;
-  commit_is = omega (arith, s.commit_is);
-  block_least = s.block_least;
-  block_most = s.block_most;
-  track_least = s.track_least;
-  track_most = s.track_most;
-}
-after_valid m depth count k Redo valid s = record {
-  points = All-weaker (IsValidTagged m k.next_block k.next_track k.commit) (IsValidTagged m k.next_block k.next_track
-      (k.commit + 1)) (λ p x. (x.0, omega (arith, x.1))) k.history.points s.points;
-  depth_is = s.depth_is;
-  commit_is = omega (arith, s.commit_is);
-  block_least = s.block_least;
-  block_most = s.block_most;
-  track_least = s.track_least;
-  track_most = s.track_most;
-}
-after_valid m depth count k (Purge n) valid s = record {
-  points = All-drop (IsValidTagged m k.next_block k.next_track (k.commit + 1)) n k.history.points
-      (All-weaker (IsValidTagged m k.next_block k.next_track k.commit) (IsValidTagged m k.next_block k.next_track
-      (k.commit + 1)) (λ p x. (x.0, omega (arith, x.1))) k.history.points s.points);
-  depth_is = s.depth_is;
-  commit_is = omega (arith, s.commit_is);
-  block_least = s.block_least;
-  block_most = s.block_most;
-  track_least = s.track_least;
-  track_most = s.track_most;
-}
+after_valid m depth count k Undo valid s = steady m depth count k _ (points_later m k s.points) s.depth_is s
+after_valid m depth count k Redo valid s = steady m depth count k _ (points_later m k s.points) s.depth_is s
+after_valid m depth count k (Purge n) valid s = steady m depth count k _
+    (All-drop (IsValidTagged m k.next_block k.next_track (k.commit + 1)) n k.history.points (points_later m k s.points))
+    s.depth_is s
 
 -- a record that may come next says a valid body
 pub next_valid : (version m : ℕ) (k : Saved) (bytes : List ℕ) (body : Body) → IsNextIn version m k bytes body
@@ -196,31 +187,29 @@ all_append P (x ∷ xs) ys p q = (p.0, all_append P xs ys p.1 q)
 abbrev pub IsBlockRef : BlockRef → Type 0
 IsBlockRef b = IsBlock b.id b.len
 
+-- a block at its bounds
+block_valid : (m next : ℕ) (b : BlockRef) → m ≤ 262144 → next ≤ 2 ^ 62 → b.len ≤ m → 0 < b.len → FIRST_BLOCK ≤ b.id
+    → b.id < next → IsBlockRef b
+block_valid m next b few most fits some low given = record {
+  id_low = low;
+  id_high = omega (arith, given, most);
+  some = omega (arith, some);
+  few = omega (arith, few, fits);
+}
+
 full_blocks : (m next : ℕ) (bs : List BlockRef) → m ≤ 262144 → next ≤ 2 ^ 62 → AllFull m (block_lens bs) → NoneEmpty bs
     → AllGiven next bs → AllByRecursion IsBlockRef bs
 full_blocks m next [] few most full some given = tt
 full_blocks m next (b ∷ bs) few most full some given = (
-  record {
-    id_low = given.0;
-    id_high = omega (arith, given.1, most);
-    some = omega (arith, some.0);
-    few = omega (arith, few, full.0.1);
-  },
+  block_valid m next b few most full.0.1 some.0 given.0 given.1,
   full_blocks m next bs few most full.1 some.1 given.2,
 )
 
 clip_blocks : (m next : ℕ) (bs : List BlockRef) → m ≤ 262144 → next ≤ 2 ^ 62 → IsHalfFull m (block_lens bs)
     → NoneEmpty bs → AllGiven next bs → AllByRecursion IsBlockRef bs
 clip_blocks m next [] few most full some given = tt
-clip_blocks m next (b ∷ []) few most full some given = (
-  record {
-    id_low = given.0;
-    id_high = omega (arith, given.1, most);
-    some = omega (arith, some.0);
-    few = omega (arith, few, full.1);
-  },
-  tt,
-)
+clip_blocks m next (b ∷ []) few most full some given =
+    (block_valid m next b few most full.1 some.0 given.0 given.1, tt)
 clip_blocks m next (b ∷ c ∷ bs) few most full some given = full_blocks m next (b ∷ c ∷ bs) few most full some given
 
 layout_valid : (m next from : ℕ) (cs : List Clip) → m ≤ 262144 → next ≤ 2 ^ 62 → AllHalfFull m cs → AreClips from cs

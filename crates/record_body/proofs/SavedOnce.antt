@@ -1,84 +1,28 @@
 -- A disk keeps one project at most, and the same one after its journal was put into one header.
-use Rattle.std.proofs.Common.{◌≡◌, ℕ, ◌<◌, ◌^◌, ◌≤◌, List, [], ◌∷◌, ◌++◌, map, drop, take, sym, ap, subst, ◌∙◌, refl}
-use Rattle.std.proofs.Common.{arith, ⊎_elim, inr}
-use Rattle.std.proofs.lemmas.List.{take_at, drop_at}
-use Rattle.std.specs.List.{AllByRecursion}
-use Rattle.byteorder.specs.Endian.{little_bytes}
+use Rattle.record_body.proofs.Common.{◌≡◌, ℕ, ◌<◌, ◌^◌, ◌≤◌, List, [], ◌∷◌, map, sym, ap, subst, ◌∙◌, refl, arith, inr}
+use Rattle.record_body.proofs.Common.{AllByRecursion, Saved, LeadIn, Begins, point_bytes, Before, point_at}
+use Rattle.record_body.proofs.Common.{IsValidTagged, Track, history_blocks, AreUnnumbered}
+use Rattle.std.proofs.Common.{⊎_elim}
 use Rattle.disk_model.specs.Disk.{Files}
 use Rattle.sample_block.specs.Sources.{IsWhole}
 use Rattle.project_journal.specs.Header.{Form, IsForm, IsFormat, form_3}
 use Rattle.project_journal.specs.{Choice.other_file, Journal.Log, Packing.HasEither}
 use Rattle.project_journal.proofs.{Chosen.one_journal, AnyFormats.any_format, AnyFormats.any_base, AnyFormats.HasBase}
-use Rattle.record_body.specs.Saved.{Saved, Opened, opened, LeadIn, Keeps, Begins, BeginsBy, IsHeaderBase, IsPacked}
-use Rattle.record_body.specs.Saved.{point_bytes, version_of}
-use Rattle.record_body.specs.{declared.body.Body.Body, declared.body.Body.TheVariants.Edit}
-use Rattle.record_body.specs.{declared.limits.Before.Before, Places.body_at, Valid.IsValidTagged, Valid.IsValidBody}
-use Rattle.record_body.specs.{Spelling.spelling, Spelling.project_bytes}
-use Rattle.project_state.specs.{declared.track.Track.Track, Meaning.history_blocks, Numbers.AreUnnumbered}
-use Rattle.record_body.proofs.{Leading.lead_once_in, ReadBack.read_back}
+use Rattle.record_body.specs.Saved.{Opened, opened, Keeps, BeginsBy, IsHeaderBase, IsPacked, version_of}
+use Rattle.record_body.proofs.{HeaderPoints.point_is, Leading.lead_once_in}
 
 -- ---- points in a header
 
--- an edit of these tracks, with this tag
-edit_of : ℕ → ℕ → List Track × ℕ → Body
-edit_of block track p = Edit p.1 block track p.0
-
-edit_valid : (m block track commit : ℕ) (p : List Track × ℕ) → 16 ≤ block → block ≤ 2 ^ 62 → 1 ≤ track → track ≤ 2 ^ 62
-    → p.1 < 2 ^ 64 → IsValidTagged m block track commit p → AreUnnumbered p.0
-    → IsValidBody m (record { at = 0; next_block = block; next_track = track; commits = commit }) (edit_of block track p)
-unfolding edit_of
-edit_valid m block track commit p bl bm tl tm small is none = record {
-  tag_number = small;
-  tag_given = is.1;
-  block_least = bl;
-  block_most = bm;
-  block_later = omega arith;
-  track_least = tl;
-  track_most = tm;
-  track_later = omega arith;
-  few = is.0.few;
-  rising = is.0.rising;
-  valid = is.0.valid;
-  unnumbered = none;
-}
-
-tracks_of : Body → List Track
-tracks_of (Edit tag block track point) = point
-tracks_of other = []
-
-tag_of : Body → ℕ
-tag_of (Edit tag block track point) = tag
-tag_of other = 0
-
-spelled_alike : (block track : ℕ) (p q : List Track × ℕ) → point_bytes p ≡ point_bytes q
-    → spelling (edit_of block track p) ≡ spelling (edit_of block track q)
-unfolding edit_of
-spelled_alike block track p q e =
-    let tag : little_bytes 8 p.1 ≡ little_bytes 8 q.1 =
-    sym (take_at (little_bytes 8 p.1) (project_bytes p.0) 8 refl) ∙ ap (take 8) e
-    ∙ take_at (little_bytes 8 q.1) (project_bytes q.0) 8 refl in
-    let tracks : project_bytes p.0 ≡ project_bytes q.0 =
-    sym (drop_at (little_bytes 8 p.1) (project_bytes p.0) 8 refl) ∙ ap (drop 8) e
-    ∙ drop_at (little_bytes 8 q.1) (project_bytes q.0) 8 refl in
-    ap (λ (t : List ℕ). 1 ∷ (t ++ (little_bytes 8 block ++ (little_bytes 8 track ++ project_bytes p.0)))) tag
-    ∙ ap (λ (t : List ℕ). 1 ∷ (little_bytes 8 q.1 ++ (little_bytes 8 block ++ (little_bytes 8 track ++ t)))) tracks
-
-module _ (m block track commit : ℕ) (least : 4 ≤ m) (most : m < 2 ^ 32) (bl : 16 ≤ block) (bm : block ≤ 2 ^ 62)
-    (tl : 1 ≤ track) (tm : track ≤ 2 ^ 62) (cm : commit ≤ 2 ^ 62) where
+module _ (m block track commit : ℕ) (least : 4 ≤ m) (most : m < 2 ^ 32) (bm : block ≤ 2 ^ 62) (tm : track ≤ 2 ^ 62)
+    (cm : commit ≤ 2 ^ 62) where
   abbrev Valid : List Track × ℕ → Type 0
   Valid p = IsValidTagged m block track commit p × AreUnnumbered p.0
 
   one_point : (p q : List Track × ℕ) → Valid p → Valid q → point_bytes p ≡ point_bytes q → p ≡ q
-  unfolding edit_of tracks_of tag_of
   one_point p q a b e =
       let before : Before = record { at = 0; next_block = block; next_track = track; commits = commit } in
-      let say_p = (read_back m before (edit_of block track p) least most
-      (edit_valid m block track commit p bl bm tl tm (omega (arith, a.0.1)) a.0 a.1)).1 in
-      let say_q = (read_back m before (edit_of block track q) least most
-      (edit_valid m block track commit q bl bm tl tm (omega (arith, b.0.1)) b.0 b.1)).1 in
-      let same : edit_of block track p ≡ edit_of block track q =
-      sym say_p ∙ ap body_at (spelled_alike block track p q e) ∙ say_q in
-      λ i. (tracks_of (same i), tag_of (same i))
+      sym (point_is m before p least most bm tm cm a.0 a.1) ∙ ap point_at e
+      ∙ point_is m before q least most bm tm cm b.0 b.1
 
   some_points : (x : List ℕ) (xs : List (List ℕ)) → [] ≡ x ∷ xs → ⊥
   some_points x xs e = cc
@@ -123,7 +67,7 @@ module _ (log : Log) (format : IsFormat log.rate log.block_size log.depth) (boun
       rewritten b q in
       saved_same a b
       (one_points log.block_size block track commit format.block_least (omega (arith, format.block_most))
-      bounds.block_least bounds.block_most bounds.track_least bounds.track_most bounds.commit
+      bounds.block_most bounds.track_most bounds.commit
       a.history.points b.history.points (with_none a.history.points all_a p.unnumbered)
       (with_none b.history.points all_b q.unnumbered) (sym p.points ∙ q.points))
       (p.cursor ∙ sym q.cursor) (p.depth ∙ sym q.depth) (p.next_block ∙ sym q.next_block)

@@ -1,8 +1,6 @@
 -- Bytes say one body by the current point.
-use Rattle.std.proofs.Common.{◌≡◌, ℕ, List, [], ◌∷◌, map, Some, refl, sym, ap, ap₂, ◌∙◌, arith}
-use Rattle.record_body.specs.declared.body.Body.TheVariants.{Edit, Undo, Redo, Purge}
-use Rattle.record_body.specs.{declared.body.Body.Body, DeltaBodies.SaysBody}
-use Rattle.project_state.specs.declared.track.Track.{Track}
+use Rattle.record_body.proofs.Common.{◌≡◌, ℕ, List, [], ◌∷◌, map, Some, refl, sym, ap, ap₂, ◌∙◌, arith, Edit, Undo}
+use Rattle.record_body.proofs.Common.{Redo, Purge, Body, SaysBody, Track}
 
 first_is : (x y : Track) (xs ys : List Track) → map Some (x ∷ xs) ≡ map Some (y ∷ ys) → x ≡ y
 first_is x y xs ys e = cc

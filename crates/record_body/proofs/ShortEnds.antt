@@ -1,11 +1,7 @@
 -- The last clip of each track of a valid point has fewer than 2^32 blocks.
-use Rattle.std.proofs.Common.{ℕ, ◌+◌, ◌^◌, ◌≤◌, ◌<◌, ◌==◌, inl, inr, List, [], ◌∷◌, length, arith}
-use Rattle.std.proofs.lemmas.Bool.{cases_Bool}
-use Rattle.pcm_base.specs.Blocks.{blocks_len}
-use Rattle.clip_track.specs.{declared.clips.Clip.Clip, Clips.IsLayout, Clips.AllHalfFull}
-use Rattle.project_state.specs.{declared.track.Track.Track, Tracks.track_of}
-use Rattle.record_body.specs.{Changes.last_blocks, Changes.last_start, Laws.EndsShort, Laws.HasShortEnds}
-use Rattle.record_body.specs.{Lengths.AreHalfFull, Valid.AllValidTracks, Valid.IsValidPoint}
+use Rattle.record_body.proofs.Common.{ℕ, ◌+◌, ◌^◌, ◌≤◌, ◌<◌, ◌==◌, inl, inr, List, [], ◌∷◌, length, arith, cases_Bool}
+use Rattle.record_body.proofs.Common.{blocks_len, Clip, IsLayout, AllHalfFull, Track, track_of, last_blocks, last_start}
+use Rattle.record_body.proofs.Common.{EndsShort, HasShortEnds, AreHalfFull, AllValidTracks, IsValidPoint}
 use Rattle.record_body.proofs.{ValidBounds.half_full_few, Tails.end_last, Tails.last_end}
 
 short_last : (m : ℕ) (cs : List Clip) → 4 ≤ m → IsLayout cs → AllHalfFull m cs → length (last_blocks cs) < 2 ^ 32

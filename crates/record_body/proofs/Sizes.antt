@@ -1,9 +1,7 @@
 -- How many parts are read, and how many bytes they have.
-use Rattle.std.proofs.Common.{◌≡◌, ℕ, zero, suc, ◌+◌, List, length, refl, arith, length-append}
-use Rattle.std.specs.List.{flat_map}
-use Rattle.record_body.specs.Places.{blocks_at, block_count, clip_at, clip_size, clips_at, clips_size, clip_count}
-use Rattle.record_body.specs.Places.{track_at, track_size, tracks_at}
-use Rattle.record_body.specs.Spelling.{clip_bytes, track_bytes}
+use Rattle.record_body.proofs.Common.{◌≡◌, ℕ, zero, suc, ◌+◌, List, length, refl, arith, length-append, flat_map}
+use Rattle.record_body.proofs.Common.{blocks_at, block_count, clip_at, clip_size, clips_at, clips_size, clip_count}
+use Rattle.record_body.proofs.Common.{track_at, track_size, tracks_at, clip_bytes, track_bytes}
 use Rattle.record_body.proofs.Parts.{length_clip}
 
 module _ (bytes : List ℕ) where

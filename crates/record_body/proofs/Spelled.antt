@@ -1,25 +1,19 @@
 -- What was read from bytes is spelled as these bytes.
-use Rattle.std.proofs.Common.{◌≡◌, ℕ, zero, suc, ◌+◌, ◌*◌, ◌<◌, ◌≤◌, min, max, List, [], ◌∷◌, ◌++◌, length, drop, refl}
-use Rattle.std.proofs.Common.{sym, ap, ◌∙◌, arith, slice_index, append_assoc, append-nil, Bool, true, false, ◌==◌}
-use Rattle.std.proofs.Common.{if◌then◌else◌, None, nat_lt, ◌⊎◌, inl, inr}
-use Rattle.std.proofs.lemmas.Bool.{cases_lt, cond-true, eq-eqb}
-use Rattle.std.proofs.lemmas.List.{drop-drop, drop_more, drop_all, length-drop}
-use Rattle.std.specs.List.{flat_map}
-use Rattle.byteorder.specs.Endian.{little_bytes}
-use Rattle.project_journal.specs.{Fields.field, Header.first_failed}
-use Rattle.record_body.specs.declared.body.Body.TheVariants.{Undo, Redo, Purge}
-use Rattle.record_body.specs.Spelling.{block_bytes, clip_bytes, side_byte, mute_byte, track_bytes, spelling}
-use Rattle.record_body.specs.Places.{block_at, blocks_at, block_count, clip_at, clip_size, clips_at, clips_size}
-use Rattle.record_body.specs.Places.{side_of, clip_count, track_at, track_size, tracks_at, tracks_size, track_count}
-use Rattle.record_body.specs.Places.{edit_at, body_at}
-use Rattle.record_body.specs.FirstFault.{track_tests, tracks_tests, settings_tests, clips_tests, head_tests, edit_tests}
-use Rattle.record_body.specs.FirstFault.{limits_at, body_tests}
-use Rattle.record_body.specs.{declared.limits.Limits.Limits, declared.limits.Before.Before, declared.body.Body.Body}
-use Rattle.record_body.specs.{Widths.asked_length}
+use Rattle.record_body.proofs.Common.{◌≡◌, ℕ, zero, suc, ◌+◌, ◌*◌, ◌<◌, ◌≤◌, min, List, [], ◌∷◌, ◌++◌, length, drop}
+use Rattle.record_body.proofs.Common.{refl, sym, ap, ◌∙◌, arith, slice_index, append_assoc, Bool, true, false, ◌==◌}
+use Rattle.record_body.proofs.Common.{if◌then◌else◌, None, nat_lt, ◌⊎◌, inl, inr, cases_lt, eq-eqb, drop_more, drop_all}
+use Rattle.record_body.proofs.Common.{flat_map, little_bytes, field, first_failed, Undo, Redo, Purge, block_bytes}
+use Rattle.record_body.proofs.Common.{clip_bytes, side_byte, mute_byte, track_bytes, spelling, block_at, blocks_at}
+use Rattle.record_body.proofs.Common.{block_count, clip_at, clip_size, clips_at, clips_size, side_of, clip_count}
+use Rattle.record_body.proofs.Common.{track_at, track_size, tracks_at, tracks_size, track_count, edit_at, body_at}
+use Rattle.record_body.proofs.Common.{track_tests, tracks_tests, settings_tests, clips_tests, head_tests, edit_tests}
+use Rattle.record_body.proofs.Common.{limits_at, body_tests, Limits, Before, Body, asked_length, IsBytes-drop, IsBytes}
+use Rattle.record_body.proofs.Common.{all_pass, Pass}
+use Rattle.std.proofs.Common.{max, append-nil}
+use Rattle.std.proofs.lemmas.Bool.{cond-true}
+use Rattle.std.proofs.lemmas.List.{drop-drop, length-drop}
 use Rattle.record_body.proofs.Sizes.{length-blocks_at, length-clips_at, length-tracks_at}
 use Rattle.record_body.proofs.{Numbers.number_back, Passing.pass_parts, Reaching.edit_size}
-use Rattle.sample_block.proofs.Numerals.{IsBytes-drop, IsBytes}
-use Rattle.project_journal.proofs.AnyFormats.{all_pass, Pass}
 
 -- These bytes stand from one place up to another.
 pub record Stands (part : List ℕ) (at end : ℕ) (bytes : List ℕ) : Type 0 where

@@ -1,21 +1,17 @@
 -- The blocks of a last clip of which the end is replaced.
-use Rattle.std.proofs.Common.{◌≡◌, ℕ, suc, ◌+◌, ◌-◌, ◌<◌, ◌≤◌, ◌^◌, inl, inr, List, [], ◌∷◌, ◌++◌, length, get_or, take}
-use Rattle.std.proofs.Common.{drop, refl, ◌∙◌, ap, subst, arith, length-append, Bool, true, nat_lt, zero, ◌&&◌, ◌==◌}
-use Rattle.std.proofs.Common.{if◌then◌else◌}
-use Rattle.std.proofs.lemmas.Bool.{cases_Bool, lt-ltb, ltb-false, eqb-false}
-use Rattle.std.proofs.lemmas.List.{drop_more, length-take-le}
-use Rattle.project_journal.specs.Fields.{field}
-use Rattle.record_body.specs.ChangeTests.{is_lone, kept_blocks, tail_head_tests, tail_tests}
-use Rattle.record_body.specs.{declared.limits.Limits.Limits, ChangePlaces.gone_at, ChangePlaces.fresh_at}
-use Rattle.record_body.specs.{FirstFault.least_len, FirstFault.block_tests, FirstFault.blocks_tests, Places.blocks_at}
-use Rattle.record_body.specs.{Valid.AllGiven, Changes.last_blocks, Changes.last_start, Changes.with_last}
+use Rattle.record_body.proofs.Common.{◌≡◌, ℕ, suc, ◌+◌, ◌-◌, ◌<◌, ◌≤◌, ◌^◌, inl, inr, List, [], ◌∷◌, ◌++◌, length}
+use Rattle.record_body.proofs.Common.{get_or, take, drop, refl, ◌∙◌, ap, subst, arith, length-append, Bool, true}
+use Rattle.record_body.proofs.Common.{nat_lt, zero, ◌&&◌, ◌==◌, if◌then◌else◌, cases_Bool, lt-ltb, eqb-false, drop_more}
+use Rattle.record_body.proofs.Common.{AllByRecursion, field, is_lone, kept_blocks, tail_head_tests, tail_tests, Limits}
+use Rattle.record_body.proofs.Common.{gone_at, fresh_at, least_len, block_tests, blocks_tests, blocks_at, AllGiven}
+use Rattle.record_body.proofs.Common.{last_blocks, last_start, with_last, Pass, BlockRef, NoneEmpty, AllFull}
+use Rattle.record_body.proofs.Common.{IsHalfFull, block_lens, blocks_len, Clip, AreClips, AllHalfFull, IsLayout}
+use Rattle.record_body.proofs.Common.{clip_end, end_of}
+use Rattle.std.proofs.lemmas.Bool.{ltb-false}
+use Rattle.std.proofs.lemmas.List.{length-take-le}
+use Rattle.record_body.proofs.SavedBounds.{all_append}
 use Rattle.record_body.proofs.ValidBodies.{bounded, full_blocks, same_lens, valid_blocks}
 use Rattle.record_body.proofs.{Passing.pass_parts, Sizes.length-blocks_at}
-use Rattle.project_journal.proofs.AnyFormats.{Pass}
-use Rattle.pcm_base.specs.declared.block.BlockRef.{BlockRef}
-use Rattle.pcm_base.specs.Blocks.{NoneEmpty, AllFull, IsHalfFull, block_lens, blocks_len}
-use Rattle.clip_track.specs.declared.clips.Clip.{Clip}
-use Rattle.clip_track.specs.Clips.{AreClips, AllHalfFull, IsLayout, clip_end, end_of}
 
 pub take_len : (n : ℕ) (bs : List BlockRef) → blocks_len (take n bs) ≤ blocks_len bs
 take_len zero bs = omega arith
@@ -43,8 +39,7 @@ some_len (b ∷ bs) p some = omega (arith, p.0)
 
 -- each block has 1 to m samples
 abbrev pub AllFit : ℕ → List BlockRef → Type 0
-AllFit m [] = Unit {0}
-AllFit m (b ∷ bs) = ((0 < b.len) × (b.len ≤ m)) × AllFit m bs
+AllFit m = AllByRecursion (λ (b : BlockRef). (0 < b.len) × (b.len ≤ m))
 
 abbrev pub AreFull : ℕ → List BlockRef → Type 0
 AreFull m bs = AllFull m (block_lens bs)
@@ -62,10 +57,6 @@ fit_half : (m : ℕ) (bs : List BlockRef) → IsHalfFull m (block_lens bs) → N
 fit_half m [] half none = tt
 fit_half m (b ∷ []) half none = (half, tt)
 fit_half m (b ∷ c ∷ bs) half none = fit_full m (b ∷ c ∷ bs) half none
-
-fit_append : (m : ℕ) (xs ys : List BlockRef) → AllFit m xs → AllFit m ys → AllFit m (xs ++ ys)
-fit_append m [] ys p q = q
-fit_append m (x ∷ xs) ys p q = (p.0, fit_append m xs ys p.1 q)
 
 fit_take : (m n : ℕ) (bs : List BlockRef) → AllFit m bs → AllFit m (take n bs)
 fit_take m zero bs p = tt
@@ -144,7 +135,8 @@ valid_tail l start olds at bytes half none near pass =
     let m = l.block_size in
     record {
       half_full = half_of m (kept ++ fresh)
-          (fit_append m kept fresh (fit_take m k olds (fit_half m olds half none))
+          (all_append (λ (b : BlockRef). (0 < b.len) × (b.len ≤ m)) kept fresh
+          (fit_take m k olds (fit_half m olds half none))
           (fit_fresh l several n before (at + 17) bytes parts.1))
           (λ more.
           let two : 1 < k + n = omega (arith, more, long) in

@@ -1,19 +1,13 @@
 -- One track more that is told by the current point.
-use Rattle.std.proofs.Common.{◌≡◌, ℕ, ◌+◌, ◌-◌, ◌==◌, ◌<◌, ◌≤◌, false, inl, inr, List, [], ◌∷◌, ◌++◌, length, map}
-use Rattle.std.proofs.Common.{Option, Some, None, Result, Ok, Err, refl, sym, ◌∙◌, ap, subst, arith, slice_get}
-use Rattle.std.proofs.Common.{length-append}
-use Rattle.std.proofs.{lemmas.Bool.ne_eqb, lemmas.List.append-nil, lemmas.List.map-append}
-use Rattle.std.specs.Prelude.{⊤}
-use Rattle.project_journal.specs.{Fields.field, Header.first_failed, declared.fault.Damaged.Damaged}
-use Rattle.record_body.specs.Changes.{last_blocks, last_start, tailed}
-use Rattle.record_body.specs.ChangePlaces.{all_diff_at, fresh_at, gone_at, mark_at, whole_at}
-use Rattle.record_body.specs.ChangeTests.{all_diff_tests, change_tests, mark_tests, mark_want, marked_tests, tail_tests}
-use Rattle.record_body.specs.ChangeTests.{whole_tests}
-use Rattle.record_body.specs.{declared.limits.BadBody.BadBody, declared.limits.Limits.Limits, FirstFault.Finds}
-use Rattle.record_body.specs.{FirstFault.place, Places.blocks_at, Places.track_at, Told.AddsTold}
-use Rattle.project_state.specs.{declared.track.Track.Track, Numbers.unnumbered, Tracks.track_of}
-use Rattle.project_journal.proofs.{AnyFormats.all_pass, Headers.some_first}
-use Rattle.record_body.proofs.Passing.{pass_parts}
+use Rattle.record_body.proofs.Common.{◌≡◌, ℕ, ◌+◌, ◌-◌, ◌==◌, ◌<◌, ◌≤◌, false, inl, inr, List, [], ◌∷◌, ◌++◌, length}
+use Rattle.record_body.proofs.Common.{map, Option, Some, None, Result, Ok, Err, refl, sym, ◌∙◌, ap, subst, arith}
+use Rattle.record_body.proofs.Common.{slice_get, length-append, field, first_failed, Damaged, last_blocks, last_start}
+use Rattle.record_body.proofs.Common.{tailed, fresh_at, gone_at, mark_at, whole_at, change_tests, mark_tests, mark_want}
+use Rattle.record_body.proofs.Common.{marked_tests, tail_tests, whole_tests, BadBody, Limits, Finds, place, blocks_at}
+use Rattle.record_body.proofs.Common.{track_at, AddsTold, Track, unnumbered, AllBelow, track_of, all_pass, some_first}
+use Rattle.std.proofs.{lemmas.Bool.ne_eqb, lemmas.List.map-append}
+use Rattle.std.specs.Prelude.{⊤, IfOk}
+use Rattle.record_body.proofs.{Passing.pass_parts, Steps.finds_ok}
 use Rattle.record_body.specs.declared.limits.BadBody.TheVariants as bad
 
 -- ---- the mark
@@ -106,6 +100,12 @@ module _ (l : Limits) (current : List Track) (at : ℕ) (bytes : List ℕ) (befo
       → Adds (track_of (field at 8 bytes) current) r
   adds_found old r found adds = subst (λ (o : Option Track). Adds o r) (sym found) adds
 
+-- what was read has an id that no track before has
+pub below_read : (tests : List Damaged) (t : Track) (id : ℕ) (ts : List Track) (r : Result Track BadBody)
+    → Finds tests (λ x. x ≡ t) r → t.id ≡ id → AllBelow id ts → IfOk r (λ x. AllBelow x.id ts)
+below_read tests t id ts r h same low = finds_ok tests (λ x. x ≡ t) (λ x. AllBelow x.id ts) r
+    (λ x none is. subst (λ (n : ℕ). AllBelow n ts) (sym (ap (λ (k : Track). k.id) is ∙ same)) low) h
+
 -- ---- all tracks
 
 last_there : (xs : List Track) (t x : Track) → slice_get (xs ++ t ∷ []) (length xs) ≡ Some x → x ≡ t
@@ -126,14 +126,3 @@ pub said_more : (xs ys : List Track) (t : Track) → ys ≡ xs ++ t ∷ []
 said_more xs ys t is = ap (λ (zs : List Track). map Some (map unnumbered zs)) is
     ∙ ap (λ (zs : List Track). map Some zs) (map-append unnumbered xs (t ∷ []))
     ∙ map-append Some (map unnumbered xs) (unnumbered t ∷ [])
-
--- where none is left
-pub said_all : (current : List Track) (n next : ℕ) (bytes : List ℕ) (xs ys : List (Option Track)) → n ≡ 0
-    → xs ++ all_diff_at current n next bytes ≡ ys → xs ≡ ys
-said_all current n next bytes xs ys none e =
-    sym (append-nil xs) ∙ ap (λ (k : ℕ). xs ++ all_diff_at current k next bytes) (sym none) ∙ e
-
-pub passed_all : (l : Limits) (current : List Track) (n from next : ℕ) (bytes : List ℕ) (o : Option Damaged) → n ≡ 0
-    → first_failed (all_diff_tests l current n from next bytes) ≡ o → o ≡ None
-passed_all l current n from next bytes o none e =
-    sym e ∙ ap (λ (k : ℕ). first_failed (all_diff_tests l current k from next bytes)) none

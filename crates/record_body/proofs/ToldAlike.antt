@@ -1,18 +1,12 @@
 -- The numbers of the current point's layouts bear on nothing that bytes say by it.
-use Rattle.std.proofs.Common.{◌≡◌, refl, sym, ap, ap₂, ◌∙◌, ℕ, zero, suc, ◌+◌, ◌==◌, List, [], ◌∷◌, ◌++◌, map, Option}
-use Rattle.std.proofs.Common.{Some, None, slice_index, if◌then◌else◌}
-use Rattle.std.specs.Option.{option_map}
-use Rattle.project_journal.specs.{Fields.field, declared.fault.Damaged.Damaged}
-use Rattle.project_state.specs.{declared.track.Track.Track, Numbers.unnumbered, Tracks.track_of}
+use Rattle.record_body.proofs.Common.{◌≡◌, refl, sym, ap, ap₂, ◌∙◌, ℕ, zero, suc, ◌+◌, ◌==◌, List, [], ◌∷◌, ◌++◌, map}
+use Rattle.record_body.proofs.Common.{Option, Some, None, slice_index, if◌then◌else◌, option_map, field, Damaged, Track}
+use Rattle.record_body.proofs.Common.{unnumbered, track_of, Edit, Undo, Redo, Purge, Change, Same, Whole, Tail, changed}
+use Rattle.record_body.proofs.Common.{all_diff_at, change_at, diff_at, diff_size, all_diff_tests, change_tests}
+use Rattle.record_body.proofs.Common.{commit_test, delta_edit_tests, delta_kind_test, delta_length_test, delta_tests}
+use Rattle.record_body.proofs.Common.{id_tests, diff_tests, Body, Before, Limits, SaysBody, head_tests, limits_at}
+use Rattle.record_body.proofs.Common.{unnumbered_body, track_count, IsValidBody, BodyShares}
 use Rattle.project_state.proofs.Plain.{plain_new, tracks_plain}
-use Rattle.record_body.specs.declared.body.Body.TheVariants.{Edit, Undo, Redo, Purge}
-use Rattle.record_body.specs.Changes.{Change, Same, Whole, Tail, changed}
-use Rattle.record_body.specs.ChangePlaces.{all_diff_at, change_at, diff_at, diff_size}
-use Rattle.record_body.specs.ChangeTests.{all_diff_tests, change_tests, commit_test, delta_edit_tests, delta_kind_test}
-use Rattle.record_body.specs.ChangeTests.{delta_length_test, delta_tests, id_tests, diff_tests}
-use Rattle.record_body.specs.{declared.body.Body.Body, declared.limits.Before.Before, declared.limits.Limits.Limits}
-use Rattle.record_body.specs.{DeltaBodies.SaysBody, FirstFault.head_tests, FirstFault.limits_at}
-use Rattle.record_body.specs.{Numbers.unnumbered_body, Places.track_count, Valid.IsValidBody, Told.BodyShares}
 use Rattle.record_body.proofs.Unnumbered.{found_alike}
 
 -- ---- what is said

@@ -1,20 +1,13 @@
 -- Tracks that meet their bounds pass their tests and are read back.
-use Rattle.std.proofs.Common.{◌≡◌, ℕ, ◌+◌, ◌^◌, ◌≤◌, ◌<◌, Bool, true, false, List, [], ◌∷◌, ◌++◌, length, drop}
-use Rattle.std.proofs.Common.{slice_index, nat_lt, refl, sym, ap, ap₂, subst, ◌∙◌, arith, append_assoc, length-append}
-use Rattle.std.specs.List.{flat_map}
-use Rattle.byteorder.specs.Endian.{little_bytes}
-use Rattle.pcm_base.specs.declared.sound.Side.{Side}
-use Rattle.clip_track.specs.declared.clips.Clip.{Clip}
-use Rattle.project_journal.specs.Fields.{field}
-use Rattle.project_state.specs.declared.track.Track.{Track}
-use Rattle.record_body.specs.declared.limits.Limits.{Limits}
-use Rattle.record_body.specs.Places.{clips_at, clips_size, side_of, clip_count, track_at, track_size, tracks_at}
-use Rattle.record_body.specs.Places.{tracks_size}
-use Rattle.record_body.specs.Spelling.{clip_bytes, side_byte, mute_byte, track_bytes}
-use Rattle.record_body.specs.FirstFault.{clips_tests, settings_tests, track_tests, tracks_tests}
+use Rattle.record_body.proofs.Common.{◌≡◌, ℕ, ◌+◌, ◌^◌, ◌≤◌, ◌<◌, Bool, true, false, List, [], ◌∷◌, ◌++◌, length, drop}
+use Rattle.record_body.proofs.Common.{slice_index, nat_lt, refl, sym, ap, ap₂, subst, ◌∙◌, arith, append_assoc}
+use Rattle.record_body.proofs.Common.{length-append, flat_map, little_bytes, Side, Clip, field, Track, Limits, clips_at}
+use Rattle.record_body.proofs.Common.{clips_size, side_of, clip_count, track_at, track_size, tracks_at, tracks_size}
+use Rattle.record_body.proofs.Common.{clip_bytes, side_byte, mute_byte, track_bytes, how_tests, id_tests, whole_tests}
+use Rattle.record_body.proofs.Common.{clips_tests, track_tests, tracks_tests, heard_bytes}
 use Rattle.record_body.proofs.FieldsBack.{NoneFails, both_pass, byte_there, least_passes, most_passes, no_test}
 use Rattle.record_body.proofs.FieldsBack.{number_there, past}
-use Rattle.record_body.proofs.ClipsBack.{AreGoodClips, AreNarrow, clips_pass, has_clips}
+use Rattle.record_body.proofs.ClipsBack.{AreGoodClips, AreNarrow, has_clips}
 use Rattle.pcm_base.specs.declared.sound.Side.TheVariants as side
 
 -- a track that meets its bounds, whose id is no lower than a number
@@ -31,34 +24,43 @@ abbrev pub AreGoodTracks : Limits → ℕ → List Track → Type 0
 AreGoodTracks l from [] = Unit {0}
 AreGoodTracks l from (t ∷ ts) = IsGoodTrack l from t × AreGoodTracks l (t.id + 1) ts
 
-record HasTrack (t : Track) (at : ℕ) (bytes rest : List ℕ) : Type 0 where
-  id : field at 8 bytes ≡ t.id
-  gain : field (at + 8) 4 bytes ≡ t.gain
-  side : slice_index bytes (at + 12) ≡ side_byte t.side
-  mute : slice_index bytes (at + 13) ≡ mute_byte t.mute
-  count : clip_count at bytes ≡ length t.layout
-  clips : drop (at + 18) bytes ≡ flat_map clip_bytes t.layout ++ rest
+-- what stands after the id of a track
+pub record HasHeard (t : Track) (at : ℕ) (bytes rest : List ℕ) : Type 0 where
+  pub gain : field (at + 8) 4 bytes ≡ t.gain
+  pub side : slice_index bytes (at + 12) ≡ side_byte t.side
+  pub mute : slice_index bytes (at + 13) ≡ mute_byte t.mute
+  pub count : clip_count at bytes ≡ length t.layout
+  pub clips : drop (at + 18) bytes ≡ flat_map clip_bytes t.layout ++ rest
 
-has_track : (l : Limits) (from : ℕ) (t : Track) (at : ℕ) (bytes rest : List ℕ) → AreNarrow l → IsGoodTrack l from t
-    → drop at bytes ≡ track_bytes t ++ rest → HasTrack t at bytes rest
-has_track l from t at bytes rest narrow good e =
+pub has_heard : (l : Limits) (from : ℕ) (t : Track) (at : ℕ) (bytes rest : List ℕ) → IsGoodTrack l from t
+    → drop (at + 8) bytes ≡ heard_bytes t ++ rest → HasHeard t at bytes rest
+has_heard l from t at bytes rest good e =
     let all = flat_map clip_bytes t.layout ++ rest in
     let counted = little_bytes 4 (length t.layout) ++ all in
     let muted = mute_byte t.mute ∷ counted in
     let sided = side_byte t.side ∷ muted in
-    let gained = little_bytes 4 t.gain ++ sided in
-    let at_gain = past at (at + 8) bytes (little_bytes 8 t.id) gained e refl in
-    let at_side = past (at + 8) (at + 12) bytes (little_bytes 4 t.gain) sided at_gain (omega arith) in
+    let at_side = past (at + 8) (at + 12) bytes (little_bytes 4 t.gain) sided e (omega arith) in
     let at_mute = past (at + 12) (at + 13) bytes (side_byte t.side ∷ []) muted at_side (omega arith) in
     let at_count = past (at + 13) (at + 14) bytes (mute_byte t.mute ∷ []) counted at_mute (omega arith) in
     record {
-      id = number_there 8 t.id at bytes gained e (omega (arith, narrow.tracks, good.given));
-      gain = number_there 4 t.gain (at + 8) bytes sided at_gain (omega (arith, good.gain));
+      gain = number_there 4 t.gain (at + 8) bytes sided e (omega (arith, good.gain));
       side = byte_there (side_byte t.side) (at + 12) bytes muted at_side;
       mute = byte_there (mute_byte t.mute) (at + 13) bytes counted at_mute;
       count = number_there 4 (length t.layout) (at + 14) bytes all at_count good.few;
       clips = past (at + 14) (at + 18) bytes (little_bytes 4 (length t.layout)) all at_count (omega arith);
     }
+
+record HasTrack (t : Track) (at : ℕ) (bytes rest : List ℕ) : Type 0 where
+  id : field at 8 bytes ≡ t.id
+  heard : HasHeard t at bytes rest
+
+has_track : (l : Limits) (from : ℕ) (t : Track) (at : ℕ) (bytes rest : List ℕ) → AreNarrow l → IsGoodTrack l from t
+    → drop at bytes ≡ track_bytes t ++ rest → HasTrack t at bytes rest
+has_track l from t at bytes rest narrow good e = record {
+  id = number_there 8 t.id at bytes (heard_bytes t ++ rest) e (omega (arith, narrow.tracks, good.given));
+  heard = has_heard l from t at bytes rest good (past at (at + 8) bytes (little_bytes 8 t.id) (heard_bytes t ++ rest) e
+      refl);
+}
 
 pub side_back : (s : Side) → side_of (side_byte s) ≡ s
 side_back side.Both = refl
@@ -91,60 +93,57 @@ same_track id gain side mute number layout t a b c d e f = rw (a, b, c, d, e, f)
 track_there : (l : Limits) (from : ℕ) (t : Track) (at : ℕ) (bytes rest : List ℕ) → AreNarrow l → IsGoodTrack l from t
     → drop at bytes ≡ track_bytes t ++ rest → HasTrack t at bytes rest → IsTrackThere t at bytes rest
 track_there l from t at bytes rest narrow good e has =
-    let clips = has_clips l 0 t.layout (at + 18) bytes rest narrow good.clips has.clips in
-    let counted = ap (λ (n : ℕ). clips_size n (at + 18) bytes) has.count in
+    let clips = has_clips l 0 t.layout (at + 18) bytes rest narrow good.clips has.heard.clips in
+    let counted = ap (λ (n : ℕ). clips_size n (at + 18) bytes) has.heard.count in
     let size : track_size at bytes ≡ length (track_bytes t) = omega (arith, counted, clips.size) in
     record {
-      track = same_track _ _ _ _ _ _ t has.id has.gain (ap side_of has.side ∙ side_back t.side)
-          (ap (nat_lt 0) has.mute ∙ mute_back t.mute) (sym good.number)
-          (ap (λ (n : ℕ). clips_at n (at + 18) bytes) has.count ∙ clips.clips);
+      track = same_track _ _ _ _ _ _ t has.id has.heard.gain (ap side_of has.heard.side ∙ side_back t.side)
+          (ap (nat_lt 0) has.heard.mute ∙ mute_back t.mute) (sym good.number)
+          (ap (λ (n : ℕ). clips_at n (at + 18) bytes) has.heard.count ∙ clips.clips);
       size = size;
       left = past at (at + track_size at bytes) bytes (track_bytes t) rest e (omega (arith, size));
     }
 
+pub whole_pass : (l : Limits) (from : ℕ) (t : Track) (at : ℕ) (bytes rest : List ℕ) → AreNarrow l → IsGoodTrack l from t
+    → HasHeard t at bytes rest → NoneFails (whole_tests l at bytes)
+whole_pass l from t at bytes rest narrow good has =
+    let how : NoneFails (how_tests l at bytes) =
+    most_passes _ _ _ _ _ has.gain good.gain
+    (most_passes _ _ _ _ _ has.side (side_most t.side)
+    (most_passes _ _ _ _ _ has.mute (mute_most t.mute) no_test)) in
+    let clips = has_clips l 0 t.layout (at + 18) bytes rest narrow good.clips has.clips in
+    both_pass (how_tests l at bytes) _ how
+    (subst (λ (n : ℕ). NoneFails (clips_tests l n 0 (at + 18) bytes)) (sym has.count) clips.passes)
+
 track_passes : (l : Limits) (from : ℕ) (t : Track) (at : ℕ) (bytes rest : List ℕ) → AreNarrow l → IsGoodTrack l from t
     → HasTrack t at bytes rest → NoneFails (track_tests l from at bytes)
 track_passes l from t at bytes rest narrow good has =
-    let settings : NoneFails (settings_tests l from at bytes) =
+    let id : NoneFails (id_tests l from at bytes) =
     least_passes _ _ _ _ _ has.id good.some
     (least_passes _ _ _ _ _ has.id good.above
-    (most_passes _ _ _ _ _ has.id (omega (arith, good.given))
-    (most_passes _ _ _ _ _ has.gain good.gain
-    (most_passes _ _ _ _ _ has.side (side_most t.side)
-    (most_passes _ _ _ _ _ has.mute (mute_most t.mute) no_test))))) in
-    let clips = clips_pass l 0 t.layout (at + 18) bytes rest narrow good.clips has.clips in
-    both_pass (settings_tests l from at bytes) _ settings
-    (subst (λ (n : ℕ). NoneFails (clips_tests l n 0 (at + 18) bytes)) (sym has.count) clips)
+    (most_passes _ _ _ _ _ has.id (omega (arith, good.given)) no_test)) in
+    both_pass (id_tests l from at bytes) (whole_tests l at bytes) id
+    (whole_pass l from t at bytes rest narrow good has.heard)
 
-pub record HasTracks (ts : List Track) (at : ℕ) (bytes : List ℕ) : Type 0 where
+-- tracks where their bytes stand, which pass
+pub record HasTracks (l : Limits) (from : ℕ) (ts : List Track) (at : ℕ) (bytes : List ℕ) : Type 0 where
   pub tracks : tracks_at (length ts) at bytes ≡ ts
   pub size : tracks_size (length ts) at bytes ≡ length (flat_map track_bytes ts)
-
-front_track : (t : Track) (ts : List Track) (at : ℕ) (bytes rest : List ℕ) → drop at bytes
-    ≡ flat_map track_bytes (t ∷ ts) ++ rest → drop at bytes ≡ track_bytes t ++ (flat_map track_bytes ts ++ rest)
-front_track t ts at bytes rest e = e ∙ append_assoc (track_bytes t) (flat_map track_bytes ts) rest
+  pub passes : NoneFails (tracks_tests l (length ts) from at bytes)
 
 pub has_tracks : (l : Limits) (from : ℕ) (ts : List Track) (at : ℕ) (bytes rest : List ℕ) → AreNarrow l
-    → AreGoodTracks l from ts → drop at bytes ≡ flat_map track_bytes ts ++ rest → HasTracks ts at bytes
-has_tracks l from [] at bytes rest narrow good e = record { tracks = refl; size = refl }
+    → AreGoodTracks l from ts → drop at bytes ≡ flat_map track_bytes ts ++ rest → HasTracks l from ts at bytes
+has_tracks l from [] at bytes rest narrow good e = record { tracks = refl; size = refl; passes = no_test }
 has_tracks l from (t ∷ ts) at bytes rest narrow good e =
-    let first = front_track t ts at bytes rest e in
-    let one = track_there l from t at bytes _ narrow good.0 first (has_track l from t at bytes _ narrow good.0 first) in
+    let first : drop at bytes ≡ track_bytes t ++ (flat_map track_bytes ts ++ rest) =
+    e ∙ append_assoc (track_bytes t) (flat_map track_bytes ts) rest in
+    let has = has_track l from t at bytes _ narrow good.0 first in
+    let one = track_there l from t at bytes _ narrow good.0 first has in
     let more = has_tracks l (t.id + 1) ts (at + track_size at bytes) bytes rest narrow good.1 one.left in
     record {
       tracks = ap₂ (λ (u : Track) (us : List Track). u ∷ us) one.track more.tracks;
       size = omega (arith, one.size, more.size, length-append (track_bytes t) (flat_map track_bytes ts));
+      passes = both_pass (track_tests l from at bytes) _ (track_passes l from t at bytes _ narrow good.0 has)
+          (subst (λ (n : ℕ). NoneFails (tracks_tests l (length ts) (n + 1) (at + track_size at bytes) bytes))
+          (sym has.id) more.passes);
     }
-
-pub tracks_pass : (l : Limits) (from : ℕ) (ts : List Track) (at : ℕ) (bytes rest : List ℕ)
-    → AreNarrow l → AreGoodTracks l from ts → drop at bytes ≡ flat_map track_bytes ts ++ rest
-    → NoneFails (tracks_tests l (length ts) from at bytes)
-tracks_pass l from [] at bytes rest narrow good e = no_test
-tracks_pass l from (t ∷ ts) at bytes rest narrow good e =
-    let first = front_track t ts at bytes rest e in
-    let has = has_track l from t at bytes _ narrow good.0 first in
-    let one = track_there l from t at bytes _ narrow good.0 first has in
-    let more = tracks_pass l (t.id + 1) ts (at + track_size at bytes) bytes rest narrow good.1 one.left in
-    both_pass (track_tests l from at bytes) _ (track_passes l from t at bytes _ narrow good.0 has)
-    (subst (λ (n : ℕ). NoneFails (tracks_tests l (length ts) (n + 1) (at + track_size at bytes) bytes))
-    (sym has.id) more)

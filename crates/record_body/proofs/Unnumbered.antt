@@ -1,21 +1,18 @@
 -- The numbers of layouts bear on nothing that records say, and on nothing that points mean.
-use Rattle.std.proofs.Common.{◌≡◌, refl, sym, ap, ap₂, ◌∙◌, ℕ, ◌+◌, ◌==◌, ◌&&◌, inl, inr, List, [], ◌∷◌, ◌++◌, map}
-use Rattle.std.proofs.Common.{drop, zero, suc, Option, Some, None, subst, ◌≤◌}
-use Rattle.std.proofs.{lemmas.Bool.cases_Bool, lemmas.List.length-map}
-use Rattle.std.specs.{List.flat_map, Option.option_map}
-use Rattle.byteorder.specs.Endian.{little_bytes}
-use Rattle.pcm_base.specs.History.{History, edited, purged, recorded}
-use Rattle.pcm_base.specs.{declared.block.BlockRef.BlockRef, Cells.Project, Pieces.Sources}
-use Rattle.clip_track.specs.Clips.{layout_blocks}
-use Rattle.record_body.specs.declared.body.Body.TheVariants.{Edit, Undo, Redo, Purge}
-use Rattle.record_body.specs.Changes.{change_bytes, change_of, delta_bytes, delta_spelling, same_but_last, same_clips}
-use Rattle.record_body.specs.Changes.{same_settings, diff_bytes}
-use Rattle.record_body.specs.{declared.body.Body.Body, Saved.current_tracks, Saved.first_tracks, Saved.point_bytes}
-use Rattle.record_body.specs.{Numbers.unnumbered_body, Valid.AllValidTracks, Valid.IsValidPoint, Spelling.project_bytes}
-use Rattle.record_body.specs.{Spelling.spelling, Spelling.track_bytes}
-use Rattle.project_state.specs.Meaning.{history_blocks, meant, meant_history, meant_track, point_blocks}
-use Rattle.project_state.specs.Numbers.{AreUnnumbered, unnumbered, unnumbered_history}
-use Rattle.project_state.specs.{declared.track.Track.Track, Tracks.AreAbove, Tracks.track_of}
+use Rattle.record_body.proofs.Common.{◌≡◌, refl, sym, ap, ap₂, ◌∙◌, ℕ, ◌+◌, ◌==◌, ◌&&◌, inl, inr, List, [], ◌∷◌, ◌++◌}
+use Rattle.record_body.proofs.Common.{map, drop, zero, suc, Option, Some, None, subst, ◌≤◌, cases_Bool, length-map}
+use Rattle.record_body.proofs.Common.{flat_map, option_map, little_bytes, History, edited, recorded, BlockRef, Sources}
+use Rattle.record_body.proofs.Common.{layout_blocks, Edit, Undo, Redo, Purge, change_bytes, change_of, delta_spelling}
+use Rattle.record_body.proofs.Common.{same_but_last, same_clips, same_settings, diff_bytes, Body, current_tracks}
+use Rattle.record_body.proofs.Common.{first_tracks, point_bytes, AllValidTracks, IsValidPoint, IsValidTrack}
+use Rattle.record_body.proofs.Common.{unnumbered_body, spelling, track_bytes, history_blocks, meant, point_blocks}
+use Rattle.record_body.proofs.Common.{AreUnnumbered, unnumbered, Track, AreAbove, track_of}
+use Rattle.pcm_base.specs.History.{purged}
+use Rattle.pcm_base.specs.{Cells.Project}
+use Rattle.record_body.specs.Changes.{delta_bytes}
+use Rattle.record_body.specs.{Spelling.project_bytes}
+use Rattle.project_state.specs.Meaning.{meant_history, meant_track}
+use Rattle.project_state.specs.Numbers.{unnumbered_history}
 use Rattle.project_state.proofs.MeantHistories.{mapped_edited, mapped_purged, mapped_recorded}
 
 -- ---- what is said
@@ -157,19 +154,22 @@ above_alike : (least : ℕ) (ts : List Track) → AreAbove least ts → AreAbove
 above_alike least [] above = tt
 above_alike least (t ∷ ts) above = (above.0, above_alike (t.id + 1) ts above.1)
 
+-- a track's number bears on none of its bounds
+valid_numbered : (m block track number : ℕ) (t : Track) → IsValidTrack m block track t
+    → IsValidTrack m block track (record t { number = number })
+valid_numbered m block track number t valid = record {
+  given = valid.given;
+  gain = valid.gain;
+  layout = valid.layout;
+  half_full = valid.half_full;
+  blocks = valid.blocks;
+}
+
 tracks_valid_alike : (m block track : ℕ) (ts : List Track) → AllValidTracks m block track ts
     → AllValidTracks m block track (map unnumbered ts)
 tracks_valid_alike m block track [] valid = tt
-tracks_valid_alike m block track (t ∷ ts) valid = (
-  record {
-    given = valid.0.given;
-    gain = valid.0.gain;
-    layout = valid.0.layout;
-    half_full = valid.0.half_full;
-    blocks = valid.0.blocks;
-  },
-  tracks_valid_alike m block track ts valid.1,
-)
+tracks_valid_alike m block track (t ∷ ts) valid =
+    (valid_numbered m block track 0 t valid.0, tracks_valid_alike m block track ts valid.1)
 
 pub valid_alike : (m block track : ℕ) (ts : List Track) → IsValidPoint m block track ts
     → IsValidPoint m block track (map unnumbered ts)
@@ -188,16 +188,8 @@ above_back least (t ∷ ts) above = (above.0, above_back (t.id + 1) ts above.1)
 tracks_back : (m block track : ℕ) (ts : List Track) → AllValidTracks m block track (map unnumbered ts)
     → AllValidTracks m block track ts
 tracks_back m block track [] valid = tt
-tracks_back m block track (t ∷ ts) valid = (
-  record {
-    given = valid.0.given;
-    gain = valid.0.gain;
-    layout = valid.0.layout;
-    half_full = valid.0.half_full;
-    blocks = valid.0.blocks;
-  },
-  tracks_back m block track ts valid.1,
-)
+tracks_back m block track (t ∷ ts) valid =
+    (valid_numbered m block track t.number (unnumbered t) valid.0, tracks_back m block track ts valid.1)
 
 pub sound_back : (m block track : ℕ) (ts : List Track) → IsValidPoint m block track (map unnumbered ts)
     → IsValidPoint m block track ts

@@ -1,23 +1,16 @@
 -- Where all tests pass, what the bytes say is valid.
-use Rattle.std.proofs.Common.{◌≡◌, ℕ, zero, suc, ◌+◌, ◌-◌, ◌^◌, ◌≤◌, ◌<◌, ◌==◌, inl, inr, if◌then◌else◌, slice_index}
-use Rattle.std.proofs.Common.{nat_lt, Bool, true, false, List, [], refl, arith, subst}
-use Rattle.std.proofs.lemmas.Bool.{lt-ltb, cases_Bool}
-use Rattle.pcm_base.specs.Blocks.{NoneEmpty, AllFull, IsHalfFull, block_lens, blocks_len}
-use Rattle.pcm_base.specs.declared.block.BlockRef.{BlockRef}
-use Rattle.clip_track.specs.Clips.{AreClips, AllHalfFull, end_of}
-use Rattle.project_journal.specs.Fields.{field}
-use Rattle.record_body.specs.Places.{block_at, blocks_at, lens_at, block_count, clip_end_at, clip_size, clips_at}
-use Rattle.record_body.specs.Places.{clip_count, track_at, track_size, tracks_at, track_count, edit_at, body_at}
-use Rattle.record_body.specs.Valid.{AllGiven, AllClipsGiven, IsValidTrack, AllValidTracks, IsValidBody}
-use Rattle.record_body.specs.declared.body.Body.TheVariants.{Undo, Redo, Purge}
-use Rattle.record_body.specs.FirstFault.{least_len, block_tests, blocks_tests, clip_head_tests, clip_tests, clips_tests}
-use Rattle.record_body.specs.FirstFault.{settings_tests, track_tests, tracks_tests, head_tests, edit_tests, limits_at}
-use Rattle.record_body.specs.FirstFault.{body_tests}
-use Rattle.record_body.specs.{declared.limits.Limits.Limits, declared.limits.Before.Before}
-use Rattle.project_state.specs.{Numbers.AreUnnumbered, Tracks.AreAbove}
+use Rattle.record_body.proofs.Common.{◌≡◌, ℕ, zero, suc, ◌+◌, ◌-◌, ◌^◌, ◌≤◌, ◌<◌, ◌==◌, inl, inr, if◌then◌else◌}
+use Rattle.record_body.proofs.Common.{slice_index, nat_lt, Bool, true, false, None, List, [], length, refl, arith}
+use Rattle.record_body.proofs.Common.{subst, lt-ltb, cases_Bool, NoneEmpty, AllFull, IsHalfFull, block_lens, blocks_len}
+use Rattle.record_body.proofs.Common.{BlockRef, AreClips, AllHalfFull, end_of, field, first_failed, block_at, blocks_at}
+use Rattle.record_body.proofs.Common.{lens_at, block_count, clip_end_at, clip_size, clips_at, clip_count, track_at}
+use Rattle.record_body.proofs.Common.{track_size, tracks_at, track_count, edit_at, body_at, AllGiven, AllClipsGiven}
+use Rattle.record_body.proofs.Common.{IsValidTrack, AllValidTracks, IsValidBody, Edit, Undo, Redo, Purge, least_len}
+use Rattle.record_body.proofs.Common.{block_tests, blocks_tests, clip_head_tests, clip_tests, clips_tests}
+use Rattle.record_body.proofs.Common.{settings_tests, track_tests, tracks_tests, head_tests, edit_tests, limits_at}
+use Rattle.record_body.proofs.Common.{body_tests, Limits, Before, Track, AreUnnumbered, AreAbove, IsBytes, Pass}
+use Rattle.record_body.proofs.Common.{all_pass}
 use Rattle.record_body.proofs.{Sizes.length-tracks_at, Numbers.field_small, Passing.pass_parts}
-use Rattle.sample_block.proofs.Numerals.{IsBytes}
-use Rattle.project_journal.proofs.AnyFormats.{Pass}
 
 -- a block in its bounds
 pub record Bounded (l : Limits) (several : Bool) (before : ℕ) (b : BlockRef) : Type 0 where
@@ -151,55 +144,59 @@ valid_track l from at bytes pass =
       blocks = clips.3;
     }
 
-pub valid_tracks : (l : Limits) (count from at : ℕ) (bytes : List ℕ) → Pass (tracks_tests l count from at bytes)
-    → AreAbove from (tracks_at count at bytes)
+-- tracks whose ids rise from a number that the first reaches
+pub valid_tracks : (l : Limits) (count low from at : ℕ) (bytes : List ℕ) → ((id : ℕ) → 1 ≤ id → from ≤ id → low ≤ id)
+    → Pass (tracks_tests l count from at bytes)
+    → AreAbove low (tracks_at count at bytes)
     × AllValidTracks l.block_size l.next_block l.next_track (tracks_at count at bytes)
-valid_tracks l zero from at bytes pass = (tt, tt)
-valid_tracks l (suc count) from at bytes pass =
-    let p = pass_parts (track_tests l from at bytes)
-    (tracks_tests l count (field at 8 bytes + 1) (at + track_size at bytes) bytes) pass in
-    let rest = valid_tracks l count (field at 8 bytes + 1) (at + track_size at bytes) bytes p.1 in
-    (((track_id l from at bytes p.0).1, rest.0), (valid_track l from at bytes p.0, rest.1))
-
--- no id is 0
-pub above_none : (l : Limits) (count at : ℕ) (bytes : List ℕ) → Pass (tracks_tests l count 0 at bytes)
-    → AreAbove 1 (tracks_at count at bytes)
-above_none l zero at bytes pass = tt
-above_none l (suc count) at bytes pass =
-    let p = pass_parts (track_tests l 0 at bytes)
-    (tracks_tests l count (field at 8 bytes + 1) (at + track_size at bytes) bytes) pass in (
-      (track_id l 0 at bytes p.0).0,
-      (valid_tracks l count (field at 8 bytes + 1) (at + track_size at bytes) bytes p.1).0,
-    )
+valid_tracks l zero low from at bytes reaches pass = (tt, tt)
+valid_tracks l (suc count) low from at bytes reaches pass =
+    let next = field at 8 bytes + 1 in
+    let p =
+    pass_parts (track_tests l from at bytes) (tracks_tests l count next (at + track_size at bytes) bytes) pass in
+    let id = track_id l from at bytes p.0 in
+    let rest = valid_tracks l count next next (at + track_size at bytes) bytes (λ id one le. le) p.1 in
+    ((reaches (field at 8 bytes) id.0 id.1, rest.0), (valid_track l from at bytes p.0, rest.1))
 
 pub few_tracks : (b : Before) (bytes : List ℕ) → Pass (head_tests b bytes) → track_count bytes ≤ 64
 few_tracks b bytes pass = omega (arith, pass.1.1.1.1.1.1.1.0)
+
+pub few_told : (b : Before) (bytes : List ℕ) → first_failed (head_tests b bytes) ≡ None → track_count bytes ≤ 64
+few_told b bytes none = few_tracks b bytes (all_pass (head_tests b bytes) none)
 
 -- what bytes say has no numbers
 pub tracks_unnumbered : (count at : ℕ) (bytes : List ℕ) → AreUnnumbered (tracks_at count at bytes)
 tracks_unnumbered zero at bytes = tt
 tracks_unnumbered (suc count) at bytes = (refl, tracks_unnumbered count (at + track_size at bytes) bytes)
 
+-- an edit whose fields in front pass, of valid tracks
+pub valid_edit_of : (m : ℕ) (b : Before) (bytes : List ℕ) (ts : List Track) → IsBytes bytes → Pass (head_tests b bytes)
+    → length ts ≡ track_count bytes → AreAbove 1 ts → AllValidTracks m (field 9 8 bytes) (field 17 8 bytes) ts
+    → AreUnnumbered ts → IsValidBody m b (Edit (field 1 8 bytes) (field 9 8 bytes) (field 17 8 bytes) ts)
+valid_edit_of m b bytes ts fit head count rising valid none = record {
+  tag_number = field_small 1 8 bytes fit;
+  tag_given = omega (arith, head.0);
+  block_least = omega (arith, head.1.0);
+  block_most = omega (arith, head.1.1.0);
+  block_later = omega (arith, head.1.1.1.0);
+  track_least = omega (arith, head.1.1.1.1.0);
+  track_most = omega (arith, head.1.1.1.1.1.0);
+  track_later = omega (arith, head.1.1.1.1.1.1.0);
+  few = omega (arith, few_tracks b bytes head, count);
+  rising = rising;
+  valid = valid;
+  unnumbered = none;
+}
+
 valid_edit : (m : ℕ) (b : Before) (bytes : List ℕ) → IsBytes bytes → Pass (edit_tests m b bytes)
     → IsValidBody m b (edit_at bytes)
 valid_edit m b bytes fit pass =
     let l = limits_at m b bytes in
-    let p = pass_parts (head_tests b bytes) (tracks_tests l (track_count bytes) 0 29 bytes) pass in
-    let head = p.0 in
-    record {
-      tag_number = field_small 1 8 bytes fit;
-      tag_given = omega (arith, head.0);
-      block_least = omega (arith, head.1.0);
-      block_most = omega (arith, head.1.1.0);
-      block_later = omega (arith, head.1.1.1.0);
-      track_least = omega (arith, head.1.1.1.1.0);
-      track_most = omega (arith, head.1.1.1.1.1.0);
-      track_later = omega (arith, head.1.1.1.1.1.1.0);
-      few = omega (arith, few_tracks b bytes head, length-tracks_at bytes (track_count bytes) 29);
-      rising = above_none l (track_count bytes) 29 bytes p.1;
-      valid = (valid_tracks l (track_count bytes) 0 29 bytes p.1).1;
-      unnumbered = tracks_unnumbered (track_count bytes) 29 bytes;
-    }
+    let n = track_count bytes in
+    let p = pass_parts (head_tests b bytes) (tracks_tests l n 0 29 bytes) pass in
+    let all = valid_tracks l n 1 0 29 bytes (λ id one le. one) p.1 in
+    valid_edit_of m b bytes (tracks_at n 29 bytes) fit p.0 (length-tracks_at bytes n 29) all.0 all.1
+    (tracks_unnumbered n 29 bytes)
 
 valid_other : (two three : Bool) (n m : ℕ) (b : Before) → n < 2 ^ 64
     → IsValidBody m b (if two then Undo else if three then Redo else Purge n)

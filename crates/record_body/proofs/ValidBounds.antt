@@ -1,12 +1,9 @@
 -- Valid blocks, clips and tracks meet their bounds.
-use Rattle.std.proofs.Common.{ℕ, ◌+◌, ◌*◌, ◌^◌, ◌≤◌, ◌<◌, Bool, true, false, List, [], ◌∷◌, length, nat_lt, arith}
-use Rattle.pcm_base.specs.declared.block.BlockRef.{BlockRef}
-use Rattle.pcm_base.specs.Blocks.{NoneEmpty, AllFull, IsHalfFull, block_lens, blocks_len}
-use Rattle.clip_track.specs.declared.clips.Clip.{Clip}
-use Rattle.clip_track.specs.Clips.{AreClips, IsLayout, AllHalfFull, clip_end, end_of}
-use Rattle.project_state.specs.{declared.track.Track.Track, Numbers.AreUnnumbered, Tracks.AreAbove}
-use Rattle.record_body.specs.Valid.{AllGiven, AllClipsGiven, AllValidTracks}
-use Rattle.record_body.specs.{declared.limits.Limits.Limits, FirstFault.least, FirstFault.least_len}
+use Rattle.record_body.proofs.Common.{ℕ, ◌+◌, ◌*◌, ◌^◌, ◌≤◌, ◌<◌, Bool, true, false, List, [], ◌∷◌, length, nat_lt}
+use Rattle.record_body.proofs.Common.{arith, AllByRecursion, BlockRef, NoneEmpty, AllFull, IsHalfFull, block_lens}
+use Rattle.record_body.proofs.Common.{blocks_len, Clip, AreClips, IsLayout, AllHalfFull, clip_end, end_of, Track}
+use Rattle.record_body.proofs.Common.{AreUnnumbered, AreAbove, AllGiven, AllClipsGiven, AllValidTracks, Limits, least}
+use Rattle.record_body.proofs.Common.{least_len}
 use Rattle.record_body.proofs.{ClipsBack.AreGoodBlocks, ClipsBack.AreGoodClips, TracksBack.AreGoodTracks}
 
 -- Valid blocks, clips and tracks meet their bounds.
@@ -14,39 +11,41 @@ least_half : (m : ℕ) (several : Bool) (n : ℕ) → m ≤ 2 * n → least_len 
 least_half m true n h = omega arith
 least_half m false n h = omega arith
 
-full_blocks_good : (l : Limits) (several : Bool) (before : ℕ) (bs : List BlockRef)
-    → NoneEmpty bs → before + blocks_len bs ≤ 2 ^ 32 → AllGiven l.next_block bs → AllFull l.block_size (block_lens bs)
+-- a block that is neither too short nor too long
+abbrev IsFit : Limits → Bool → BlockRef → Type 0
+IsFit l several b = (least_len l.block_size several ≤ b.len) × (b.len ≤ l.block_size)
+
+full_fit : (l : Limits) (several : Bool) (bs : List BlockRef) → AllFull l.block_size (block_lens bs)
+    → AllByRecursion (IsFit l several) bs
+full_fit l several [] full = tt
+full_fit l several (b ∷ bs) full =
+    ((least_half l.block_size several b.len full.0.0, full.0.1), full_fit l several bs full.1)
+
+fit_good : (l : Limits) (several : Bool) (before : ℕ) (bs : List BlockRef)
+    → NoneEmpty bs → before + blocks_len bs ≤ 2 ^ 32 → AllGiven l.next_block bs → AllByRecursion (IsFit l several) bs
     → AreGoodBlocks l several before bs
-full_blocks_good l several before [] some short given full = tt
-full_blocks_good l several before (b ∷ bs) some short given full = (
+fit_good l several before [] some short given fit = tt
+fit_good l several before (b ∷ bs) some short given fit = (
   record {
     valid = given.0;
     given = given.1;
     short = omega arith;
     some = some.0;
-    fits = full.0.1;
-    enough = least_half l.block_size several b.len full.0.0;
+    fits = fit.0.1;
+    enough = fit.0.0;
   },
-  full_blocks_good l several (before + b.len) bs some.1 (omega arith) given.2 full.1,
+  fit_good l several (before + b.len) bs some.1 (omega arith) given.2 fit.1,
 )
 
 blocks_good : (l : Limits) (before : ℕ) (bs : List BlockRef) → NoneEmpty bs
     → before + blocks_len bs ≤ 2 ^ 32 → AllGiven l.next_block bs → IsHalfFull l.block_size (block_lens bs)
     → AreGoodBlocks l (nat_lt 1 (length bs)) before bs
 blocks_good l before [] some short given full = tt
-blocks_good l before (b ∷ []) some short given full = (
-  record {
-    valid = given.0;
-    given = given.1;
-    short = omega arith;
-    some = some.0;
-    fits = full.1;
-    enough = omega arith;
-  },
-  tt,
-)
+blocks_good l before (b ∷ []) some short given full =
+    fit_good l false before (b ∷ []) some short given ((omega arith, full.1), tt)
 blocks_good l before (b ∷ c ∷ bs) some short given full =
-    full_blocks_good l (nat_lt 1 (length (b ∷ c ∷ bs))) before (b ∷ c ∷ bs) some short given full
+    let several = nat_lt 1 (length (b ∷ c ∷ bs)) in
+    fit_good l several before (b ∷ c ∷ bs) some short given (full_fit l several (b ∷ c ∷ bs) full)
 
 full_blocks_few : (m : ℕ) (bs : List BlockRef) → 4 ≤ m → AllFull m (block_lens bs) → 2 * length bs ≤ blocks_len bs
 full_blocks_few m [] large full = omega arith

@@ -1,9 +1,7 @@
 // Tracks out of the bytes that tell them by the current point.
 ghost use Rattle.std.specs.Prelude.{◌≡◌, ◌+◌, ◌*◌, ◌-◌, ◌≤◌, ◌<◌, ◌++◌, ◌∷◌, ⊤, [], length, Some, None};
-ghost use Rattle.std.specs.Prelude.{slice_get};
+ghost use Rattle.std.specs.Prelude.{IfOk, List, slice_get};
 ghost use Rattle.pcm_base.specs.declared.limits.TheConstants.{MAX_TRACKS};
-ghost use Rattle.clip_track.specs.Clips.{AllHalfFull};
-ghost use Rattle.record_body.specs.Changes as change;
 ghost use Rattle.record_body.specs.ChangePlaces as there;
 ghost use Rattle.record_body.specs.ChangeTests as test;
 ghost use Rattle.record_body.specs.FirstFault.{Tells, Finds};
@@ -12,32 +10,22 @@ ghost use Rattle.record_body.specs.Told.{AddsTold, AreDiff};
 ghost use Rattle.project_state.specs.declared.track.Track.{Track};
 ghost use Rattle.project_state.specs.Numbers.{unnumbered};
 ghost use Rattle.project_state.specs.Tracks.{AllBelow, track_of};
-ghost use Rattle.record_body.specs.Places as place;
-ghost use Rattle.project_journal.specs.Fields.{field};
+ghost use Rattle.project_journal.specs.{Fields.field, declared.fault.Damaged.Damaged};
 
-use super::bounds::{least, most, place};
+use super::bounds::{most, place, wanted};
 use super::limits::{BadBody, Limits};
-use super::reading::side_of;
-use super::reading_clips::read_clips;
+use super::reading::{read_whole, test_id};
 use super::tails_reading::read_tail;
 use super::writing::track_len;
-use pcm_base::MAX_GAIN;
 use project_journal::{Damaged, first_failure, u8_at, u32_at, u64_at};
 use project_state::{Point, Track};
 use std::alloc::Global;
 
-/// Tests the id of the track at a place, which is to be no lower than a number.
-fn test_id(bytes: &[u8], at: usize, limits: Limits, from: u64) -> Result<(), Damaged>
-    requires within { at + 8 ≤ length bytes.now }
-    ensures { Tells (test.id_tests limits from at bytes.now) (λ _. ⊤) result }
-{
-    let id = u64_at(bytes, at);
-    let id_place = place(limits.base, at);
-    first_failure(&[
-        least(id_place, 1, id),
-        least(id_place, from, id),
-        most(id_place, limits.next_track.saturating_sub(1), id),
-    ])
+/// A place in the bytes where a track begins, and the bounds of what stands there.
+#[derive(Clone, Copy)]
+struct Place {
+    at: usize,
+    limits: Limits,
 }
 
 /// Tests a mark.
@@ -46,95 +34,18 @@ fn test_mark(at: u64, want: u8, mark: u8) -> Result<(), Damaged>
 {
     first_failure(&[
         most(at, 2, mark as u64),
-        Damaged {
-            at,
-            want: want as u128,
-            have: mark as u128,
-        },
+        wanted(at, want as u64, mark as u64),
     ])
 }
 
-/// Tests gain, side and mute of a track whose id would stand at a place.
-fn test_how(bytes: &[u8], at: usize, limits: Limits) -> Result<(), Damaged>
-    requires within { at + 14 ≤ length bytes.now }
-    ensures { Tells (test.how_tests limits at bytes.now) (λ _. ⊤) result }
-{
-    first_failure(&[
-        most(
-            place(limits.base, at + 8),
-            MAX_GAIN as u64,
-            u32_at(bytes, at + 8) as u64,
-        ),
-        most(place(limits.base, at + 12), 2, u8_at(bytes, at + 12) as u64),
-        most(place(limits.base, at + 13), 1, u8_at(bytes, at + 13) as u64),
-    ])
-}
-
-/// The track with this id that is written out, where its id would stand at a place.
-fn read_whole(
-    alloc: Global,
-    bytes: &[u8],
-    at: usize,
-    limits: Limits,
-    id: u64,
-) -> Result<Track, BadBody>
-    requires within { at + place.track_size at bytes.now ≤ length bytes.now }
-    ensures { Finds (test.whole_tests limits at bytes.now) (λ t. t ≡ record (place.track_at at bytes.now) { id = id })
-        result }
-{
-    test_how(bytes, at, limits)?;
-    let clip_count = u32_at(bytes, at + 14);
-    let layout = read_clips(alloc, bytes, at + 18, clip_count, limits)?;
-    Ok(Track {
-        id,
-        gain: u32_at(bytes, at + 8),
-        side: side_of(u8_at(bytes, at + 12)),
-        mute: u8_at(bytes, at + 13) > 0,
-        number: 0,
-        layout,
-    })
-}
-
-/// Adds the track with this id that is written out, where its id would stand at a place, after the others.
-fn add_whole(
-    alloc: Global,
-    bytes: &[u8],
-    at: usize,
-    limits: Limits,
-    id: u64,
-    point: &mut Point,
-) -> Result<(), BadBody>
-    requires within { at + place.track_size at bytes.now ≤ length bytes.now }
-    requires above { AllBelow id point.old }
+/// Adds a track that was read after the others.
+fn add_read(track: Result<Track, BadBody>, point: &mut Point) -> Result<(), BadBody>
+    requires above { IfOk track (λ t. AllBelow t.id point.old) }
     requires few { length point.old < MAX_TRACKS }
-    ensures { Finds (test.whole_tests limits at bytes.now)
-        (λ _. point.new ≡ point.old ++ (record (place.track_at at bytes.now) { id = id }) ∷ []) result }
+    ensures { (tests : List Damaged) (t : Track) → Finds tests (λ x. x ≡ t) track
+        → Finds tests (λ _. point.new ≡ point.old ++ t ∷ []) result }
 {
-    let track = read_whole(alloc, bytes, at, limits, id)?;
-    point.push(track)?;
-    Ok(())
-}
-
-/// Adds the track at a place, which is a track of the current point whose last clip ends otherwise, after the others.
-fn add_tail(
-    alloc: Global,
-    bytes: &[u8],
-    at: usize,
-    limits: Limits,
-    old: &Track,
-    point: &mut Point,
-) -> Result<(), BadBody>
-    requires within { at + (17 + 12 * there.fresh_at at bytes.now) ≤ length bytes.now }
-    requires some { 0 < length old.now.layout }
-    requires half_full { AllHalfFull limits.block_size old.now.layout }
-    requires above { AllBelow old.now.id point.old }
-    requires few { length point.old < MAX_TRACKS }
-    ensures { Finds (test.tail_tests limits (change.last_start old.now.layout) (change.last_blocks old.now.layout) at
-        bytes.now) (λ _. point.new ≡ point.old ++ change.tailed (there.gone_at at bytes.now)
-        (place.blocks_at (there.fresh_at at bytes.now) (at + 17) bytes.now) old.now ∷ []) result }
-{
-    let track = read_tail(alloc, bytes, at, limits, old)?;
-    point.push(track)?;
+    point.push(track?)?;
     Ok(())
 }
 
@@ -155,34 +66,35 @@ fn wanted_mark(old: &Track, mark: u8) -> u8
 fn add_known(
     alloc: Global,
     bytes: &[u8],
-    at: usize,
-    limits: Limits,
+    start: Place,
     current: &Point,
     i: usize,
     point: &mut Point,
 ) -> Result<(), BadBody>
-    requires within { there.HasDiff at bytes.now }
+    requires within { there.HasDiff start.at bytes.now }
     requires here { i < length current.now }
     requires found { (t : Track) → slice_get current.now i ≡ Some t
-        → track_of (field at 8 bytes.now) current.now ≡ Some t }
-    requires half_full { AreHalfFull limits.block_size current.now }
-    requires above { AllBelow (field at 8 bytes.now) point.old }
+        → track_of (field start.at 8 bytes.now) current.now ≡ Some t }
+    requires half_full { AreHalfFull start.limits.block_size current.now }
+    requires above { AllBelow (field start.at 8 bytes.now) point.old }
     requires few { length point.old < MAX_TRACKS }
-    ensures { Finds (test.change_tests limits (track_of (field at 8 bytes.now) current.now) at bytes.now)
-        (λ _. AddsTold current.now (track_of (field at 8 bytes.now) current.now) at bytes.now point.old point.new)
-        result }
+    ensures { Finds (test.change_tests start.limits (track_of (field start.at 8 bytes.now) current.now) start.at
+        bytes.now) (λ _. AddsTold current.now (track_of (field start.at 8 bytes.now) current.now) start.at bytes.now
+        point.old point.new) result }
 {
     let old = current.track_at(i);
-    let mark = u8_at(bytes, at + 8);
-    test_mark(place(limits.base, at + 8), wanted_mark(old, mark), mark)?;
+    let mark = u8_at(bytes, start.at + 8);
+    let mark_place = place(start.limits.base, start.at + 8);
+    test_mark(mark_place, wanted_mark(old, mark), mark)?;
     if mark == 0 {
         point.share(current, i)?;
         return Ok(());
     }
     if mark == 1 {
-        return add_whole(alloc, bytes, at + 1, limits, old.id, point);
+        let track = read_whole(alloc, bytes, start.at + 1, start.limits, old.id);
+        return add_read(track, point);
     }
-    add_tail(alloc, bytes, at, limits, old, point)
+    add_read(read_tail(alloc, bytes, start.at, start.limits, old), point)
 }
 
 /// Adds the track at a place, whose id the current point lacks, after the others.
@@ -200,7 +112,8 @@ fn add_new(
         (λ _. point.new ≡ point.old ++ there.whole_at at bytes.now ∷ []) result }
 {
     test_mark(place(limits.base, at + 8), 1, u8_at(bytes, at + 8))?;
-    add_whole(alloc, bytes, at + 1, limits, u64_at(bytes, at), point)
+    let track = read_whole(alloc, bytes, at + 1, limits, u64_at(bytes, at));
+    add_read(track, point)
 }
 
 /// Adds the track at a place, by the current point, after the others. Its id is to be no lower than a number. It is
@@ -208,24 +121,23 @@ fn add_new(
 fn add_told(
     alloc: Global,
     bytes: &[u8],
-    at: usize,
-    limits: Limits,
+    start: Place,
     from: u64,
     current: &Point,
     point: &mut Point,
 ) -> Result<(), BadBody>
-    requires within { there.HasDiff at bytes.now }
-    requires half_full { AreHalfFull limits.block_size current.now }
+    requires within { there.HasDiff start.at bytes.now }
+    requires half_full { AreHalfFull start.limits.block_size current.now }
     requires below { AllBelow from point.old }
     requires few { length point.old < MAX_TRACKS }
-    ensures { Finds (test.diff_tests limits current.now from at bytes.now)
-        (λ _. AddsTold current.now (track_of (field at 8 bytes.now) current.now) at bytes.now point.old point.new)
-        result }
+    ensures { Finds (test.diff_tests start.limits current.now from start.at bytes.now)
+        (λ _. AddsTold current.now (track_of (field start.at 8 bytes.now) current.now) start.at bytes.now point.old
+        point.new) result }
 {
-    test_id(bytes, at, limits, from)?;
-    match current.place_of(u64_at(bytes, at), point.len()) {
-        Some(i) => add_known(alloc, bytes, at, limits, current, i, point),
-        None => add_new(alloc, bytes, at, limits, point),
+    test_id(bytes, start.at, start.limits, from)?;
+    match current.place_of(u64_at(bytes, start.at), point.len()) {
+        Some(i) => add_known(alloc, bytes, start, current, i, point),
+        None => add_new(alloc, bytes, start.at, start.limits, point),
     }
 }
 
@@ -263,7 +175,8 @@ pub(crate) fn read_all_diff(
     let mut next = at;
     let mut from = 0;
     for _ in 0..count {
-        add_told(alloc, bytes, next, limits, from, current, &mut point)?;
+        let start = Place { at: next, limits };
+        add_told(alloc, bytes, start, from, current, &mut point)?;
         let last = point.len() - 1;
         let track = point.track_at(last);
         next += diff_len_at(bytes, next, track);

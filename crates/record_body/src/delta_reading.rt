@@ -15,12 +15,12 @@ ghost use Rattle.record_body.specs.Valid.{IsValidBody, IsValidPoint};
 ghost use Rattle.record_body.specs.Told.{BodyShares, ReadsBody, ReadsEdit};
 
 use super::body::Body;
-use super::bounds::least;
+use super::bounds::{least, length, wanted};
 use super::changes_measuring::asked_delta_len;
 use super::changes_reading::read_all_diff;
 use super::kinds::{DELTA_KIND, REDO_KIND, UNDO_KIND};
-use super::limits::{BadBody, Before, Limits};
-use super::reading::test_head;
+use super::limits::{BadBody, Before};
+use super::reading::{kind_of, read_head};
 use pcm_base::COUNTER_LIMIT;
 use project_journal::{Damaged, first_failure, u32_at, u64_at};
 use project_state::Point;
@@ -38,20 +38,12 @@ fn read_edit_by(
     requires half_full { AreHalfFull m current.now }
     ensures { Finds (test.delta_edit_tests m before current.now bytes.now) (ReadsEdit current.now bytes.now) result }
 {
-    test_head(bytes, before)?;
-    let next_block = u64_at(bytes, 9);
-    let next_track = u64_at(bytes, 17);
-    let limits = Limits {
-        base: before.at,
-        block_size: m,
-        next_block,
-        next_track,
-    };
+    let limits = read_head(bytes, m, before)?;
     let point = read_all_diff(alloc, bytes, 29, u32_at(bytes, 25), limits, current)?;
     Ok(Body::Edit {
         tag: u64_at(bytes, 1),
-        next_block,
-        next_track,
+        next_block: limits.next_block,
+        next_track: limits.next_track,
         point,
     })
 }
@@ -61,21 +53,14 @@ fn test_delta_outside(bytes: &[u8], before: Before) -> Result<(), Damaged>
     ensures { Tells (test.delta_length_test before bytes.now ∷ test.delta_kind_test before bytes.now
         ∷ test.commit_test before ∷ []) (λ _. ⊤) result }
 {
-    let kind = match bytes {
-        [kind, ..] => *kind,
-        [] => 0,
-    };
+    let kind = kind_of(bytes);
     first_failure(&[
-        Damaged {
-            at: before.at.saturating_sub(4),
-            want: asked_delta_len(bytes) as u128,
-            have: bytes.len() as u128,
-        },
-        Damaged {
-            at: before.at,
-            want: kind.max(UNDO_KIND).min(DELTA_KIND) as u128,
-            have: kind as u128,
-        },
+        length(before, asked_delta_len(bytes), bytes.len()),
+        wanted(
+            before.at,
+            kind.max(UNDO_KIND).min(DELTA_KIND) as u64,
+            kind as u64,
+        ),
         least(before.at, 1, COUNTER_LIMIT.saturating_sub(before.commits)),
     ])
 }

@@ -8,7 +8,7 @@ ghost use Rattle.record_body.specs.PointTests.{point_length_test, point_tests, p
 ghost use Rattle.record_body.specs.Valid.{IsValidTagged};
 ghost use Rattle.record_body.specs.Widths.{Reaches};
 
-use super::bounds::{most, place};
+use super::bounds::{length, most, place};
 use super::limits::{BadBody, Before, Limits};
 use super::measuring::{PastEnd, fit_all, fit_tracks};
 use super::reading::read_tracks;
@@ -39,11 +39,7 @@ fn asked_point_len(bytes: &[u8]) -> usize
 fn test_point_len(bytes: &[u8], before: Before) -> Result<(), Damaged>
     ensures { Tells (point_length_test before bytes.now ∷ []) (λ _. ⊤) result }
 {
-    first_failure(&[Damaged {
-        at: before.at.saturating_sub(4),
-        want: asked_point_len(bytes) as u128,
-        have: bytes.len() as u128,
-    }])
+    first_failure(&[length(before, asked_point_len(bytes), bytes.len())])
 }
 
 /// Tests the tag, and how many tracks there are.

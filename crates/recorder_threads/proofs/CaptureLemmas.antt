@@ -1,7 +1,7 @@
 -- How far the reading of the microphone has come.
-use Rattle.std.proofs.Common.{◌≡◌, ℕ, ◌+◌, ◌*◌, ◌/◌, ◌<◌, ◌≤◌, min, ℤ, List, [], ◌∷◌, ◌++◌, length, Option, refl, sym}
-use Rattle.std.proofs.Common.{ap, ◌∙◌, arith}
-use Rattle.std.proofs.{lemmas.List.length-append, lemmas.List.append-nil, lemmas.List.Elements.All-push}
+use Rattle.std.proofs.Common.{◌≡◌, ℕ, ◌+◌, ◌*◌, ◌/◌, ◌<◌, ◌≤◌, min, ℤ, List, [], ◌∷◌, ◌++◌, length, take, Option, refl}
+use Rattle.std.proofs.Common.{sym, ap, ◌∙◌, arith}
+use Rattle.std.proofs.lemmas.List.{length-append, append-nil, length-take-le, Elements.All-push}
 use Rattle.pcm_base.specs.Parts.{Part}
 use Rattle.pcm_base.specs.Recordings.{samples_of_bytes, chunks_of, numbered_part, numbered, IsOpen}
 use Rattle.edit_ports.specs.Told.{Open, preceded}
@@ -71,6 +71,25 @@ count-more k len done block whole is bound =
       length-chunks_if (samples_of_bytes block),
       length-samples block,
     )
+
+-- whole blocks were read, and then the first `len` of 512 bytes
+pub record AfterBlock (left left' : Option (List ℕ)) (sent' : List Part) (k len : ℕ) (done block : List ℕ) : Type 0
+  where
+    pub long : length (done ++ block) ≡ 512 * k + len
+    pub reads : Reads left left' sent' (done ++ block)
+    pub count : k + min 1 (len / 2) ≡ length (chunks_of (done ++ block))
+
+pub after_block : {left mid left' : Option (List ℕ)} {sent sent' : List Part} (k len : ℕ) (done bytes : List ℕ)
+    → length bytes ≡ 512 → len ≤ 512 → length done ≡ 512 * k → Reads left mid sent done
+    → mid ≡ preceded (take len bytes) left' → sent' ≡ sent ++ chunk_if k (samples_of_bytes (take len bytes))
+    → AfterBlock left left' sent' k len done (take len bytes)
+after_block k len done bytes wide bound whole reads moves new =
+    let len_is : length (take len bytes) ≡ len = length-take-le len bytes (omega (arith, wide, bound)) in
+    record {
+      long = omega (arith, length-append done (take len bytes), whole, len_is);
+      reads = Reads-more k done (take len bytes) whole (omega (arith, len_is, bound)) reads moves new;
+      count = count-more k len done (take len bytes) whole len_is bound;
+    }
 
 -- the end mark was sent, and the microphone handed back
 pub Captures-end : {M : Type 0} (mics : source.Ghosts M) (microphone mic' : M) (input : RecordIn) (r : Captured M)

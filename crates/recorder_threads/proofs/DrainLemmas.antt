@@ -6,9 +6,8 @@ use Rattle.std.proofs.lemmas.List.{take-append-drop, take-take, take-map, drop-m
 use Rattle.std.proofs.lemmas.List.{take_more_set, append-nil}
 use Rattle.std.proofs.{lemmas.List.Sums.sum_by-append, Math.Seq.take-add}
 use Rattle.std.specs.List.{zip}
-use Rattle.pcm_base.specs.Recordings.{numbered_part, numbered, recording}
-use Rattle.pcm_base.specs.{Arithmetic.counted_from, Parts.Part, declared.refusal.Refusal.Refusal}
-use Rattle.pcm_base.specs.{declared.refusal.Refusal.TheVariants.NoMemory}
+use Rattle.pcm_base.specs.{Recordings.numbered_part, Recordings.numbered, Recordings.recording, Arithmetic.counted_from}
+use Rattle.pcm_base.specs.{Parts.Part, declared.refusal.Refusal.Refusal, declared.refusal.Refusal.TheVariants.NoMemory}
 use Rattle.edit_ports.specs.Answers.{first_refusal, numbered_pieces, samples_of}
 use Rattle.record_ring.specs.Order.{Follows}
 use Rattle.recorder_threads.specs.Drained.{Taken, TakerState, Takes}

@@ -4,13 +4,12 @@ use Rattle.std.proofs.Common.{Option, Some, refl, ap, sym, subst, ◌∙◌, ari
 use Rattle.std.proofs.lemmas.List.Elements.{All-nil}
 use Rattle.std.specs.Prelude.{unwrap_or}
 use Rattle.pcm_base.specs.Edits.{changed, deleted, gained, inserted, quieted, ramp_of, range_of}
-use Rattle.pcm_base.specs.{declared.sound.Cell.Cell, Cells.Project, Cells.edited_at, Cells.run_edited, History.edited}
-use Rattle.pcm_base.specs.{Outside.Outside, State.State, State.clip_of, State.current, State.new_state, Step.after_line}
-use Rattle.pcm_base.specs.{Step.copied, Step.new_track, Step.with_project}
+use Rattle.pcm_base.specs.Step.{after_line, copied, new_track, with_project}
+use Rattle.pcm_base.specs.{declared.sound.Cell.Cell, Cells.Project, Cells.edited_at, Cells.run_edited, History.History}
+use Rattle.pcm_base.specs.{History.edited, Outside.Outside, State.State, State.clip_of, State.current, State.new_state}
 use Rattle.script_gen.proofs.Points.{IsLast, IsEdited, current-last, edited-last, last_project, redone-last}
-use Rattle.script_gen.proofs.Points.{undone-last}
 use Rattle.script_gen.proofs.Samples.{HasSamples, IsSample, changed-full, deleted-full, gained-sample, inserted-full}
-use Rattle.script_gen.proofs.Samples.{quieted-sample, ramp-full, range-full}
+use Rattle.script_gen.proofs.{Points.undone-last, Samples.quieted-sample, Samples.ramp-full, Samples.range-full}
 use Rattle.pcm_base.specs.declared.command.Command.TheVariants as command
 
 -- a project of one track, the first of a project, with this many samples and no gap
@@ -138,25 +137,27 @@ paste-after out len copied at s h some within =
 
 -- ---- undo and redo
 
-pub undo-after : (out : Outside) (len copied : ℕ) (s : State) → IsAt len copied false s →
-    IsAt len copied true (after_line out s command.Undo)
-undo-after out len copied s h = record {
+-- another point of the same history, with the same project
+moved-after : (len copied : ℕ) (undone after : Bool) (s : State) (history : History Project) (commit : ℕ)
+    → IsAt len copied undone s → IsLast after history → last_project history ≡ last_project s.history
+    → IsAt len copied after (record s { history = history; commit = commit })
+moved-after len copied undone after s history commit h last same = record {
   next_track = h.next_track;
   next_pin = h.next_pin;
-  history = undone-last s.history h.history;
-  track = h.track;
+  history = last;
+  track = subst (HasTrack len) (sym same) h.track;
   clipboard = h.clipboard;
 }
 
+pub undo-after : (out : Outside) (len copied : ℕ) (s : State) → IsAt len copied false s →
+    IsAt len copied true (after_line out s command.Undo)
+undo-after out len copied s h =
+    moved-after len copied false true s _ _ h (undone-last s.history h.history) refl
+
 pub redo-after : (out : Outside) (len copied : ℕ) (s : State) → IsAt len copied true s →
     IsAt len copied false (after_line out s command.Redo)
-redo-after out len copied s h = record {
-  next_track = h.next_track;
-  next_pin = h.next_pin;
-  history = redone-last s.history h.history;
-  track = h.track;
-  clipboard = h.clipboard;
-}
+redo-after out len copied s h =
+    moved-after len copied true false s _ _ h (redone-last s.history h.history) refl
 
 -- ---- the first line
 

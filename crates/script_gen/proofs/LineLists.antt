@@ -1,7 +1,6 @@
 -- One line more.
 use Rattle.std.proofs.Common.{◌≡◌, ℕ, zero, suc, ◌+◌, ◌-◌, ◌<◌, ◌≤◌, List, [], ◌∷◌, ◌++◌, length, refl, ap, sym, ◌∙◌}
-use Rattle.std.proofs.Common.{append_assoc, arith}
-use Rattle.std.proofs.lemmas.List.{append-nil}
+use Rattle.std.proofs.{Common.append_assoc, Common.arith, lemmas.List.append-nil}
 use Rattle.pcm_base.specs.declared.command.Command.{Command}
 use Rattle.script_gen.specs.declared.place.Place.{Place}
 use Rattle.script_gen.specs.Script.{first_place, line_at, lines_from, script_of}

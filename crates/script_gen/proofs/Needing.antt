@@ -23,26 +23,15 @@ pub record IsFew (m blocks len : ℕ) : Type 0 where
   pub record_most : len ≤ 2048 + 24 * (1 + div_ceil all m)
 
 pub few-blocks : (m blocks len : ℕ) → IsFew m blocks len → blocks ≤ 2009
-few-blocks m blocks len f =
-    let few = f.few in
-    let most = f.blocks_most in
-    omega (arith, div-le_self f.new m)
+few-blocks m blocks len f = omega (arith, f.few, f.blocks_most, div-le_self f.new m)
 
 -- where a block has at most 512 samples
 pub few-512 : (blocks len : ℕ) → IsFew 512 blocks len → (blocks ≤ 11) × (len ≤ 6872)
 few-512 blocks len f =
-    let one = f.one in
-    let few = f.few in
-    let blocks_most = f.blocks_most in
-    let short = f.short in
-    let record_most = f.record_most in
-    (omega arith, omega arith)
+    (omega (arith, f.one, f.few, f.blocks_most), omega (arith, f.short, f.record_most))
 
 pub few-bytes : (m blocks len : ℕ) → IsFew m blocks len → len ≤ 2450104
-few-bytes m blocks len f =
-    let short = f.short in
-    let most = f.record_most in
-    omega (arith, div-le_self f.all m)
+few-bytes m blocks len f = omega (arith, f.short, f.record_most, div-le_self f.all m)
 
 -- ---- records
 
@@ -64,34 +53,29 @@ pub edit-few : (clips new len copied most : ℕ) (out : Outside) (t : Studio) (c
     most ≤ 8 + clips + new / t.block_size → EditNeeds most out t (call.Line c) blocks bytes →
     IsFew t.block_size blocks bytes
 edit-few clips new len copied most out t c blocks bytes h short one few within needs =
-    let ids = needs.0 in
-    let told = needs.1 in
-    let body = track-body t.block_size len copied (after_line out t.state c) h in
     record {
       clips = clips;
       one = one;
       new = new;
       few = few;
-      blocks_most = omega arith;
+      blocks_most = omega (arith, needs.0);
       all = len;
       short = short;
-      record_most = omega arith;
+      record_most = omega (arith, needs.1, track-body t.block_size len copied (after_line out t.state c) h);
     }
 
 -- a line without a project in its record
 pub record-few : (m exact blocks bytes : ℕ) → exact ≤ 9 → RecordNeeds exact blocks bytes → IsFew m blocks bytes
 record-few m exact blocks bytes small needs =
-    let none = needs.0 in
-    let same = needs.1 in
     record {
       clips = 0;
       one = omega arith;
       new = 0;
       few = omega arith;
-      blocks_most = omega arith;
+      blocks_most = omega (arith, needs.0);
       all = 0;
       short = omega arith;
-      record_most = omega arith;
+      record_most = omega (arith, needs.1);
     }
 
 -- the blocks of samples that are computed anew

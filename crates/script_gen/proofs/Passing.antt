@@ -1,18 +1,16 @@
 -- The tests that let the lines of a script through.
 use Rattle.std.proofs.Common.{◌≡◌, ℕ, ℤ, ◌+◌, ◌-◌, ◌^◌, ◌≤◌, ◌<◌, max, Bool, true, false, List, [], ◌∷◌, length, take}
 use Rattle.std.proofs.Common.{Option, None, ap, ◌∙◌, arith}
-use Rattle.std.proofs.lemmas.Bool.{and_from, le-leb, le-ltb, lt-ltb, ne_eqb}
+use Rattle.std.proofs.lemmas.Bool.{and_from, cond_both, le-leb, le-ltb, lt-ltb, ne_eqb}
 use Rattle.std.specs.Prelude.{nat_lt, nat_le, ◌==◌, not, is_none, unwrap_or, if◌then◌else◌}
-use Rattle.pcm_base.specs.Counters.{commits_needed, commits_of, counter_tests, generations_by, generations_of, no_room}
-use Rattle.pcm_base.specs.Counters.{pins_of, places_of, layouts_of, record_test, tracks_needed, tracks_of}
-use Rattle.pcm_base.specs.Refusals.{◌otherwise◌, bad_columns, bad_range, call_tests, inserted_length, is_empty}
-use Rattle.pcm_base.specs.Refusals.{length_limit, own_tests, pasted_lengths, refused_if}
-use Rattle.pcm_base.specs.{declared.sound.Cell.Cell, declared.command.Command.Command, declared.refusal.Refusal.Refusal}
-use Rattle.pcm_base.specs.{Cells.Project, Cells.cells_at, Cells.longest, Cells.tracks_from, Outside.Outside}
-use Rattle.pcm_base.specs.{Run.refusal_of, Run.stop_of, Run.stop_test, declared.limits.TheConstants.LONGEST_BODY}
-use Rattle.pcm_base.specs.{Shape.shape_of, State.State, State.current, Step.new_track, Studio.Studio}
+use Rattle.pcm_base.specs.Counters.{commits_needed, generations_by, layouts_of, tracks_needed}
+use Rattle.pcm_base.specs.Refusals.{◌otherwise◌, bad_columns, bad_range, inserted_length, is_empty, length_limit}
+use Rattle.pcm_base.specs.{Refusals.own_tests, Refusals.pasted_lengths, Refusals.refused_if, declared.sound.Cell.Cell}
+use Rattle.pcm_base.specs.{declared.command.Command.Command, declared.refusal.Refusal.Refusal, Cells.Project}
+use Rattle.pcm_base.specs.{Cells.cells_at, Cells.longest, Cells.tracks_from, Outside.Outside, Run.refusal_of}
+use Rattle.pcm_base.specs.{Run.stop_of, Shape.shape_of, State.State, State.current, Step.new_track, Studio.Studio}
 use Rattle.script_gen.proofs.Editing.{HasTrack, IsAt, copied-cells, current-track}
-use Rattle.model_laws.proofs.Together.{both_pass, room_passes, limit_passes}
+use Rattle.model_laws.proofs.Together.{both_pass, passes, limit_passes}
 use Rattle.pcm_base.specs.declared.command.Call.TheVariants as call
 use Rattle.pcm_base.specs.declared.command.Command.TheVariants as command
 use Rattle.pcm_base.specs.declared.refusal.Refusal.TheVariants as refusal
@@ -129,11 +127,8 @@ pub record HasRoom (t : Studio) : Type 0 where
   pub layouts : t.next_layout + 1 ≤ 2 ^ 62
 
 pub places-few : (commits len : ℕ) → (if commits == 0 then 0 else 6 + len) ≤ 6 + len
-places-few commits len = by (commits == 0)
-  where
-    by : (none : Bool) → (if none then 0 else 6 + len) ≤ 6 + len
-    by true = omega arith
-    by false = omega arith
+places-few commits len =
+    cond_both (commits == 0) _ _ (λ (n : ℕ). n ≤ 6 + len) (λ _. omega arith) (λ _. omega arith)
 
 pub line-passes : (out : Outside) (t : Studio) (c : Command) (blocks len : ℕ) → HasRoom t →
     own_tests out t.state c ≡ None →
@@ -142,35 +137,17 @@ pub line-passes : (out : Outside) (t : Studio) (c : Command) (blocks len : ℕ) 
     refusal_of out t (call.Line c) blocks len ≡ None
 line-passes out t c blocks len room own few short tracks commits still draws =
     let line = call.Line c in
-    let ids = room.ids in
-    let next_track = room.tracks in
-    let commit = room.commits in
-    let pins = room.pins in
-    let end = room.places in
-    let generations = room.generations in
-    let last = room.layouts in
-    let places = places-few (commits_needed c) len in
-    let a = no_room t.next_block blocks in
-    let b = no_room t.state.next_track (tracks_of out line) in
-    let d = no_room t.state.commit (commits_of line) in
-    let e = no_room t.state.next_pin (pins_of line) in
-    let f = no_room t.journal_end (places_of line len) in
-    let g = no_room t.generation (generations_of line) in
-    let h = no_room t.next_layout (layouts_of out t.state line) in
-    let counters : counter_tests out t line blocks len ≡ None =
-    both_pass a (b otherwise d otherwise e otherwise f otherwise g otherwise h)
-    (room_passes t.next_block blocks (omega arith))
-    (both_pass b (d otherwise e otherwise f otherwise g otherwise h)
-    (room_passes t.state.next_track (tracks_of out line) (omega arith))
-    (both_pass d (e otherwise f otherwise g otherwise h) (room_passes t.state.commit (commits_of line) (omega arith))
-    (both_pass e (f otherwise g otherwise h) (room_passes t.state.next_pin (pins_of line) (omega arith))
-    (both_pass f (g otherwise h) (room_passes t.journal_end (places_of line len) (omega arith))
-    (both_pass g h (room_passes t.generation (generations_of line) (omega arith))
-    (room_passes t.next_layout (layouts_of out t.state line) (omega arith))))))) in
-    let record_passes : record_test len ≡ None =
-    ap (λ (r : Bool). refused_if r (refusal.RecordLimit len)) (le-ltb LONGEST_BODY len (omega arith)) in
-    both_pass (stop_test t.stopped line)
-    (call_tests out t.state line otherwise counter_tests out t line blocks len otherwise record_test len)
-    (ap stop_of room.going)
-    (both_pass (call_tests out t.state line) (counter_tests out t line blocks len otherwise record_test len) own
-    (both_pass (counter_tests out t line blocks len) (record_test len) counters record_passes))
+    passes out t line blocks len record {
+      going = ap stop_of room.going;
+      own = own;
+      room = record {
+        ids = omega (arith, room.ids);
+        tracks = omega (arith, room.tracks);
+        commits = omega (arith, room.commits);
+        pins = omega (arith, room.pins);
+        places = omega (arith, room.places, places-few (commits_needed c) len);
+        generations = omega (arith, room.generations);
+        layouts = omega (arith, room.layouts);
+      };
+      short = omega arith;
+    }

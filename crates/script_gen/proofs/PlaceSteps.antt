@@ -1,7 +1,7 @@
 -- The line at a place of the generator leads to the next place.
 use Rattle.std.proofs.Common.{ℕ, zero, suc, ◌+◌, ◌<◌, Bool, true, false, arith}
 use Rattle.pcm_base.specs.State.{State}
-use Rattle.script_gen.specs.Script.{Written, draw_at, drawn_on, kind_at, line_at, range_at, undo_at, written_as}
+use Rattle.script_gen.specs.Script.{Written, draw_at, drawn_on, kind_at, line_at, undo_at, written_as}
 use Rattle.script_gen.specs.{declared.kind.Kind.Kind, declared.place.Place.Place, Bounds.IsPlace, Draws.next_state}
 use Rattle.script_gen.proofs.Editing.{IsAt}
 use Rattle.script_gen.proofs.Places.{Fits, drawn-below, drawn_on-bounds, kind-fits, range-drawn}
@@ -34,23 +34,19 @@ written-leads kind.Ramp left state len copied b fits =
     (omega arith)
 written-leads kind.Delete left state len copied b fits =
     let r = range-drawn (settled state len copied) b in
-    let range = range_at (settled state len copied) in
-    delete-goes len copied range.from range.to r.order r.within b.most
+    delete-goes len copied _ _ r.order r.within b.most
 written-leads kind.Gain left state len copied b fits =
     let p = settled state len copied in
     let r = range-drawn p b in
-    let range = range_at p in
     let third = drawn_on (drawn_on p) in
     let gain : draw_at 131073 third < 131073 = drawn-below 131073 (next_state third.state) (omega arith) in
-    gain-goes len copied range.from range.to (draw_at 131073 third) r.order r.within r.few b.most (omega arith)
+    gain-goes len copied _ _ (draw_at 131073 third) r.order r.within r.few b.most (omega arith)
 written-leads kind.Silence left state len copied b fits =
     let r = range-drawn (settled state len copied) b in
-    let range = range_at (settled state len copied) in
-    silence-goes len copied range.from range.to r.order r.within r.few b.most
+    silence-goes len copied _ _ r.order r.within r.few b.most
 written-leads kind.Copy left state len copied b fits =
     let r = range-drawn (settled state len copied) b in
-    let range = range_at (settled state len copied) in
-    copy-goes len copied range.from range.to r.order r.within b.most
+    copy-goes len copied _ _ r.order r.within b.most
 written-leads kind.Paste left state len copied b fits =
     let p = settled state len copied in
     let at : draw_at (len + 1) p < len + 1 = drawn-below (len + 1) (next_state state) (omega arith) in

@@ -1,6 +1,7 @@
 -- Each line leaves a place within its bounds.
 use Rattle.std.proofs.Common.{ℕ, zero, suc, ◌+◌, ◌-◌, ◌<◌, ◌≤◌, Bool, true, false, ◌≡◌, refl, min, arith}
-use Rattle.std.proofs.{lemmas.Nat.mod_below, lemmas.Bool.ltb-true, lemmas.Bool.ltb-false, lemmas.Bool.eqb-false}
+use Rattle.std.proofs.{lemmas.Nat.mod_below, lemmas.Bool.cond_both, lemmas.Bool.ltb-true, lemmas.Bool.ltb-false}
+use Rattle.std.proofs.lemmas.Bool.{eqb-false}
 use Rattle.std.specs.Prelude.{nat_lt, ◌==◌, if◌then◌else◌}
 use Rattle.script_gen.specs.Script.{drawn_on, draw_at, range_at, first_place, allowed, kind_of, kind_at, ramp_at}
 use Rattle.script_gen.specs.Script.{delete_at, copy_at, paste_at, undo_at, redo_at, written_as, drawn_at, line_at}
@@ -38,18 +39,12 @@ Fits p kind.Paste = (0 < p.copied) × (p.len ≤ 100000)
 Fits p _ = Unit {0}
 
 ramp-fits : (p : Place) → Fits p (allowed p kind.Ramp)
-ramp-fits p = by (nat_lt 100000 p.len) refl
-  where
-    by : (long : Bool) → nat_lt 100000 p.len ≡ long → Fits p (if long then kind.Delete else kind.Ramp)
-    by true e = let h = ltb-true 100000 p.len e in omega arith
-    by false e = ltb-false 100000 p.len e
+ramp-fits p = cond_both (nat_lt 100000 p.len) _ _ (Fits p)
+    (λ e. let h = ltb-true 100000 p.len e in omega arith) (λ e. ltb-false 100000 p.len e)
 
 delete-fits : (p : Place) → Fits p (allowed p kind.Delete)
-delete-fits p = by (nat_lt p.len 2000) refl
-  where
-    by : (short : Bool) → nat_lt p.len 2000 ≡ short → Fits p (if short then kind.Ramp else kind.Delete)
-    by true e = let h = ltb-true p.len 2000 e in omega arith
-    by false e = ltb-false p.len 2000 e
+delete-fits p = cond_both (nat_lt p.len 2000) _ _ (Fits p)
+    (λ e. let h = ltb-true p.len 2000 e in omega arith) (λ e. ltb-false p.len 2000 e)
 
 paste-fits : (p : Place) → Fits p (allowed p kind.Paste)
 paste-fits p = by (p.copied == 0) (nat_lt 100000 p.len) refl refl
@@ -82,27 +77,20 @@ ramp-count x = drawn-below 2000 x (omega arith)
 
 ramp-bounds : (p : Place) → IsPlace p → p.len ≤ 100000 → IsPlace (ramp_at p).place
 ramp-bounds p b few =
-    let least = b.least in
     let count = ramp-count (next_state (next_state p.state)) in
-    record { least = omega arith; most = omega arith; copied = b.copied }
+    record { least = omega (arith, b.least); most = omega arith; copied = b.copied }
 
 delete-bounds : (p : Place) → IsPlace p → 2000 ≤ p.len → IsPlace (delete_at p).place
 delete-bounds p b many =
-    let r = range-drawn p b in
-    let most = b.most in
-    let few = r.few in
-    record { least = omega arith; most = omega arith; copied = b.copied }
+    let few = (range-drawn p b).few in
+    record { least = omega arith; most = omega (arith, b.most); copied = b.copied }
 
 copy-bounds : (p : Place) → IsPlace p → IsPlace (copy_at p).place
-copy-bounds p b =
-    let few = (range-drawn p b).few in
-    record { least = b.least; most = b.most; copied = omega arith }
+copy-bounds p b = record { least = b.least; most = b.most; copied = omega (arith, (range-drawn p b).few) }
 
 paste-bounds : (p : Place) → IsPlace p → p.len ≤ 100000 → IsPlace (paste_at p).place
 paste-bounds p b few =
-    let least = b.least in
-    let copied = b.copied in
-    record { least = omega arith; most = omega arith; copied = b.copied }
+    record { least = omega (arith, b.least); most = omega (arith, b.copied); copied = b.copied }
 
 undo-bounds : (left : ℕ) (p : Place) → IsPlace p → IsPlace (undo_at left p).place
 undo-bounds zero p b = b
@@ -123,8 +111,6 @@ pub kind-fits : (p : Place) → Fits (drawn_on p) (kind_at p)
 kind-fits p = allowed-fits (drawn_on p) (kind_of (draw_at 8 p))
 
 pub line-bounds : (left : ℕ) (p : Place) → IsPlace p → IsPlace (line_at left p).place
-line-bounds left p b = by p.undone
-  where
-    by : (undone : Bool) → IsPlace ((if undone then redo_at p else drawn_at left p)).place
-    by true = record { least = b.least; most = b.most; copied = b.copied }
-    by false = written-bounds (kind_at p) left (drawn_on p) (drawn_on-bounds p b) (kind-fits p)
+line-bounds left p b = cond_both p.undone (redo_at p) (drawn_at left p) (λ w. IsPlace w.place)
+    (λ _. record { least = b.least; most = b.most; copied = b.copied })
+    (λ _. written-bounds (kind_at p) left (drawn_on p) (drawn_on-bounds p b) (kind-fits p))

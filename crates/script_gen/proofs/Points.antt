@@ -1,8 +1,7 @@
 -- The last point of a history.
 use Rattle.std.proofs.Common.{◌≡◌, ℕ, ◌+◌, ◌-◌, ◌≤◌, ◌<◌, Bool, true, false, List, [], ◌∷◌, ◌++◌, length, drop, ap, ◌∙◌}
-use Rattle.std.proofs.Common.{arith}
-use Rattle.std.proofs.Math.Seq.{drop-append_seam}
 use Rattle.std.proofs.lemmas.List.{drop-drop, length-drop, length_push, take_all}
+use Rattle.std.proofs.{Common.arith, Math.Seq.drop-append_seam}
 use Rattle.pcm_base.specs.History.{History, at_cursor, edited, kept, newest}
 use Rattle.pcm_base.specs.{Cells.Project, State.State, State.current, State.first_point}
 
@@ -59,12 +58,7 @@ edited-last h p end room =
     }
 
 pub undone-last : (h : History Project) → IsLast false h → IsLast true (at_cursor h (h.cursor - 1))
-undone-last h l =
-    let two = l.two in
-    let cursor = l.cursor in
-    record { two = l.two; room = l.room; cursor = omega arith }
+undone-last h l = record { two = l.two; room = l.room; cursor = omega (arith, l.two, l.cursor) }
 
 pub redone-last : (h : History Project) → IsLast true h → IsLast false (at_cursor h (h.cursor + 1))
-redone-last h l =
-    let cursor = l.cursor in
-    record { two = l.two; room = l.room; cursor = omega arith }
+redone-last h l = record { two = l.two; room = l.room; cursor = omega (arith, l.cursor) }

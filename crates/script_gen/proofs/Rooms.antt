@@ -1,9 +1,8 @@
 -- How much of a disk the lines of a script need.
 use Rattle.std.proofs.Common.{◌≡◌, ℕ, zero, suc, ◌-◌, ◌*◌, ◌≤◌, false, List, [], ◌∷◌, length, pos, negsuc, refl, subst}
 use Rattle.std.proofs.Common.{sym, ◌∙◌, arith}
-use Rattle.pcm_base.specs.Counters.{LineNeeds, commits_needed, places_of}
-use Rattle.pcm_base.specs.Run.{CarriesOut, followed, outside}
-use Rattle.pcm_base.specs.{declared.answer.Reply.Reply, declared.command.Command.Command}
+use Rattle.pcm_base.specs.{Counters.LineNeeds, Counters.commits_needed, Counters.places_of, Run.CarriesOut}
+use Rattle.pcm_base.specs.{Run.followed, Run.outside, declared.answer.Reply.Reply, declared.command.Command.Command}
 use Rattle.pcm_base.specs.{declared.entry.SoundMove.SoundMove, State.State, State.new_state, Studio.Studio}
 use Rattle.model_laws.proofs.Answered.{answered_same}
 use Rattle.script_gen.specs.Room.{EachNeedsAtMost, HaveRoom, NeedsAtMost, SumsAtMost, script_project}

@@ -56,23 +56,20 @@ continued-same to cells h =
     ap (λ (k : ℕ). cells ++ replicate k Gap) none ∙ append-nil cells
 
 appended-full : (m n : ℕ) (xs ys : List Cell) → HasSamples m xs → HasSamples n ys → HasSamples (m + n) (xs ++ ys)
-appended-full m n xs ys h k =
-    let e = h.length_is in
-    let f = k.length_is in
-    record {
-      samples = All-append IsSample xs ys h.samples k.samples;
-      length_is = omega (arith, length-append xs ys);
-    }
+appended-full m n xs ys h k = record {
+  samples = All-append IsSample xs ys h.samples k.samples;
+  length_is = omega (arith, h.length_is, k.length_is, length-append xs ys);
+}
 
 taken-full : (len n : ℕ) (cells : List Cell) → n ≤ len → HasSamples len cells → HasSamples n (take n cells)
 taken-full len n cells few h =
-    let e = h.length_is in
-    record { samples = All-take IsSample n cells h.samples; length_is = omega (arith, length-take n cells) }
+    let long : length (take n cells) ≡ n = omega (arith, h.length_is, length-take n cells) in
+    record { samples = All-take IsSample n cells h.samples; length_is = long }
 
 dropped-full : (len n : ℕ) (cells : List Cell) → HasSamples len cells → HasSamples (len - n) (drop n cells)
 dropped-full len n cells h =
-    let e = h.length_is in
-    record { samples = All-drop IsSample n cells h.samples; length_is = omega (arith, length-drop n cells) }
+    let long : length (drop n cells) ≡ len - n = omega (arith, h.length_is, length-drop n cells) in
+    record { samples = All-drop IsSample n cells h.samples; length_is = long }
 
 same_length : (m n : ℕ) (cells : List Cell) → m ≡ n → HasSamples m cells → HasSamples n cells
 same_length m n cells e h = subst (λ (k : ℕ). HasSamples k cells) e h
@@ -86,8 +83,7 @@ ramp-full n start step = record {
 pub inserted-full : (len n at : ℕ) (xs cells : List Cell) → at ≤ len → HasSamples n xs → HasSamples len cells →
     HasSamples (len + n) (inserted at xs cells)
 inserted-full len n at xs cells within new h =
-    let e = h.length_is in
-    let same = continued-same at cells (omega arith) in
+    let same = continued-same at cells (omega (arith, h.length_is)) in
     let front : HasSamples at (take at (continued at cells)) =
     subst (λ (l : List Cell). HasSamples at (take at l)) (sym same) (taken-full len at cells within h) in
     let all = appended-full (at + n) (len - at) (take at (continued at cells) ++ xs) (drop at cells)
@@ -127,8 +123,7 @@ changed-full len from to f cells kept order within h =
 pub range-full : (len from to : ℕ) (cells : List Cell) → from ≤ to → to ≤ len → HasSamples len cells →
     HasSamples (to - from) (range_of from to cells)
 range-full len from to cells order within h =
-    let e = h.length_is in
-    let same = continued-same to cells (omega arith) in
+    let same = continued-same to cells (omega (arith, h.length_is)) in
     subst (λ (l : List Cell). HasSamples (to - from) (part from to l)) (sym same)
     (part-full len from to cells order within h)
 

@@ -1,6 +1,7 @@
 -- Each line of a script is valid where it stands.
-use Rattle.std.proofs.Common.{◌≡◌, ℕ, zero, suc, ◌+◌, ◌-◌, ◌*◌, ◌≤◌, Bool, true, false, List, ◌∷◌, None, pos, negsuc}
+use Rattle.std.proofs.Common.{◌≡◌, ℕ, zero, suc, ◌+◌, ◌-◌, ◌*◌, ◌≤◌, Bool, false, List, ◌∷◌, None, pos, negsuc}
 use Rattle.std.proofs.Common.{refl, sym, ◌∙◌, subst, arith}
+use Rattle.std.proofs.lemmas.Bool.{cond_both}
 use Rattle.std.specs.Prelude.{if◌then◌else◌, ◌==◌}
 use Rattle.pcm_base.specs.Run.{CarriesOut, followed, outside}
 use Rattle.pcm_base.specs.{declared.answer.Reply.Reply, declared.command.Command.Command}
@@ -31,22 +32,15 @@ pub record IsBehind (made : ℕ) (P : State → Type 0) (t : Studio) : Type 0 wh
 
 behind-room : (made : ℕ) (P : State → Type 0) (t : Studio) → made ≤ 4096 → IsBehind made P t → HasRoom t
 behind-room made P t few b =
-    let tracks = b.tracks in
-    let pins = b.pins in
-    let commits = b.commits in
-    let ids = b.ids in
-    let places = b.places in
-    let generation = b.generation in
-    let layouts = b.layouts in
     record {
       going = b.going;
-      ids = omega arith;
-      tracks = omega arith;
-      commits = omega arith;
-      pins = omega arith;
-      places = omega arith;
-      generations = omega arith;
-      layouts = omega arith;
+      ids = omega (arith, b.ids);
+      tracks = omega (arith, b.tracks);
+      commits = omega (arith, b.commits);
+      pins = omega (arith, b.pins);
+      places = omega (arith, b.places);
+      generations = omega (arith, b.generation);
+      layouts = omega (arith, b.layouts);
     }
 
 goes-valid : (made : ℕ) (P Q : State → Type 0) (c : Command) (t : Studio) → made ≤ 4096 → IsBehind made P t →
@@ -87,11 +81,8 @@ goes-on made P Q c t small b goes =
     }
 
 bytes-few : (commits len : ℕ) → (if commits == 0 then 0 else 5 + len) ≤ 5 + len
-bytes-few commits len = by (commits == 0)
-  where
-    by : (none : Bool) → (if none then 0 else 5 + len) ≤ 5 + len
-    by true = omega arith
-    by false = omega arith
+bytes-few commits len =
+    cond_both (commits == 0) _ _ (λ (n : ℕ). n ≤ 5 + len) (λ _. omega arith) (λ _. omega arith)
 
 -- what is kept of the track and pin numbers
 record IsKept (Q : State → Type 0) : Type 0 where
@@ -110,20 +101,16 @@ followed-behind : (made : ℕ) (P Q : State → Type 0) (c : Command) (out : Out
     IsBehind (made + 1) Q (followed out t (call.Line c) blocks len layout)
 followed-behind made P Q c out t blocks len layout b kept goes few draws =
     let next = goes.next out t.state b.state in
-    let ids = b.ids in
-    let places = b.places in
-    let commits = b.commits in
-    let layouts = b.layouts in
     record {
       going = b.going;
       state = next;
       tracks = kept.tracks _ next;
       pins = kept.pins _ next;
-      commits = omega (arith, goes.counted out t.state);
-      ids = omega (arith, few-blocks t.block_size blocks len few);
-      places = omega (arith, few-bytes t.block_size blocks len few, bytes-few (commits_needed c) len);
+      commits = omega (arith, b.commits, goes.counted out t.state);
+      ids = omega (arith, b.ids, few-blocks t.block_size blocks len few);
+      places = omega (arith, b.places, few-bytes t.block_size blocks len few, bytes-few (commits_needed c) len);
       generation = b.generation;
-      layouts = omega (arith, draws.1, goes.layouts out t.state b.state);
+      layouts = omega (arith, b.layouts, draws.1, goes.layouts out t.state b.state);
     }
 
 -- a line, and those after it

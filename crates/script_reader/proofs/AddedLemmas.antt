@@ -4,9 +4,8 @@ use Rattle.std.proofs.Common.{◌++◌, Result, Ok, Err, IfErr, Option, Some, No
 use Rattle.std.proofs.Common.{append_assoc, eq-eqb, arith}
 use Rattle.std.proofs.lemmas.List.{append-nil}
 use Rattle.std.specs.{Prelude.MatchBool, Prelude.OnErr, Prelude.OnOk, List.flat_map}
-use Rattle.pcm_base.specs.{declared.answer.Answer.Answer, declared.answer.Reply.Reply}
-use Rattle.pcm_base.specs.{declared.command.Call.TheVariants.Line, declared.command.Command.Command}
-use Rattle.pcm_base.specs.{declared.entry.SoundMove.SoundMove, declared.refusal.Refusal.Refusal}
+use Rattle.pcm_base.specs.declared.{answer.Answer.Answer, answer.Reply.Reply, command.Call.TheVariants.Line}
+use Rattle.pcm_base.specs.declared.{command.Command.Command, entry.SoundMove.SoundMove, refusal.Refusal.Refusal}
 use Rattle.pcm_base.specs.{Arithmetic.counted_from, Causes.Rose, Run.Follows, Run.name_in_line, Shape.is_commit}
 use Rattle.pcm_base.specs.{Shape.shape_of, Outside.SameElsewhere, Outside.Sounds}
 use Rattle.pin_turn.specs.Counts.{Each}

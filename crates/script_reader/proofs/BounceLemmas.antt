@@ -5,10 +5,9 @@ use Rattle.std.proofs.Common.{◌∙◌, ap, subst, arith, max}
 use Rattle.std.proofs.lemmas.Bool.{eqb-true, true≢false}
 use Rattle.pcm_base.specs.declared.answer.Reply.TheVariants.{Pinned, Refused, Wrote}
 use Rattle.pcm_base.specs.declared.command.Call.TheVariants.{LoadPin, Pin, PinLen, Unpin}
-use Rattle.pcm_base.specs.{declared.answer.Reply.Reply, declared.command.Call.Call, declared.command.Command.Command}
-use Rattle.pcm_base.specs.{declared.command.Command.TheVariants.Bounce, declared.refusal.Refusal.Refusal}
-use Rattle.pcm_base.specs.{declared.said.Said.Said, Arithmetic.counted_from, Counters.commits_of, Form.IsTurn}
-use Rattle.pcm_base.specs.{Run.name_in}
+use Rattle.pcm_base.specs.declared.{answer.Reply.Reply, command.Call.Call, command.Command.Command}
+use Rattle.pcm_base.specs.declared.{command.Command.TheVariants.Bounce, refusal.Refusal.Refusal, said.Said.Said}
+use Rattle.pcm_base.specs.{Arithmetic.counted_from, Counters.commits_of, Form.IsTurn, Run.name_in}
 use Rattle.disk_model.specs.declared.store.Store.{Ghosts}
 use Rattle.pin_turn.specs.{declared.view.View.View, Counts.Each}
 use Rattle.editor_state.specs.{Applied.reply_of, Core.Core, Took.as_reply}

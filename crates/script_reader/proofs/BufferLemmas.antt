@@ -34,11 +34,14 @@ line_end buffer at len within first is = (
 )
 
 -- a buffer up to the LF of a line, and with it
-pub buffer_line : (read buffer : List ℕ) (at len : ℕ) → at + len < length buffer → slice_index buffer (at + len) ≡ 10 →
+pub buffer_line : (read buffer : List ℕ) (at len : ℕ) → at ≤ length buffer
+    → NoneBefore (Passes (is_byte 10) (drop at buffer)) 0 (length (drop at buffer)) len
+    → Passes (is_byte 10) (drop at buffer) len →
     ((read ++ take at buffer) ++ take len (drop at buffer)) ++ 10 ∷ [] ≡ read ++ take (at + (len + 1)) buffer
-buffer_line read buffer at len below lf =
+buffer_line read buffer at len within first is =
+    let ends = line_end buffer at len within first is in
     let k : at + (len + 1) ≡ at + len + 1 = omega arith in
-    let more = take_more buffer (at + len) 0 below ∙ ap (λ b. take (at + len) buffer ++ b ∷ []) lf in
+    let more = take_more buffer (at + len) 0 ends.0 ∙ ap (λ b. take (at + len) buffer ++ b ∷ []) ends.1 in
     rw (
       append_assoc read (take at buffer) (take len (drop at buffer)),
       append_assoc read (take at buffer ++ take len (drop at buffer)) (10 ∷ []),

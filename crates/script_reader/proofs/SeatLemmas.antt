@@ -2,21 +2,21 @@
 use Rattle.std.proofs.Common.{◌≡◌, inl, inr, ⊎_elim, ℕ, ◌≤◌, Bool, true, false, IsSome, Option, Some, None, List, []}
 use Rattle.std.proofs.Common.{◌∷◌, ◌++◌, Result, Ok, Err, refl, sym, ◌∙◌, ap, subst, arith, max}
 use Rattle.std.proofs.lemmas.List.{append-nil}
-use Rattle.pcm_base.specs.Run.{Heard, name_in_line}
-use Rattle.pcm_base.specs.{declared.answer.Reply.Reply, declared.answer.Reply.TheVariants.Refused}
-use Rattle.pcm_base.specs.{declared.command.Call.Call, declared.command.Call.TheVariants.Line}
-use Rattle.pcm_base.specs.{declared.command.Command.Command, declared.entry.SoundMove.SoundMove}
-use Rattle.pcm_base.specs.{declared.refusal.Refusal.Refusal, declared.said.Said.Said, Form.IsTurn, Outside.Sounds}
+use Rattle.pcm_base.specs.declared.{answer.Reply.Reply, answer.Reply.TheVariants.Refused, command.Call.Call}
+use Rattle.pcm_base.specs.declared.{command.Call.TheVariants.Line, command.Command.Command, entry.SoundMove.SoundMove}
+use Rattle.pcm_base.specs.declared.{refusal.Refusal.Refusal, said.Said.Said}
+use Rattle.pcm_base.specs.{Run.Heard, Run.name_in_line, Form.IsTurn, Outside.Sounds}
 use Rattle.disk_model.specs.declared.store.Store.{Ghosts}
 use Rattle.pin_turn.specs.declared.view.View.{View}
 use Rattle.editor_state.specs.Applied.{IsTold, move_of, reply_of}
 use Rattle.editor_state.specs.{Core.Core, Vaults.VaultCounted, Took.as_reply}
-use Rattle.studio_seats.specs.Deeds.{deed, number_after}
 use Rattle.studio_seats.specs.Desks.{Says, Spends, Turned, asked, spent, views}
-use Rattle.studio_seats.specs.{declared.deed.Deed.Deed, declared.held.Held.Held, Stands.origin}
+use Rattle.studio_seats.specs.declared.{deed.Deed.Deed, held.Held.Held}
+use Rattle.studio_seats.specs.{Deeds.deed, Deeds.number_after, Stands.origin, Onward.Onward}
+use Rattle.studio_seats.proofs.OnwardLemmas.{onward_on, onward_turn}
 use Rattle.studio_seats.proofs.Turns.{number_on, said_number, turned_number}
 use Rattle.script_reader.specs.Place.{CountsFaults, Enters, made_commit, place_of, with_number}
-use Rattle.script_reader.specs.Answering.{Turn}
+use Rattle.script_reader.specs.{Answering.Turn, Calls.IsOfScript}
 use Rattle.edit_ports.specs.declared.vault.Vault as vault
 
 module _ {D V : Type 0} (disk : Ghosts D) (vaults : vault.Ghosts V) (start : Core D) where
@@ -25,6 +25,13 @@ module _ {D V : Type 0} (disk : Ghosts D) (vaults : vault.Ghosts V) (start : Cor
       (h : Turned (origin disk vaults start) (asked c what sound) at (views v w))
       → at ≡ number_after start.commit_number ((v.seen ++ h.between) ++ deed v.number c what sound ∷ [])
   number_at v w c what sound at h = h.number ∙ turned_number h
+
+  -- a line is a call of the script
+  pub line_goes : {A : Type 0} (u v w : View (Held D V disk) Deed) (c : Command) (what : Result Reply Refusal)
+      (sound : SoundMove) (said : Said A) → Says (origin disk vaults start) (asked (Line c) what sound) said (views v w)
+      → Onward IsOfScript u v → Onward IsOfScript u w
+  line_goes u v w c what sound said says on = onward_on IsOfScript u v w on
+      (onward_turn IsOfScript disk vaults start v w (Line c) what sound said (inl (c, refl)) says)
 
   -- is no lower than one that was told before
   number_up : (v w : View (Held D V disk) Deed) (c : Call) (what : Result Reply Refusal) (sound : SoundMove)

@@ -2,8 +2,7 @@
 use Rattle.std.proofs.Common.{◌≡◌, inl, inr, ℕ, Bool, true, false, List, [], ◌∷◌, ◌++◌, Result, Ok, Err, sym, ◌∙◌, ap}
 use Rattle.std.proofs.Common.{subst}
 use Rattle.std.specs.Prelude.{MatchBool}
-use Rattle.pcm_base.specs.{declared.answer.Answer.Answer, declared.answer.Reply.TheVariants.Refused}
-use Rattle.pcm_base.specs.{declared.command.Command.Command}
+use Rattle.pcm_base.specs.declared.{answer.Answer.Answer, answer.Reply.TheVariants.Refused, command.Command.Command}
 use Rattle.pin_turn.specs.Counts.{Each}
 use Rattle.pin_turn.proofs.Sums.{Each-left, Each-right}
 use Rattle.script_text.specs.Grammar.{is_silent, line_of}

@@ -13,7 +13,7 @@ use super::editor::Editor;
 use disk_model::Store;
 use edit_ports::Vault;
 use pcm_base::{Answer, Command, MAX_LOADED, Numbers, Refusal, Reply, Said};
-use sound_bounce::bounce;
+use sound_bounce::{Task, bounce};
 use std::alloc::Global;
 use std::sync::Wait;
 use std::thread::Threads;
@@ -124,15 +124,14 @@ impl<'a, 'b, S: Store, V: Vault> DeskEditor<'a, 'b, S, V> {
             × (self.new.vault.ghost_name ≡ self.old.vault.ghost_name) }
         ensures goes { Onward IsOfScript (known self.old.seat) (known self.new.seat) }
     {
-        let Said { at, what } = bounce(
+        let task = Task {
             rt,
             alloc,
-            self.desk,
-            &mut self.seat,
-            self.vault,
+            desk: self.desk,
             name,
-            MAX_LOADED,
-        );
+            batch: MAX_LOADED,
+        };
+        let Said { at, what } = bounce(&task, &mut self.seat, self.vault);
         self.last = self.last.max(at);
         wrote(what)
     }

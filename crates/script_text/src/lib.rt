@@ -35,7 +35,7 @@ pub use project::{ProjectLines, write_checked, write_made, write_project};
 use std::alloc::{AllocError, AllocFailed};
 pub use summary::{Summary, write_summary};
 pub use text::write_answer;
-pub use words::is_silent;
+pub use words::{is_silent, number_up_to};
 
 /// Why a line gives no command.
 #[derive(Clone, Copy, Debug, PartialEq, Eq)]

@@ -78,22 +78,31 @@ fn edit<R: Wait>(
     (seat, End::Done)
 }
 
+/// The track of a recording, and the number that is its tag.
+#[derive(Clone, Copy)]
+struct Recording {
+    track: u64,
+    tag: u64,
+}
+
 fn record<R: Wait>(
     rt: &R,
     alloc: Global,
     desk: &RamDesk,
     seat: RamSeat,
-    track: u64,
-    tag: u64,
+    recording: Recording,
     turns: u8,
 ) -> (RamSeat, End)
     requires seat { IsAt desk.now seat }
-    requires tag { (1 ≤ tag) × (tag ≤ number_after (start_at desk.now).commit_number (known seat).seen) }
+    requires tag { (1 ≤ recording.tag)
+        × (recording.tag ≤ number_after (start_at desk.now).commit_number (known seat).seen) }
     ensures same { IsAt desk.now result.0 }
-    ensures goes { Onward (RecorderAsks track tag) (known seat) (known result.0) }
-    ensures done { result.1 ≡ End.Done → piece_count track tag (start_at desk.now).commit_number (known result.0)
-        ≡ piece_count track tag (start_at desk.now).commit_number (known seat) + turns }
+    ensures goes { Onward (RecorderAsks recording.track recording.tag) (known seat) (known result.0) }
+    ensures done { result.1 ≡ End.Done
+        → piece_count recording.track recording.tag (start_at desk.now).commit_number (known result.0)
+        ≡ piece_count recording.track recording.tag (start_at desk.now).commit_number (known seat) + turns }
 {
+    let Recording { track, tag } = recording;
     let mut taker = DeskTaker::new(desk, seat, track, tag);
     'pieces: for number in 0..turns {
         let samples = [i16::from(number), 1000, 2000];
@@ -175,7 +184,14 @@ pub fn work<R: Wait>(
 {
     match job {
         Job::Edit { track } => edit(rt, alloc, desk, seat, track, turns),
-        Job::Record { track, tag } => record(rt, alloc, desk, seat, track, tag, turns),
+        Job::Record { track, tag } => record(
+            rt,
+            alloc,
+            desk,
+            seat,
+            Recording { track, tag },
+            turns,
+        ),
         Job::Play { pin, mix } => play(rt, desk, seat, pin, &mix, turns),
         Job::Reclaim => reclaim(rt, desk, seat, turns),
     }

@@ -10,4 +10,4 @@ mod threads;
 pub use jobs::{End, Job, work};
 pub use lines::{RamDesk, RamSeat, line};
 pub use session::{Session, begin};
-pub use threads::{by_four, by_two};
+pub use threads::{Pair, Setting, by_four, by_two};

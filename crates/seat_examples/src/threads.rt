@@ -13,22 +13,33 @@ use std::alloc::Global;
 use std::sync::Wait;
 use std::thread::{Threads, join};
 
+/// Two jobs that are done side by side.
+#[derive(Clone, Copy, Debug)]
+pub struct Pair(pub Job, pub Job);
+
+/// What four jobs are told: a session, and the frames of its pin's mix.
+#[derive(Clone, Copy, Debug)]
+pub struct Setting {
+    pub session: Session,
+    pub mix: [Frame; 5],
+}
+
 /// Two jobs in two threads, each of this many turns. The second has a seat that is split off and joined again.
 pub fn by_two<R: Threads + Wait + Sync>(
     rt: &R,
     alloc: Global,
     desk: &RamDesk,
     mut seat: RamSeat,
-    left: Job,
-    right: Job,
+    pair: Pair,
     turns: u8,
 ) -> (RamSeat, [End; 2])
     requires seat { IsAt desk.now seat }
-    requires left { needed left (start_at desk.now).commit_number (known seat).seen }
-    requires right { needed right (start_at desk.now).commit_number (known seat).seen }
+    requires left { needed pair.0 (start_at desk.now).commit_number (known seat).seen }
+    requires right { needed pair.1 (start_at desk.now).commit_number (known seat).seen }
     ensures same { IsAt desk.now result.0 }
     ensures stays { StaysSeat (known seat) (known result.0) }
 {
+    let Pair(left, right) = pair;
     let other = desk.split(&mut seat);
     let (one, two) = join(
         rt,
@@ -58,16 +69,16 @@ pub fn by_four<R: Threads + Wait + Sync>(
     alloc: Global,
     desk: &RamDesk,
     mut seat: RamSeat,
-    session: Session,
-    mix: [Frame; 5],
+    setting: Setting,
     turns: u8,
 ) -> (RamSeat, [End; 4])
     requires seat { IsAt desk.now seat }
-    requires ready { IsReady session (start_at desk.now).commit_number (known seat).seen }
+    requires ready { IsReady setting.session (start_at desk.now).commit_number (known seat).seen }
     ensures same { IsAt desk.now result.0 }
     ensures stays { StaysSeat (known seat) (known result.0) }
-    ensures ready { IsReady session (start_at desk.now).commit_number (known result.0).seen }
+    ensures ready { IsReady setting.session (start_at desk.now).commit_number (known result.0).seen }
 {
+    let Setting { session, mix } = setting;
     let Session { pin, track, tag } = session;
     let adds = Job::Record { track, tag };
     let reads = Job::Play { pin, mix };
@@ -79,13 +90,22 @@ pub fn by_four<R: Threads + Wait + Sync>(
             requires needed { needed adds (start_at desk.now).commit_number (known seat).seen }
             ensures same { IsAt desk.entry.now result.0 }
             ensures stays { StaysSeat (known seat) (known result.0) }
-        { by_two(rt, alloc, desk, seat, Job::Edit { track: 1 }, adds, turns) },
+        {
+            by_two(
+                rt,
+                alloc,
+                desk,
+                seat,
+                Pair(Job::Edit { track: 1 }, adds),
+                turns,
+            )
+        },
         || -> (RamSeat, [End; 2])
             requires seat { IsAt desk.now other }
             requires needed { needed reads (start_at desk.now).commit_number (known other).seen }
             ensures same { IsAt desk.entry.now result.0 }
             ensures stays { StaysSeat (known other) (known result.0) }
-        { by_two(rt, alloc, desk, other, reads, Job::Reclaim, turns) },
+        { by_two(rt, alloc, desk, other, Pair(reads, Job::Reclaim), turns) },
     );
     let (mut seat, ends) = one;
     let (other, other_ends) = two;

@@ -1,21 +1,11 @@
 -- The lines of a script and their answers, by the entries of a run.
-use Rattle.std.proofs.Common.{◌≡◌, inl, inr, ◌∙◌, refl, sym, ap, subst, ℕ, Bool, true, false, List, [], ◌∷◌, ◌++◌}
-use Rattle.std.proofs.Common.{append_assoc, Result, Ok, Err}
-use Rattle.std.specs.Prelude.{MatchBool}
-use Rattle.pcm_base.specs.{declared.answer.Answer.Answer, declared.command.Command.Command}
-use Rattle.pcm_base.specs.{declared.command.Command.TheVariants.Bounce, declared.entry.Entry.Entry}
-use Rattle.pin_turn.specs.{Counts.Each, Rule.ByOthers}
-use Rattle.pin_turn.proofs.Sums.{Each-left, Each-right}
-use Rattle.script_text.specs.Grammar.{is_silent, line_of}
-use Rattle.studio_seats.specs.Deeds.{actor_of, entries_of, entry_of, number_after}
-use Rattle.studio_seats.specs.{declared.deed.Deed.Deed, Merge.by_seat, Merge.deeds_of}
-use Rattle.studio_seats.proofs.Grown.{entries_append, number_append}
-use Rattle.script_reader.specs.Place.{Bounces, Enters, Place, line_deed}
-use Rattle.script_reader.specs.Answering.{Next, AnswersLines, Turn}
-use Rattle.script_reader.proofs.AddedLemmas.{scripts_add}
-use Rattle.desk_session.proofs.ListLemmas.{same_rest}
-use Rattle.session_run.specs.Answered.{Answered, BounceEntries, BounceNumber, IsNext, IsUnasked}
-use Rattle.session_run.specs.Entries.{entries_by, last_number}
+use Rattle.session_run.proofs.Common.{◌≡◌, inl, inr, ◌∙◌, refl, sym, ap, subst, ℕ, Bool, true, false, List, [], ◌∷◌}
+use Rattle.session_run.proofs.Common.{◌++◌, append_assoc, Result, Ok, Err, MatchBool, Answer, Command, Bounce, Entry}
+use Rattle.session_run.proofs.Common.{Each, ByOthers, Each-left, Each-right, is_silent, line_of, actor_of, entries_of}
+use Rattle.session_run.proofs.Common.{entry_of, number_after, Deed, by_seat, deeds_of, entries_append, number_append}
+use Rattle.session_run.proofs.Common.{Bounces, Enters, Place, line_deed, Next, AnswersLines, Turn, scripts_add}
+use Rattle.session_run.proofs.Common.{same_rest, Answered, BounceEntries, BounceNumber, entries_by, last_number}
+use Rattle.session_run.specs.Answered.{IsNext, IsUnasked}
 use Rattle.session_run.proofs.BounceEntries.{bounce_entries, bounce_number}
 use Rattle.session_run.proofs.EntryLemmas.{IsPlain, entries_as, last_as, none_by}
 
@@ -30,15 +20,6 @@ pub record Led (p q : Place) (later added : List Deed) : Type 0 where
   pub by_others : ByOthers actor_of (0 ∷ []) later
   pub plain : Each IsPlain added
 
--- from a place that is another one in all that the answers tell
-same_place : (p t : Place) (lines : List (List ℕ)) (answers : List Answer) (added : List Deed)
-    → t.first ≡ p.first → t.seen ≡ p.seen → t.last ≡ p.last
-    → Answered (number_at t) t.last lines answers (entries_of added)
-    → Answered (number_at p) p.last lines answers (entries_of added)
-same_place p t lines answers added first seen last h =
-    subst (λ (z : ℕ × ℕ). Answered z.0 z.1 lines answers (entries_of added))
-    (λ i. (number_after (first i) (seen i), last i)) h
-
 module _ (lines : List (List ℕ)) (q : Place) (later : List Deed)
     (go : (answers : List Answer) (p : Place) (added : List Deed) → AnswersLines p lines answers q → Led p q later added
     → Answered (number_at p) p.last lines answers (entries_of added)) where
@@ -47,19 +28,34 @@ module _ (lines : List (List ℕ)) (q : Place) (later : List Deed)
 
   -- a line that made no entry
   unasked : (p t : Place) (line : Result Command ℕ) (a : Answer) (answers : List Answer) (added : List Deed)
-      → t.seat ≡ p.seat → t.first ≡ p.first → t.seen ≡ p.seen → t.last ≡ p.last → IsUnasked line a.reply
+      (used : Bool) → t ≡ record p { used_up = used } → IsUnasked line a.reply
       → a.commit ≡ t.last → AnswersLines t lines answers q → Led p q later added
       → IsNext (number_at p) p.last line (a ∷ answers) (entries_of added) Later
-  unasked p t line a answers added seat first seen last reply commit by_line led = inl (
+  unasked p t line a answers added used same reply commit by_line led = inl (
     reply,
-    commit ∙ last,
-    same_place p t lines answers added first seen last (go answers t added by_line (record {
-      script = seat ∙ led.script;
-      seen = led.seen ∙ ap (λ (l : List Deed). l ++ added) (sym seen);
-      by_others = led.by_others;
-      plain = led.plain;
-    })),
+    commit ∙ ap (λ (z : Place). z.last) same,
+    subst (λ (z : ℕ × ℕ). Answered z.0 z.1 lines answers (entries_of added))
+        (λ i. (number_at (same i), (same i).last))
+        (go answers t added by_line (record {
+          script = ap (λ (z : Place). z.seat) same ∙ led.script;
+          seen = led.seen ∙ ap (λ (z : Place). z.seen ++ added) (sym same);
+          by_others = led.by_others;
+          plain = led.plain;
+        })),
   )
+
+  -- the lines after one that made entries
+  onward : (p t : Place) (m : ℕ) (a : Answer) (answers : List Answer) (added rest : List Deed) → t.seat ≡ p.seat
+      → number_at t ≡ m → a.commit ≡ t.last → AnswersLines t lines answers q → Led p q later added
+      → q.seen ++ later ≡ t.seen ++ rest → Each IsPlain rest → Answered m a.commit lines answers (entries_of rest)
+  onward p t m a answers added rest seat number commit by_line led seen plain =
+      subst (λ (z : ℕ × ℕ). Answered z.0 z.1 lines answers (entries_of rest)) (λ i. (number i, sym commit i))
+      (go answers t rest by_line (record {
+        script = seat ∙ led.script;
+        seen = seen;
+        by_others = led.by_others;
+        plain = plain;
+      }))
 
   -- a line that took a turn
   entered : (p t : Place) (command : Command) (a : Answer) (answers : List Answer) (added : List Deed)
@@ -105,13 +101,7 @@ module _ (lines : List (List ℕ)) (q : Place) (later : List Deed)
           commit = at ∙ (sym (last_as (number_at p) (x.between ++ d ∷ []) front)
               ∙ ap (last_number (number_at p)) (entries_append x.between (d ∷ [])));
         },
-        subst (λ (z : ℕ × ℕ). Answered z.0 z.1 lines answers (entries_of rest)) (λ i. (number_t i, sym commit i))
-            (go answers t rest by_line (record {
-              script = ap (λ (z : Place). z.seat) x.after ∙ led.script;
-              seen = on;
-              by_others = led.by_others;
-              plain = back;
-            })),
+        onward p t a.commit a answers added rest (ap (λ (z : Place). z.seat) x.after) number_t commit by_line led on back,
       ))
 
   -- a bounce
@@ -152,13 +142,7 @@ module _ (lines : List (List ℕ)) (q : Place) (later : List Deed)
               (λ f b d are. Each-left IsPlain (f ++ d ∷ []) b
               (subst (λ (l : List Deed). Each IsPlain l) (are ∙ sym (append_assoc f (d ∷ []) b)) front)) x.last));
         },
-        subst (λ (z : ℕ × ℕ). Answered z.0 z.1 lines answers (entries_of rest)) (λ i. (number_t i, sym commit i))
-            (go answers t rest by_line (record {
-              script = ap (λ (z : Place). z.seat) x.after ∙ led.script;
-              seen = on;
-              by_others = led.by_others;
-              plain = back;
-            })),
+        onward p t _ a answers added rest (ap (λ (z : Place). z.seat) x.after) number_t commit by_line led on back,
       ))
 
   next : (p : Place) (line : List ℕ) (answers : List Answer) (added : List Deed)
@@ -169,17 +153,13 @@ module _ (lines : List (List ℕ)) (q : Place) (later : List Deed)
     where
       by : (r : Result Command ℕ) → Turn p r a.reply t
           → IsNext (number_at p) p.last r (a ∷ answers) (entries_of added) Later
-      by (Err column) (reply, same) =
-          unasked p t (Err column) a answers added (ap (λ (z : Place). z.seat) same) (ap (λ (z : Place). z.first) same)
-          (ap (λ (z : Place). z.seen) same) (ap (λ (z : Place). z.last) same) reply commit by_line led
+      by (Err column) (reply, same) = unasked p t (Err column) a answers added p.used_up same reply commit by_line led
       by (Ok command) (inl x) = entered p t command a answers added x.1 commit by_line led
       by (Ok command) (inr (inl (reply, same))) =
-          unasked p t (Ok command) a answers added (ap (λ (z : Place). z.seat) same) (ap (λ (z : Place). z.first) same)
-          (ap (λ (z : Place). z.seen) same) (ap (λ (z : Place). z.last) same) (inl reply) commit by_line led
+          unasked p t (Ok command) a answers added true same (inl reply) commit by_line led
       by (Ok command) (inr (inr (inr x))) = bounced p t command x.0 a answers added x.1 x.2 commit by_line led
       by (Ok command) (inr (inr (inl (reply, same)))) =
-          unasked p t (Ok command) a answers added (ap (λ (z : Place). z.seat) same) (ap (λ (z : Place). z.first) same)
-          (ap (λ (z : Place). z.seen) same) (ap (λ (z : Place). z.last) same) (inr reply) commit by_line led
+          unasked p t (Ok command) a answers added p.used_up same (inr reply) commit by_line led
 
 -- the lines have their answers by the entries of the deeds that were added
 pub answered : (lines : List (List ℕ)) (answers : List Answer) (p q : Place) (later added : List Deed)

@@ -1,33 +1,27 @@
 -- A run in which each entry of pieces is taken apart into single pieces.
-use Rattle.std.proofs.Common.{◌≡◌, inl, inr, ⊎_elim, ◌∙◌, refl, sym, ap, subst, ℕ, ◌+◌, ◌≤◌, ◌<◌, ℤ, if◌then◌else◌}
-use Rattle.std.proofs.Common.{Bool, true, false, List, [], ◌∷◌, ◌++◌, length, drop, Result, Ok, Err, arith}
+use Rattle.session_run.proofs.Common.{◌≡◌, inl, inr, ⊎_elim, ◌∙◌, refl, sym, ap, subst, ℕ, ◌+◌, ◌≤◌, ◌<◌, ℤ}
+use Rattle.session_run.proofs.Common.{if◌then◌else◌, Bool, true, false, List, [], ◌∷◌, ◌++◌, length, drop, Result, Ok}
+use Rattle.session_run.proofs.Common.{Err, arith, Line, Pin, Answers, CarriesOut, Run, outside, Reply, Call, Track}
+use Rattle.session_run.proofs.Common.{Entry, SoundMove, Refusal, pieces_of, current, Ghosts, Each, reply_of, Core}
+use Rattle.session_run.proofs.Common.{IsHeld, IsStudio, studio_of, Deed, entries_of, entry_of, by_seat, Asks, AllTell}
+use Rattle.session_run.proofs.Common.{Chain, each_append, is_refusal, Made, NotAsked, Refused, Seats, is_by, OwnDeed}
+use Rattle.session_run.proofs.Common.{PinDeed, TrackDeed, play_calls, record_calls, record_commits, Side, pieces_apart}
 use Rattle.std.proofs.lemmas.Bool.{cases_lt, eqb-true, or_cases}
 use Rattle.std.proofs.lemmas.List.{at_drop_all, length-map}
 use Rattle.std.specs.Prelude.{◌||◌}
-use Rattle.pcm_base.specs.declared.command.Call.TheVariants.{Line, Piece, Pin}
+use Rattle.pcm_base.specs.declared.command.Call.TheVariants.{Piece}
 use Rattle.pcm_base.specs.Cells.{Project, cells_at, tracks_from}
 use Rattle.pcm_base.specs.Refusals.{◌otherwise◌, call_tests, is_empty, length_limit, no_track}
-use Rattle.pcm_base.specs.Run.{Answers, CarriesOut, Run, outside, stop_test}
-use Rattle.pcm_base.specs.{declared.answer.Reply.Reply, declared.command.Call.Call}
-use Rattle.pcm_base.specs.{declared.command.Command.TheVariants.Track, declared.entry.Entry.Entry}
-use Rattle.pcm_base.specs.{declared.entry.SoundMove.SoundMove, declared.refusal.Refusal.Refusal}
+use Rattle.pcm_base.specs.Run.{stop_test}
 use Rattle.pcm_base.specs.{declared.refusal.Refusal.TheVariants.NoTrack, Counters.counter_tests, Counters.record_test}
-use Rattle.pcm_base.specs.{History.IsHistory, Recordings.pieces_of, State.current, State.first_point}
+use Rattle.pcm_base.specs.{History.IsHistory, State.first_point}
 use Rattle.model_laws.specs.{Bounds.IsBoundedStudio, Laws.pieces_done}
 use Rattle.model_laws.proofs.{OwnTests.both_passed, OwnTests.not_refused, Together.batch_pieces}
-use Rattle.disk_model.specs.declared.store.Store.{Ghosts}
-use Rattle.pin_turn.specs.Counts.{Each}
-use Rattle.editor_state.specs.{Applied.reply_of, Core.Core, Studios.IsHeld, Studios.IsStudio, Studios.studio_of}
 use Rattle.editor_state.proofs.Images.ModelBounds.{bounded}
-use Rattle.studio_seats.specs.{declared.deed.Deed.Deed, Deeds.entries_of, Deeds.entry_of, Merge.Rises, Merge.by_seat}
-use Rattle.studio_seats.specs.{Onward.Asks, Stands.AllTell, Stands.Chain}
-use Rattle.studio_seats.proofs.OnwardLemmas.{each_append}
-use Rattle.script_reader.specs.{Calls.IsOfScript, Answering.is_refusal}
-use Rattle.desk_session.specs.declared.side.Side.TheVariants.{Made, NotAsked, Refused}
-use Rattle.desk_session.specs.Makers.{Seats, is_by}
-use Rattle.desk_session.specs.Opening.{OwnDeed, PinDeed, TrackDeed, play_calls, record_calls, record_commits}
-use Rattle.desk_session.specs.{declared.opening.Opened.Opened, declared.side.Side.Side, Sessions.IsMadeOf}
-use Rattle.session_run.specs.Entries.{call_apart, pieces_apart}
+use Rattle.studio_seats.specs.{Merge.Rises}
+use Rattle.script_reader.specs.{Calls.IsOfScript}
+use Rattle.desk_session.specs.{declared.opening.Opened.Opened, Sessions.IsMadeOf}
+use Rattle.session_run.specs.Entries.{call_apart}
 use Rattle.session_run.proofs.PromiseLemmas.{plain_of}
 use Rattle.pcm_base.specs.declared.answer.Reply.TheVariants as reply
 use Rattle.pcm_base.specs.declared.command.Call.TheVariants as call
@@ -111,24 +105,14 @@ module _ {D V : Type 0} (disk : Ghosts D) (vaults : vault.Ghosts V) where
   by_call : (old new : Core D) (actor : ℕ) (c : Call) (sound : SoundMove) (what : Result Reply Refusal)
       → IsStudio disk old → IsTagged c → Answers (studio_of disk old) c sound what (studio_of disk new)
       → Run (studio_of disk old) (call_apart c (entry actor c sound what)) (studio_of disk new)
-  by_call old new actor (call.Line c) sound what is numbered h =
-      one (studio_of disk old) (studio_of disk new) actor (call.Line c) sound what h
   by_call old new actor (call.Piece track tag samples) sound what is numbered h =
       pieces (studio_of disk old) (studio_of disk new) actor track tag samples sound what
       (λ r done.
       bounded disk old is
       (stands disk old is (found (studio_of disk old) (studio_of disk new) track tag samples sound r done)) _)
       numbered h
-  by_call old new actor call.Pin sound what is numbered h =
-      one (studio_of disk old) (studio_of disk new) actor call.Pin sound what h
-  by_call old new actor (call.PinLen pin) sound what is numbered h =
-      one (studio_of disk old) (studio_of disk new) actor (call.PinLen pin) sound what h
-  by_call old new actor (call.ReadPin pin from count) sound what is numbered h =
-      one (studio_of disk old) (studio_of disk new) actor (call.ReadPin pin from count) sound what h
-  by_call old new actor (call.LoadPin pin from count) sound what is numbered h =
-      one (studio_of disk old) (studio_of disk new) actor (call.LoadPin pin from count) sound what h
-  by_call old new actor (call.Unpin pin) sound what is numbered h =
-      one (studio_of disk old) (studio_of disk new) actor (call.Unpin pin) sound what h
+  by_call old new actor c sound what is numbered h =
+      one (studio_of disk old) (studio_of disk new) actor c sound what h
 
   -- the deeds of a studio that a disk holds
   pub deeds_apart : (old : Core D) (ds : List Deed) (new : Core D) → Chain disk vaults old ds new → AllTell vaults

@@ -1,7 +1,5 @@
 -- What holds of the devices that came back holds of those that were lent.
-use Rattle.std.proofs.Common.{◌≡◌, sym, subst}
-use Rattle.script_reader.specs.Change.{change}
-use Rattle.session_run.specs.Streams.{IsReadOn}
+use Rattle.session_run.proofs.Common.{◌≡◌, sym, subst, change, IsReadOn}
 use Rattle.edit_ports.specs.declared.source.Source as source
 
 -- all of them: script, answers, vault, microphone and speaker

@@ -1,18 +1,15 @@
 -- The deeds of a bounce as entries of a run.
-use Rattle.std.proofs.Common.{◌≡◌, ◌⊎◌, inl, inr, ⊎_elim, ◌∙◌, refl, sym, ap, subst, ℕ, ◌+◌, Bool, true, false, List}
-use Rattle.std.proofs.Common.{[], ◌∷◌, ◌++◌, length, Result, Ok, Err}
-use Rattle.pcm_base.specs.declared.answer.Reply.TheVariants.{Done, Pinned, Wrote}
-use Rattle.pcm_base.specs.declared.command.Call.TheVariants.{LoadPin, PinLen, Unpin}
-use Rattle.pcm_base.specs.{declared.answer.Reply.Reply, declared.command.Call.Call, declared.entry.Entry.Entry}
-use Rattle.pcm_base.specs.{declared.refusal.Refusal.Refusal}
-use Rattle.pin_turn.specs.Counts.{Each}
-use Rattle.editor_state.specs.{Applied.reply_of, Took.as_reply}
-use Rattle.studio_seats.specs.{declared.deed.Deed.Deed, Deeds.entries_of, Deeds.number_after, Desks.spent}
-use Rattle.studio_seats.proofs.{Grown.entries_append, Grown.number_append, OnwardLemmas.each_append}
-use Rattle.sound_bounce.specs.Bounces.{AfterPin, AreLoads, BounceDeeds, IsRefusedBy, LetsGo, LoadsAll, LoadsEnd}
-use Rattle.sound_bounce.specs.Bounces.{LoadsOf, RefusedAs, Unasked, frames_by, may_let_go}
-use Rattle.script_reader.specs.Place.{Place, TellsBounce, batch}
-use Rattle.session_run.specs.{Answered.BounceEntries, Answered.BounceNumber, Answered.IsOfPin, Entries.last_number}
+use Rattle.session_run.proofs.Common.{◌≡◌, ◌⊎◌, inl, inr, ⊎_elim, ◌∙◌, refl, sym, ap, subst, ℕ, ◌+◌, Bool, true, false}
+use Rattle.session_run.proofs.Common.{List, [], ◌∷◌, ◌++◌, length, Result, Ok, Err, Pinned, Wrote, Unpin, Reply, Call}
+use Rattle.session_run.proofs.Common.{Entry, Refusal, Each, reply_of, as_reply, Deed, entries_of, number_after, spent}
+use Rattle.session_run.proofs.Common.{entries_append, number_append, each_append, AfterPin, BounceDeeds, Place, batch}
+use Rattle.session_run.proofs.Common.{BounceEntries, BounceNumber, last_number}
+use Rattle.pcm_base.specs.declared.answer.Reply.TheVariants.{Done}
+use Rattle.pcm_base.specs.declared.command.Call.TheVariants.{LoadPin, PinLen}
+use Rattle.sound_bounce.specs.Bounces.{AreLoads, IsRefusedBy, LetsGo, LoadsAll, LoadsEnd, LoadsOf, RefusedAs, Unasked}
+use Rattle.sound_bounce.specs.Bounces.{frames_by, may_let_go}
+use Rattle.script_reader.specs.Place.{TellsBounce}
+use Rattle.session_run.specs.{Answered.IsOfPin}
 use Rattle.session_run.proofs.EntryLemmas.{IsPlain, last_as}
 
 -- ---- each of its deeds after the pin's is of this pin

@@ -1,11 +1,8 @@
 -- A session over a vault that does not report its bytes, by the sounds that its imports read.
-use Rattle.std.proofs.Common.{refl, sym, ap, subst, List, [], ◌∷◌}
-use Rattle.pcm_base.specs.declared.command.Call.{Call}
-use Rattle.pin_turn.specs.Counts.{Each}
-use Rattle.studio_seats.specs.Imports.{AreReadAs, telling}
-use Rattle.studio_seats.specs.{declared.deed.Deed.Deed, Leads.DeedsAsk, Stands.AllTell}
+use Rattle.session_run.proofs.Common.{refl, sym, ap, subst, List, [], ◌∷◌, Call, Each, telling, Deed, DeedsAsk, AllTell}
+use Rattle.session_run.proofs.Common.{Kinds}
+use Rattle.studio_seats.specs.Imports.{AreReadAs}
 use Rattle.studio_seats.proofs.ImportLemmas.{imports_lead}
-use Rattle.desk_session.specs.Lent.{Kinds}
 use Rattle.session_run.specs.ByRead.{RunsByRead}
 use Rattle.session_run.proofs.ApartLemmas.{IsTagged, all_tagged, deeds_apart}
 use Rattle.session_run.proofs.SurviveLemmas.{survives}

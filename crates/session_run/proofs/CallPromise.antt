@@ -1,14 +1,9 @@
 -- The call keeps the promise.
-use Rattle.std.proofs.Common.{◌≡◌, inl, inr, ◌∙◌, refl, sym, subst, ℕ, if◌then◌else◌, Bool, true, false, List, Option}
-use Rattle.std.proofs.Common.{Some}
-use Rattle.editor_recovery.specs.Honest.{IsHonest}
-use Rattle.call_words.specs.{declared.asked.Words.Words, Words.words_of, Texts.Text}
-use Rattle.script_reader.specs.Change.{change}
-use Rattle.studio_seats.specs.{Leads.DeedsAsk, Stands.AllTell}
-use Rattle.desk_session.specs.{declared.opening.Beside.Beside, Lent.Kinds}
-use Rattle.session_run.specs.Call.{Does, DoesWords, EndsAs, Promises, World, met_of}
-use Rattle.session_run.specs.{declared.ending.Done.Done, declared.ending.Ending.Ending, Ports.Handed, Ports.job}
-use Rattle.session_run.specs.{Promise.Met, Promise.Promise, Runs.Runs, Streams.input, Streams.output}
+use Rattle.session_run.proofs.Common.{◌≡◌, inl, inr, ◌∙◌, refl, sym, subst, ℕ, if◌then◌else◌, Bool, true, false, List}
+use Rattle.session_run.proofs.Common.{Option, Some, IsHonest, Words, words_of, Text, DeedsAsk, AllTell, Beside, Kinds}
+use Rattle.session_run.proofs.Common.{Does, DoesWords, EndsAs, Promises, World, met_of, Done, Handed, job, Met, Promise}
+use Rattle.session_run.proofs.Common.{Runs}
+use Rattle.session_run.specs.{declared.ending.Ending.Ending}
 use Rattle.session_run.proofs.{Promised.met, Promised.promised, StatusLemmas.Counted}
 use Rattle.call_words.specs.declared.asked.Words.TheVariants as words
 
@@ -52,23 +47,14 @@ module _ {D V M P : Type 0} (k : Kinds D V M P) (ask : DeedsAsk k.disk k.vaults)
   run_promised beside counted (inl (start, opens, (final, at, inl r))) =
       let j = job h.ports beside in
       let same : met k ask h.store start final j opens r.ran honest told e.status
-      ≡ met_of k h beside.records beside.plays e = λ i. record {
-        records = beside.records;
-        plays = beside.plays;
-        store = change h.store (sym (ends.store ∙ at) i);
-        script = h.ports.streams.source;
-        out = h.ports.streams.sink;
-        mic = input k.mics h.ports.mic;
-        speaker = output k.speakers h.ports.speaker;
-        sounds = change (k.vaults.holds h.ports.vault.before) (k.vaults.holds h.ports.vault.now);
-        vault_faults = change (k.vaults.fault_count h.ports.vault.before) (k.vaults.fault_count h.ports.vault.now);
-        status = e.status;
+      ≡ met_of k h beside.records beside.plays e = λ i. met_of k h beside.records beside.plays (record e {
+        store = sym (ends.store ∙ at) i;
         first_commit = sym (ends.first ∙ r.first) i;
         last_commit = sym (ends.last ∙ r.last) i;
         record_commit = sym (ends.record_is ∙ r.record_is) i;
         script_commits = sym (ends.script ∙ r.commits) i;
         piece_commits = sym (ends.pieces ∙ r.pieces) i;
-      } in
+      }) in
       subst (λ (m : Met D). Promise k.disk m) same
       (promised k ask h.store start final j opens r.ran honest told e.status
       (subst (λ (m : Met D). Counted k.disk m) (sym same) counted))

@@ -1,17 +1,14 @@
 -- The deeds of a desk as entries of a run.
-use Rattle.std.proofs.Common.{◌≡◌, ◌∙◌, refl, ap, ℕ, ◌+◌, ◌==◌, if◌then◌else◌, Bool, true, false, List, [], ◌∷◌, ◌++◌}
-use Rattle.std.proofs.Common.{length, suc, Result, Ok, Err}
-use Rattle.std.specs.Prelude.{IsOk}
-use Rattle.pcm_base.specs.{declared.answer.Reply.Reply, declared.entry.Entry.Entry, declared.refusal.Refusal.Refusal}
-use Rattle.pcm_base.specs.{Arithmetic.counted_from, Counters.commits_of, Run.result_of}
-use Rattle.pin_turn.specs.{Counts.Each, Rule.ByOthers}
-use Rattle.editor_state.specs.Applied.{reply_of}
-use Rattle.script_reader.specs.Answering.{is_refusal}
-use Rattle.studio_seats.specs.declared.deed.Deed.{Deed}
-use Rattle.studio_seats.specs.Deeds.{actor_of, commits, entries_of, entry_of, made, number_after, raised_by}
-use Rattle.studio_seats.specs.Merge.{by_seat, deeds_of, numbers_if, numbers_of}
+use Rattle.session_run.proofs.Common.{◌≡◌, ◌∙◌, refl, ap, ℕ, ◌+◌, ◌==◌, if◌then◌else◌, Bool, true, false, List, [], ◌∷◌}
+use Rattle.session_run.proofs.Common.{◌++◌, length, suc, Result, Ok, Err, IsOk, Reply, Entry, Refusal, result_of, Each}
+use Rattle.session_run.proofs.Common.{ByOthers, reply_of, is_refusal, Deed, actor_of, commits, entries_of, entry_of}
+use Rattle.session_run.proofs.Common.{number_after, raised_by, by_seat, deeds_of, numbers_of, entries_by, last_number}
+use Rattle.session_run.proofs.Common.{numbers_by}
+use Rattle.pcm_base.specs.{Arithmetic.counted_from, Counters.commits_of}
+use Rattle.studio_seats.specs.Deeds.{made}
+use Rattle.studio_seats.specs.Merge.{numbers_if}
 use Rattle.studio_seats.proofs.MergeLemmas.{deeds_others}
-use Rattle.session_run.specs.Entries.{commits_in, entries_by, last_number, number_of, numbers_by}
+use Rattle.session_run.specs.Entries.{commits_in, number_of}
 use Rattle.pcm_base.specs.declared.answer.Reply.TheVariants as reply
 
 -- what a deed was answered is its entry's reply: no reply stands for a refusal

@@ -1,29 +1,22 @@
 -- The status 4 comes only where a device failed, or for `try`.
-use Rattle.std.proofs.Common.{◌≡◌, ◌⊎◌, inl, inr, ⊎_elim, refl, sym, ◌∙◌, subst, ℕ, ◌<◌, ◌≤◌, arith, Bool, true, false}
-use Rattle.std.proofs.Common.{◌||◌, nat_lt, List, Option, Some, None, Result, Ok, Err, ℤ}
-use Rattle.std.proofs.{lemmas.Option.none-some, lemmas.Bool.ltb-true}
-use Rattle.std.specs.Prelude.{if◌then◌else◌, IsSomeAnd, MatchResult}
-use Rattle.pcm_base.specs.{declared.sound.Frame.Frame, Causes.Rose, Studio.fault_sum}
-use Rattle.disk_model.specs.declared.store.Store.{Ghosts}
+use Rattle.session_run.proofs.Common.{◌≡◌, ◌⊎◌, inl, inr, ⊎_elim, refl, sym, ◌∙◌, subst, ℕ, ◌<◌, ◌≤◌, arith, Bool, true}
+use Rattle.session_run.proofs.Common.{false, ◌||◌, nat_lt, List, Option, Some, None, Result, Ok, Err, ℤ, none-some}
+use Rattle.session_run.proofs.Common.{IsSomeAnd, Frame, Rose, fault_sum, Ghosts, Core, OpenFault, Words, Text, words_of}
+use Rattle.session_run.proofs.Common.{MicEnd, mic_state, IsStoppedBy, Deed, Stop, Change, change, IsCauseOf}
+use Rattle.session_run.proofs.Common.{checked_text, Played, Recorded, PlayOutcome, RecordOutcome, Kinds, Side}
+use Rattle.session_run.proofs.Common.{WhereMade, Beside, Does, DoesWords, HasCause, IsTry, OneRose, any_rose, counts}
+use Rattle.session_run.proofs.Common.{WritesEnd, mic_failed, speaker_failed, status_of, Handed, Ports, handed, job}
+use Rattle.session_run.proofs.Common.{OpensNot, IsDone, IsRefused, call_fault_of, status_of_fault, FaultCounts, Done}
+use Rattle.session_run.proofs.Common.{Runs, RunsOn, RunsTo, Prints, Streams}
+use Rattle.std.proofs.{lemmas.Bool.ltb-true}
+use Rattle.std.specs.Prelude.{if◌then◌else◌, MatchResult}
 use Rattle.project_journal.specs.Answer.{HasFault, NoFault}
-use Rattle.editor_state.specs.Core.{Core}
-use Rattle.editor_recovery.specs.{declared.fault.OpenFault.OpenFault, Causes.Causes, Found.Found}
-use Rattle.call_words.specs.{declared.asked.NewProject.NewProject, declared.asked.Words.Words, Texts.Text}
-use Rattle.call_words.specs.{Words.words_of}
-use Rattle.recorder_threads.specs.{declared.microphone.MicEnd.MicEnd, Blocks.mic_state, Captured.IsStoppedBy}
-use Rattle.studio_seats.specs.declared.deed.Deed.{Deed}
-use Rattle.script_reader.specs.{declared.stop.Stop.Stop, Change.Change, Change.change, Progress.IsCauseOf}
-use Rattle.script_text.specs.Project.{checked_text, made_text}
-use Rattle.desk_session.specs.Sounds.{Played, Recorded}
-use Rattle.desk_session.specs.{declared.outcome.PlayOutcome.PlayOutcome, declared.outcome.RecordOutcome.RecordOutcome}
-use Rattle.desk_session.specs.{Lent.Kinds, declared.side.Side.Side, Sides.WhereMade, declared.opening.Beside.Beside}
-use Rattle.session_run.specs.Call.{Does, DoesWords, HasCause, IsTry, OneRose, any_rose, counts}
-use Rattle.session_run.specs.Last.{WritesEnd, is_mic_fault, mic_failed, speaker_failed, status_of}
-use Rattle.session_run.specs.Ports.{Handed, Ports, handed, job}
-use Rattle.session_run.specs.Projects.{OpensNot, Checks, Lists, Makes}
-use Rattle.session_run.specs.Refused.{IsDone, IsRefused, call_fault_of, status_of_fault}
-use Rattle.session_run.specs.{declared.counts.FaultCounts.FaultCounts, declared.ending.Done.Done, Runs.Runs}
-use Rattle.session_run.specs.{Runs.RunsOn, Runs.RunsTo, Streams.Output, Streams.Prints, Streams.Streams}
+use Rattle.editor_recovery.specs.{Causes.Causes, Found.Found}
+use Rattle.call_words.specs.{declared.asked.NewProject.NewProject}
+use Rattle.script_text.specs.Project.{made_text}
+use Rattle.session_run.specs.Last.{is_mic_fault}
+use Rattle.session_run.specs.Projects.{Checks, Lists, Makes}
+use Rattle.session_run.specs.{Streams.Output}
 use Rattle.edit_ports.specs.declared.sink.Sink as sink
 use Rattle.edit_ports.specs.declared.source.Source as source
 use Rattle.editor_recovery.specs.declared.fault.OpenFault.TheVariants as fault

@@ -1,12 +1,8 @@
 -- The entries of a recorder: pieces of one recording, and reclaims between them.
-use Rattle.std.proofs.Common.{◌≡◌, inl, inr, ◌∙◌, refl, sym, ap, ℕ, ℤ, if◌then◌else◌, Bool, true, false, List, [], ◌∷◌}
-use Rattle.std.proofs.Common.{◌++◌}
-use Rattle.std.proofs.lemmas.Bool.{true≢false}
-use Rattle.pcm_base.specs.{declared.command.Call.Call, declared.entry.Entry.Entry}
-use Rattle.pin_turn.specs.Counts.{Each}
-use Rattle.studio_seats.specs.{declared.deed.Deed.Deed, Deeds.entries_of, Deeds.entry_of, Deeds.is_commit}
-use Rattle.studio_seats.specs.{Freeing.IsFullReclaim, Freeing.makes_piece, Freeing.pieces_of, Merge.deeds_of}
-use Rattle.studio_seats.specs.{Onward.IsPieceOf, Recording.RecorderAsks, Recording.asks_piece}
+use Rattle.session_run.proofs.Common.{◌≡◌, inl, inr, ◌∙◌, refl, sym, ap, ℕ, ℤ, if◌then◌else◌, Bool, true, false, List}
+use Rattle.session_run.proofs.Common.{[], ◌∷◌, ◌++◌, true≢false, Call, Entry, Each, Deed, entries_of, entry_of}
+use Rattle.session_run.proofs.Common.{is_commit, deeds_of, IsPieceOf, RecorderAsks, asks_piece}
+use Rattle.studio_seats.specs.{Freeing.IsFullReclaim, Freeing.makes_piece, Freeing.pieces_of}
 use Rattle.session_run.proofs.PieceEntries.{call_samples, done_samples}
 
 -- the entries that are pieces are the deeds that are

@@ -1,10 +1,8 @@
 -- The blocks whose files a call removes were counted before, and not after.
-use Rattle.std.proofs.Common.{◌≡◌, ⊎_elim, refl, sym, subst, ℕ, ◌+◌, ◌-◌, ◌≤◌, ◌<◌, List, [], ◌∷◌, length, Result}
-use Rattle.std.proofs.Common.{IsSome, None, arith}
-use Rattle.std.specs.{Prelude.Contains, List.Sorted.IsStrictlyIncreasing}
-use Rattle.pcm_base.specs.{declared.answer.Reply.Reply, declared.command.Call.Call, declared.refusal.Refusal.Refusal}
-use Rattle.disk_model.specs.declared.store.Store.{Ghosts}
-use Rattle.editor_state.specs.{Core.Core, Left.CountsIds, Removals.Frees, Studios.IsHeld, Studios.IsStudio}
+use Rattle.session_run.proofs.Common.{◌≡◌, ⊎_elim, refl, sym, subst, ℕ, ◌+◌, ◌-◌, ◌≤◌, ◌<◌, List, [], ◌∷◌, length}
+use Rattle.session_run.proofs.Common.{Result, IsSome, None, arith, Contains, IsStrictlyIncreasing, Reply, Call, Refusal}
+use Rattle.session_run.proofs.Common.{Ghosts, Core, IsHeld, IsStudio}
+use Rattle.editor_state.specs.{Left.CountsIds, Removals.Frees}
 use Rattle.session_run.proofs.MissingLemmas.{AreFrom, missing, missing_gone, missing_more}
 use Rattle.pcm_base.specs.declared.command.Call.TheVariants as call
 use Rattle.pcm_base.specs.declared.command.Command.TheVariants as command

@@ -1,8 +1,9 @@
 -- How many ids are not counted: each id that goes is one more.
-use Rattle.std.proofs.Common.{◌≡◌, ⊎_elim, refl, sym, ap, subst, ℕ, zero, suc, ◌+◌, ◌<◌, ◌≤◌, List, [], ◌∷◌, length}
-use Rattle.std.proofs.Common.{Option, Some, None, IsSome, arith}
-use Rattle.std.proofs.lemmas.Bool.{cases_eq, true≢false}
-use Rattle.std.specs.{Prelude.Contains, Prelude.slice_index, List.Sorted.IsStrictlyIncreasing}
+use Rattle.session_run.proofs.Common.{◌≡◌, ⊎_elim, refl, sym, ap, subst, ℕ, suc, ◌+◌, ◌<◌, ◌≤◌, List, [], ◌∷◌, length}
+use Rattle.session_run.proofs.Common.{Option, Some, None, IsSome, arith, true≢false, Contains, IsStrictlyIncreasing}
+use Rattle.std.proofs.Common.{zero}
+use Rattle.std.proofs.lemmas.Bool.{cases_eq}
+use Rattle.std.specs.{Prelude.slice_index}
 
 -- a count of each id that has one
 abbrev pub Counted : Type 0

@@ -1,19 +1,13 @@
 -- What one call needs of the blocks and of the journal, by what it answers.
-use Rattle.std.proofs.Common.{◌≡◌, inl, inr, refl, sym, ap, subst, ℕ, ◌+◌, ◌≤◌, Bool, true, false, if◌then◌else◌}
-use Rattle.std.proofs.Common.{Result, Ok, Err, arith}
-use Rattle.std.proofs.lemmas.Bool.{true≢false}
-use Rattle.std.specs.Prelude.{IfErr}
+use Rattle.session_run.proofs.Common.{◌≡◌, inl, inr, refl, sym, ap, subst, ℕ, ◌+◌, ◌≤◌, Bool, true, false}
+use Rattle.session_run.proofs.Common.{if◌then◌else◌, Result, Ok, Err, arith, true≢false, IfErr, Answers, CarriesOut}
+use Rattle.session_run.proofs.Common.{outside, Reply, Call, SoundMove, Refusal, begun_in_vain, may_have_begun}
+use Rattle.session_run.proofs.Common.{carried_is, IsServed, IsUnharmed, has_begun}
 use Rattle.pcm_base.specs.Counters.{Needs, NeedsBy}
-use Rattle.pcm_base.specs.Run.{Answers, Breaks, BreaksOff, CarriesOut, Refuses, outside}
-use Rattle.pcm_base.specs.Shape.{Shape, NewTrack, DropTrack, SetTrack, PutIn, EditRange, CutRun, CopyRun, PasteRun}
-use Rattle.pcm_base.specs.Shape.{MoveTo, Purge, PurgeTo, Look, Reclaim, Compact, Import, Export, Bounce, shape_of}
-use Rattle.pcm_base.specs.{declared.answer.Reply.Reply, declared.command.Call.Call, declared.entry.SoundMove.SoundMove}
-use Rattle.pcm_base.specs.{declared.refusal.Refusal.Refusal, Outside.Outside, Studio.Studio}
-use Rattle.editor_state.specs.Exchanges.{begun_in_vain, is_broken_off, is_cut_off, may_begin, may_have_begun}
-use Rattle.editor_state.specs.Exchanges.{reads_sound}
-use Rattle.model_laws.proofs.Answered.{carried_is}
-use Rattle.studio_seats.specs.{Faults.IsServed, Leads.IsUnharmed}
-use Rattle.session_run.specs.Outgrown.{has_begun}
+use Rattle.pcm_base.specs.Run.{Breaks, BreaksOff, Refuses}
+use Rattle.pcm_base.specs.Shape.{Shape, NewTrack, shape_of}
+use Rattle.pcm_base.specs.{Outside.Outside, Studio.Studio}
+use Rattle.editor_state.specs.Exchanges.{is_broken_off, is_cut_off, may_begin, reads_sound}
 use Rattle.pcm_base.specs.declared.command.Call.TheVariants as call
 use Rattle.pcm_base.specs.declared.refusal.Refusal.TheVariants as refusal
 
@@ -22,22 +16,7 @@ use Rattle.pcm_base.specs.declared.refusal.Refusal.TheVariants as refusal
 line_mixed : (out : Outside) (t : Studio) (c : Call) (shape : Shape) (blocks len few short : ℕ)
     → NeedsBy out t c shape blocks len → NeedsBy out t c shape few short → NeedsBy out t c shape blocks short
 line_mixed out t c NewTrack blocks len few short a b = (a.0, b.1)
-line_mixed out t c (DropTrack id) blocks len few short a b = (a.0, b.1)
-line_mixed out t c (SetTrack id setting) blocks len few short a b = (a.0, b.1)
-line_mixed out t c (PutIn id at source) blocks len few short a b = (a.0, b.1)
-line_mixed out t c (EditRange id from to edit) blocks len few short a b = (a.0, b.1)
-line_mixed out t c (CutRun id n from to removing) blocks len few short a b = (a.0, b.1)
-line_mixed out t c (CopyRun id n from to) blocks len few short a b = (a.0, b.1)
-line_mixed out t c (PasteRun id at placing) blocks len few short a b = (a.0, b.1)
-line_mixed out t c (MoveTo move) blocks len few short a b = (a.0, b.1)
-line_mixed out t c (Purge n) blocks len few short a b = (a.0, b.1)
-line_mixed out t c (PurgeTo bytes) blocks len few short a b = (a.0, b.1)
-line_mixed out t c (Look view) blocks len few short a b = (a.0, b.1)
-line_mixed out t c (Reclaim limit) blocks len few short a b = (a.0, b.1)
-line_mixed out t c Compact blocks len few short a b = (a.0, b.1)
-line_mixed out t c (Import name) blocks len few short a b = (a.0, b.1)
-line_mixed out t c (Export name) blocks len few short a b = (a.0, b.1)
-line_mixed out t c (Bounce name) blocks len few short a b = (a.0, b.1)
+line_mixed out t c _ blocks len few short a b = (a.0, b.1)
 
 pub mixed : (out : Outside) (t : Studio) (c : Call) (blocks len few short : ℕ) → Needs out t c blocks len
     → Needs out t c few short → Needs out t c blocks short

@@ -1,25 +1,23 @@
 -- Where the disk in memory of a script counts a fault, the first entries of the run need more than its room.
-use Rattle.std.proofs.Common.{◌≡◌, ◌⊎◌, inl, inr, ⊎_elim, refl, sym, ap, ◌∙◌, subst, ℕ, ◌+◌, ◌-◌, ◌*◌, ◌≤◌, Bool, true}
-use Rattle.std.proofs.Common.{false, IsSome, Option, List, [], ◌∷◌, ◌++◌, length, Result, Ok, Err, arith}
-use Rattle.std.proofs.lemmas.Bool.{true≢false}
-use Rattle.std.specs.Prelude.{IfErr}
-use Rattle.pcm_base.specs.Run.{Answers, outside, result_of, name_in}
-use Rattle.pcm_base.specs.{declared.answer.Reply.Reply, declared.command.Call.Call, declared.entry.Entry.Entry}
-use Rattle.pcm_base.specs.{declared.refusal.Refusal.Refusal, Counters.places_of}
-use Rattle.disk_model.specs.Room.{IsSpent, Room, StaysRoom, files_made}
-use Rattle.disk_model.specs.{Frames.Kept, Frames.asked, declared.store.Store.Ghosts}
-use Rattle.editor_state.specs.{Applied.reply_of, Core.Core, Exchanges.begun_in_vain, Exchanges.exchange_of}
-use Rattle.editor_state.specs.{Exchanges.may_have_begun, Left.Left, Packing.packed_by, Packing.packed_size}
-use Rattle.editor_state.specs.{Packing.packs, Studios.IsStudio, Studios.studio_of, Took.Took, Took.asks}
+use Rattle.session_run.proofs.Common.{◌≡◌, ◌⊎◌, inl, inr, ⊎_elim, refl, sym, ap, ◌∙◌, subst, ℕ, ◌+◌, ◌-◌, ◌*◌, ◌≤◌}
+use Rattle.session_run.proofs.Common.{Bool, true, false, IsSome, Option, List, [], ◌∷◌, ◌++◌, length, Result, Ok, Err}
+use Rattle.session_run.proofs.Common.{arith, true≢false, IfErr, Answers, outside, result_of, Reply, Call, Entry}
+use Rattle.session_run.proofs.Common.{Refusal, IsSpent, Room, StaysRoom, asked, Ghosts, reply_of, Core, begun_in_vain}
+use Rattle.session_run.proofs.Common.{may_have_begun, IsStudio, studio_of, AllTell, AreTold, Chain, Deed, entries_of}
+use Rattle.session_run.proofs.Common.{entry_of, carried_is, IsTooMuch, Sum, has_begun, nothing_needed, plus, faults_of}
+use Rattle.session_run.proofs.Common.{tried_project}
+use Rattle.pcm_base.specs.Run.{name_in}
+use Rattle.pcm_base.specs.{Counters.places_of}
+use Rattle.disk_model.specs.Room.{files_made}
+use Rattle.disk_model.specs.{Frames.Kept}
+use Rattle.editor_state.specs.{Exchanges.exchange_of, Left.Left, Packing.packed_by, Packing.packed_size, Packing.packs}
+use Rattle.editor_state.specs.{Took.Took, Took.asks}
 use Rattle.editor_state.proofs.Calls.RunEntries.{step_of}
 use Rattle.editor_cleanup.proofs.HeaderSizes.{packed_few}
-use Rattle.studio_seats.specs.Stands.{AllTell, AreTold, Chain, Does}
-use Rattle.studio_seats.specs.{declared.deed.Deed.Deed, Deeds.entries_of, Deeds.entry_of, Faults.AllServed}
+use Rattle.studio_seats.specs.Stands.{Does}
+use Rattle.studio_seats.specs.{Faults.AllServed}
 use Rattle.studio_seats.proofs.FaultLemmas.{desks_serve}
-use Rattle.model_laws.proofs.Answered.{carried_is}
-use Rattle.session_run.specs.Outgrown.{IsTooMuch, NeedsAll, NeedsOne, Sum, has_begun, nothing_needed, packed_within}
-use Rattle.session_run.specs.Outgrown.{plus}
-use Rattle.session_run.specs.Tries.{faults_of, tried_project}
+use Rattle.session_run.specs.Outgrown.{NeedsAll, NeedsOne, packed_within}
 use Rattle.session_run.proofs.NeedLemmas.{Began, began, idle, mixed, not_begun, vain_most, vain_none}
 use Rattle.session_run.proofs.RoomLemmas.{HasAskedFor, IsFine, gone_few, much_more, room_on, too_much}
 use Rattle.session_run.proofs.{GoneLemmas.more_missing, MissingLemmas.missing, PromiseLemmas.plain_of}

@@ -1,19 +1,14 @@
 -- The entries of a recorder: pieces of one recording, in order.
-use Rattle.std.proofs.Common.{◌≡◌, inl, inr, ◌∙◌, refl, sym, ap, subst, ℕ, ◌+◌, nat_lt, ◌==◌, ◌&&◌, ◌≤◌, ℤ}
-use Rattle.std.proofs.Common.{if◌then◌else◌, Bool, true, false, List, [], ◌∷◌, ◌++◌, length, take, Result, Ok, Err}
-use Rattle.std.proofs.Common.{append_assoc, arith, eq-eqb}
-use Rattle.std.proofs.{lemmas.Bool.lt-ltb, lemmas.List.append-nil}
-use Rattle.std.specs.{Prelude.IsOk, List.zip}
-use Rattle.pcm_base.specs.Recordings.{pieces_in, pieces_of}
-use Rattle.pcm_base.specs.{declared.answer.Reply.Reply, declared.command.Call.Call, declared.refusal.Refusal.Refusal}
+use Rattle.session_run.proofs.Common.{◌≡◌, inl, inr, ◌∙◌, refl, sym, ap, subst, ℕ, ◌+◌, nat_lt, ◌==◌, ◌≤◌, ℤ}
+use Rattle.session_run.proofs.Common.{if◌then◌else◌, Bool, true, false, List, [], ◌∷◌, ◌++◌, length, take, Result, Ok}
+use Rattle.session_run.proofs.Common.{Err, append_assoc, arith, eq-eqb, lt-ltb, append-nil, IsOk, pieces_of, Reply}
+use Rattle.session_run.proofs.Common.{Call, Refusal, Each, commits, entries_of, is_commit, raised_by, AreDone, Asks}
+use Rattle.session_run.proofs.Common.{IsPieceOf, pieces_by, Deed, by_seat, deeds_of, RecorderAsks, same_seat, ArePieces}
+use Rattle.std.proofs.Common.{◌&&◌}
+use Rattle.std.specs.{List.zip}
+use Rattle.pcm_base.specs.Recordings.{pieces_in}
 use Rattle.edit_ports.specs.Answers.{numbered_pieces}
-use Rattle.pin_turn.specs.Counts.{Each}
-use Rattle.studio_seats.specs.Deeds.{commits, entries_of, is_commit, raised_by}
-use Rattle.studio_seats.specs.Onward.{AreDone, Asks, IsPieceOf}
-use Rattle.studio_seats.specs.Pieces.{piece_by, piece_in, pieces_by}
-use Rattle.studio_seats.specs.{declared.deed.Deed.Deed, Merge.by_seat, Merge.deeds_of, Recording.RecorderAsks}
-use Rattle.studio_seats.proofs.FreeingLemmas.{same_seat}
-use Rattle.session_run.specs.Sides.{ArePieces}
+use Rattle.studio_seats.specs.Pieces.{piece_by, piece_in}
 use Rattle.session_run.proofs.EntryLemmas.{IsPlain, not_refused}
 use Rattle.pcm_base.specs.declared.command.Call.TheVariants as call
 

@@ -1,22 +1,15 @@
 -- A playback, by the entries of its actor.
-use Rattle.std.proofs.Common.{◌≡◌, ◌⊎◌, inl, inr, ◌∙◌, refl, sym, ap, ℕ, ◌+◌, ◌*◌, ◌≤◌, Bool, true, false, List, []}
-use Rattle.std.proofs.Common.{◌∷◌, ◌++◌, length, take, drop, Option, Some, None, Result, arith}
-use Rattle.std.proofs.lemmas.List.{length-append, take-append-drop, take-append-le}
-use Rattle.std.proofs.lemmas.List.Concat.{flat_map-append}
-use Rattle.pcm_base.specs.{declared.answer.Reply.Reply, declared.command.Call.TheVariants.Unpin}
-use Rattle.pcm_base.specs.{declared.entry.Entry.Entry, declared.refusal.Refusal.Refusal, declared.sound.Frame.Frame}
-use Rattle.pcm_base.specs.{Causes.Rose, Recordings.bytes_of_frame, Recordings.frame_bytes}
-use Rattle.edit_ports.specs.Told.{grown}
-use Rattle.editor_state.specs.Applied.{reply_of}
-use Rattle.player_threads.specs.Filled.{reads_to}
+use Rattle.session_run.proofs.Common.{◌≡◌, ◌⊎◌, inl, inr, ◌∙◌, refl, sym, ap, ℕ, ◌+◌, ◌*◌, ◌≤◌, Bool, true, false, List}
+use Rattle.session_run.proofs.Common.{[], ◌∷◌, ◌++◌, length, take, drop, Option, Some, None, Result, arith}
+use Rattle.session_run.proofs.Common.{length-append, take-append-le, flat_map-append, Reply, Unpin, Entry, Refusal}
+use Rattle.session_run.proofs.Common.{Frame, Rose, frame_bytes, grown, reply_of, reads_to, Change, EndReads, Deed}
+use Rattle.session_run.proofs.Common.{entries_of, entry_of, entries_append, PlayOutcome, OwnDeed, Played, output}
+use Rattle.std.proofs.lemmas.List.{take-append-drop}
+use Rattle.pcm_base.specs.{Recordings.bytes_of_frame}
 use Rattle.pcm_base.proofs.ListFacts.{length_frames}
-use Rattle.script_reader.specs.Change.{Change}
-use Rattle.studio_seats.specs.Reads.{AreFullReads, EndReads, IsShortRead}
-use Rattle.studio_seats.specs.{declared.deed.Deed.Deed, Deeds.entries_of, Deeds.entry_of}
-use Rattle.studio_seats.proofs.Grown.{entries_append}
-use Rattle.desk_session.specs.{declared.outcome.PlayOutcome.PlayOutcome, Opening.OwnDeed, Sounds.Played}
+use Rattle.studio_seats.specs.Reads.{AreFullReads, IsShortRead}
 use Rattle.session_run.specs.Sides.{AreReads, IsRead, IsRelease, Plays, ReadsEnd}
-use Rattle.session_run.specs.{Last.play_end, Streams.output}
+use Rattle.session_run.specs.{Last.play_end}
 use Rattle.pcm_base.specs.declared.answer.Reply.TheVariants as reply
 use Rattle.edit_ports.specs.declared.sink.Sink as sink
 use Rattle.script_text.specs.declared.last.PlayEnd.TheVariants as play

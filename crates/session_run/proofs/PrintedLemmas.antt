@@ -1,16 +1,13 @@
 -- What is printed: the answers, and then the last lines.
-use Rattle.std.proofs.Common.{◌≡◌, ◌∙◌, refl, sym, ap, subst, ℕ, ◌+◌, List, [], ◌∷◌, ◌++◌, length, take, Option}
-use Rattle.std.proofs.Common.{append_assoc, arith}
-use Rattle.std.proofs.lemmas.List.{append-nil, length-append, take-append-le}
-use Rattle.std.proofs.{Math.Seq.take-append-add, lemmas.List.Concat.flat_map-append}
+use Rattle.session_run.proofs.Common.{◌≡◌, ◌∙◌, refl, sym, ap, subst, ℕ, ◌+◌, List, [], ◌∷◌, ◌++◌, length, take, Option}
+use Rattle.session_run.proofs.Common.{append_assoc, arith, append-nil, length-append, take-append-le, flat_map-append}
+use Rattle.session_run.proofs.Common.{Answer, Rose, grown, IsCauseOf, Stop, Change, change, WritesEnd, PrintsFrom}
+use Rattle.std.proofs.{Math.Seq.take-append-add}
 use Rattle.std.specs.Prelude.{flat_map}
-use Rattle.pcm_base.specs.{declared.answer.Answer.Answer, Causes.Rose}
-use Rattle.edit_ports.specs.Told.{grown}
 use Rattle.edit_ports.proofs.ToldLaws.{grown-grown}
 use Rattle.script_text.specs.Text.{text_of}
-use Rattle.script_reader.specs.Progress.{BreaksOff, IsCauseOf, WritesAnswers, outcome_of}
-use Rattle.script_reader.specs.{declared.stop.Stop.Stop, Change.Change, Change.change}
-use Rattle.session_run.specs.{Last.WritesEnd, Streams.PrintsFrom, Streams.PrintsThen}
+use Rattle.script_reader.specs.Progress.{BreaksOff, WritesAnswers, outcome_of}
+use Rattle.session_run.specs.{Streams.PrintsThen}
 use Rattle.script_reader.specs.declared.stop.Stop.TheVariants as stop
 
 module _ (before mid now : Option (List ℕ)) (first then_ last : ℕ) (answers : List Answer) (end : List ℕ) where

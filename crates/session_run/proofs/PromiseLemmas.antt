@@ -1,20 +1,12 @@
 -- The promise, from what a run did.
-use Rattle.std.proofs.Common.{◌≡◌, refl, sym, subst, ℕ, ◌==◌, List, [], ◌∷◌, Result, Ok, Err, true}
-use Rattle.pcm_base.specs.Run.{Answers, outside, result_of}
-use Rattle.pcm_base.specs.{Causes.Rose, declared.answer.Reply.Reply, declared.command.Call.Call}
-use Rattle.pcm_base.specs.{declared.entry.SoundMove.SoundMove, declared.refusal.Refusal.Refusal}
-use Rattle.std.specs.Prelude.{◌||◌, IfErr}
-use Rattle.disk_model.specs.declared.store.Store.{Ghosts}
-use Rattle.pin_turn.specs.Counts.{Each}
-use Rattle.editor_state.specs.{Applied.reply_of, Core.Core, Studios.IsHeld, Studios.studio_of}
+use Rattle.session_run.proofs.Common.{◌≡◌, refl, sym, subst, ℕ, ◌==◌, List, [], ◌∷◌, Result, Ok, Err, true, Answers}
+use Rattle.session_run.proofs.Common.{outside, result_of, Rose, Reply, Call, SoundMove, Refusal, IfErr, Ghosts, Each}
+use Rattle.session_run.proofs.Common.{reply_of, Core, IsHeld, studio_of, Deed, entries_of, entry_of, AreServed}
+use Rattle.session_run.proofs.Common.{IsServed, AllTell, Chain, Seats, is_by, Stop, Change, change, IsCauseOf}
+use Rattle.std.specs.Prelude.{◌||◌}
 use Rattle.editor_state.proofs.Calls.RunEntries.{plain, plain_result}
-use Rattle.studio_seats.specs.{declared.deed.Deed.Deed, Deeds.entries_of, Deeds.entry_of, Faults.AreServed}
-use Rattle.studio_seats.specs.{Faults.IsServed, Merge.by_seat, Merge.deeds_of, Stands.AllTell, Stands.Chain}
-use Rattle.desk_session.specs.Makers.{Seats, is_by}
-use Rattle.script_reader.specs.{declared.stop.Stop.Stop, Change.Change, Change.change, Progress.IsCauseOf}
 use Rattle.session_run.specs.Promise.{IsStoppedFor}
 use Rattle.session_run.proofs.EntryLemmas.{IsPlain}
-use Rattle.script_reader.proofs.BounceLemmas.{each_own as each_of}
 use Rattle.pcm_base.specs.Studio as model
 use Rattle.edit_ports.specs.declared.vault.Vault as vault
 use Rattle.script_reader.specs.declared.stop.Stop.TheVariants as stop
@@ -61,10 +53,6 @@ all_served (d ∷ ds) h plain = (
   subst (λ (what : Result Reply Refusal). IfErr what (IsServed d.call)) (sym plain.0) h.0,
   all_served ds h.1 plain.1,
 )
-
--- what holds of deeds holds of those of one seat
-pub each_own : (P : Deed → Type 0) (seat : ℕ) (ds : List Deed) → Each P ds → Each P (deeds_of (by_seat seat) ds)
-each_own P seat ds h = each_of P (by_seat seat) ds h
 
 -- each deed of a session is by one of its seats, of which the script's is the first
 pub each_maker : (seats : Seats) → seats.script ≡ 0 → (ds : List Deed) → Each (λ d. is_by seats d ≡ true) ds

@@ -1,29 +1,20 @@
 -- A run on an honest disk keeps the promise.
-use Rattle.std.proofs.Common.{◌≡◌, ◌≢◌, inl, inr, ⊎_elim, ◌∙◌, refl, sym, ap, subst, ℕ, List, ◌++◌, length, Some, true}
-use Rattle.std.specs.Prelude.{IfErr}
-use Rattle.pcm_base.specs.Run.{Run, result_of}
-use Rattle.pcm_base.specs.{declared.limits.TheConstants.COUNTER_LIMIT, declared.entry.Entry.Entry, Outside.Sounds}
-use Rattle.disk_model.specs.{Disk.Files, declared.store.Store.Ghosts}
-use Rattle.pin_turn.specs.Counts.{Each}
-use Rattle.pin_turn.proofs.Sums.{Each-left, Each-right}
-use Rattle.editor_state.specs.{Core.Core, Events.KeepsPrefix, Left.LeavesForeign, Studios.IsHeld, Studios.studio_of}
-use Rattle.editor_recovery.specs.Honest.{IsHonest}
-use Rattle.script_reader.specs.Change.{change}
-use Rattle.studio_seats.specs.Leads.{DeedsAsk, HadTurn, IsUnharmed, Leads, StopsInFlight}
-use Rattle.studio_seats.specs.Merge.{any_seat, by_seat, deeds_of, numbers_of}
-use Rattle.studio_seats.specs.{declared.deed.Deed.Deed, Deeds.entries_of, Deeds.number_after, Pins.pin_frames}
-use Rattle.studio_seats.specs.{Shows.IsMixOf, Stands.AllTell, Stands.AreTold, Stands.origin}
-use Rattle.studio_seats.proofs.{Grown.all_told, Grown.entries_append, Grown.leads, OnwardLemmas.each_append}
-use Rattle.desk_session.specs.Sessions.{IsSession, place_behind}
-use Rattle.desk_session.specs.{Lent.Kinds, Sides.side_number, Sounds.piece_numbers}
-use Rattle.script_text.specs.Last.{last_text}
-use Rattle.session_run.specs.{Answered.Answered, Entries.last_number, Entries.numbers_by, Entries.pieces_apart}
-use Rattle.session_run.specs.{Last.play_line, Last.record_line, Opening.OpensTo, Ports.Job, Ports.lent_of}
-use Rattle.session_run.specs.{Promise.Ended, Promise.Met, Promise.Promise, Runs.RunsOn, Sides.PlaysSide}
-use Rattle.session_run.specs.{Sides.RecordsSide, VaultSounds.SoundsFollow, Streams.input, Streams.output}
+use Rattle.session_run.proofs.Common.{◌≡◌, ◌≢◌, inl, inr, ⊎_elim, ◌∙◌, refl, sym, ap, subst, ℕ, List, ◌++◌, length}
+use Rattle.session_run.proofs.Common.{Some, true, IfErr, Run, result_of, Entry, Files, Ghosts, Each, Each-left}
+use Rattle.session_run.proofs.Common.{Each-right, Core, KeepsPrefix, LeavesForeign, IsHeld, studio_of, IsHonest, change}
+use Rattle.session_run.proofs.Common.{each_own, DeedsAsk, HadTurn, IsUnharmed, Leads, StopsInFlight, any_seat, by_seat}
+use Rattle.session_run.proofs.Common.{deeds_of, numbers_of, Deed, entries_of, number_after, pin_frames, IsMixOf}
+use Rattle.session_run.proofs.Common.{AllTell, AreTold, origin, all_told, entries_append, leads, each_append, IsSession}
+use Rattle.session_run.proofs.Common.{Kinds, piece_numbers, last_text, met_of, Answered, last_number, numbers_by}
+use Rattle.session_run.proofs.Common.{pieces_apart, play_line, record_line, OpensTo, Job, lent_of, Met, Promise, RunsOn}
+use Rattle.session_run.proofs.Common.{PlaysSide, RecordsSide, SoundsFollow, input, output}
+use Rattle.pcm_base.specs.{declared.limits.TheConstants.COUNTER_LIMIT, Outside.Sounds}
+use Rattle.desk_session.specs.Sessions.{place_behind}
+use Rattle.desk_session.specs.{Sides.side_number}
+use Rattle.session_run.specs.{Promise.Ended}
 use Rattle.session_run.proofs.EntryLemmas.{IsPlain, entries_as, entries_length, last_as, numbers_as}
 use Rattle.session_run.proofs.PrintedLemmas.{answered_all, broke, printed}
-use Rattle.session_run.proofs.PromiseLemmas.{each_maker, each_own, each_reply, plain_deeds, stopped_for}
+use Rattle.session_run.proofs.PromiseLemmas.{each_maker, each_reply, plain_deeds, stopped_for}
 use Rattle.session_run.proofs.SessionLemmas.{found_spent, quiet, recorded}
 use Rattle.session_run.proofs.SideEntries.{pin_actor, pin_side, track_actor, track_side}
 use Rattle.session_run.proofs.SurviveLemmas.{Survives, opened_keeps, survives}
@@ -85,7 +76,7 @@ module _ {D V M P : Type 0} (k : Kinds D V M P) (ask : DeedsAsk k.disk k.vaults)
   plain_rest = Each-right IsPlain (track ++ pin) rest plain_all
 
   plain_by : (seat : ℕ) → Each IsPlain (deeds_of (by_seat seat) rest)
-  plain_by seat = each_own IsPlain seat rest plain_rest
+  plain_by seat = each_own IsPlain (by_seat seat) rest plain_rest
 
   -- the commit number after the opening
   opened_number : last_number n opening_entries ≡ number_after n s.made.opening
@@ -118,23 +109,18 @@ module _ {D V M P : Type 0} (k : Kinds D V M P) (ask : DeedsAsk k.disk k.vaults)
   }
 
   abbrev pub met : Met D
-  met = record {
-    records = j.beside.records;
-    plays = j.beside.plays;
-    store = change store final.store;
-    script = j.ports.streams.source;
-    out = j.ports.streams.sink;
-    mic = input k.mics j.ports.mic;
-    speaker = output k.speakers j.ports.speaker;
-    sounds = change (k.vaults.holds j.ports.vault.before) (k.vaults.holds j.ports.vault.now);
-    vault_faults = change (k.vaults.fault_count j.ports.vault.before) (k.vaults.fault_count j.ports.vault.now);
+  met = met_of k (record { store = store; ports = j.ports }) j.beside.records j.beside.plays (record {
     status = status;
+    opened = true;
+    store = final.store;
+    mic = j.ports.mic.now;
+    speaker = j.ports.speaker.now;
     first_commit = n;
     last_commit = final.commit_number;
     record_commit = side_number ran.out.opened.recording;
     script_commits = ran.out.told.commits;
     piece_commits = piece_numbers ran.out.kept;
-  }
+  })
 
   abbrev images : Survives disk store (change start final) s.deeds
   images = survives disk k.vaults ask store start final s.deeds opens s.stands honest told

@@ -1,25 +1,16 @@
 -- A recording, by the entries of its actor.
-use Rattle.std.proofs.Common.{◌≡◌, ◌⊎◌, inl, inr, ⊎_elim, ◌∙◌, refl, sym, ap, subst, ℕ, ◌≤◌, ℤ, List, [], ◌∷◌, ◌++◌}
-use Rattle.std.proofs.Common.{Bool, true, length, take, Option, Some, None, arith}
-use Rattle.std.proofs.{lemmas.List.append-nil, lemmas.Option.none-some}
-use Rattle.pcm_base.specs.{declared.refusal.Refusal.Refusal, declared.refusal.Refusal.TheVariants.NoMemory}
+use Rattle.session_run.proofs.Common.{◌≡◌, ◌⊎◌, inl, inr, ⊎_elim, ◌∙◌, refl, sym, ap, subst, ℕ, ◌≤◌, ℤ, List, [], ◌∷◌}
+use Rattle.session_run.proofs.Common.{◌++◌, Bool, true, length, take, Option, Some, None, arith, append-nil, none-some}
+use Rattle.session_run.proofs.Common.{Refusal, NoMemory, reply_of, Each, Each-left, Each-right, MicEnd, mic_state}
+use Rattle.session_run.proofs.Common.{IsStoppedBy, Change, change, AreDone, EndsBy, IsPieceOf, Deed, entries_of}
+use Rattle.session_run.proofs.Common.{entry_of, deeds_of, pieces_by, RecorderAsks, asks_piece, entries_append}
+use Rattle.session_run.proofs.Common.{RecordOutcome, Recorded, ArePieces, record_end, input, each_own}
 use Rattle.pcm_base.specs.{Recordings.chunks_of}
-use Rattle.editor_state.specs.Applied.{reply_of}
-use Rattle.pin_turn.specs.Counts.{Each}
-use Rattle.pin_turn.proofs.Sums.{Each-left, Each-right}
-use Rattle.recorder_threads.specs.{declared.microphone.MicEnd.MicEnd, Blocks.mic_state, Captured.IsStoppedBy}
-use Rattle.script_reader.specs.Change.{Change, change}
-use Rattle.studio_seats.specs.Onward.{AreDone, EndsBy, IsPieceOf}
-use Rattle.studio_seats.specs.{declared.deed.Deed.Deed, Deeds.entries_of, Deeds.entry_of, Merge.deeds_of}
-use Rattle.studio_seats.specs.{Pieces.pieces_by, Recording.RecorderAsks, Recording.asks_piece}
-use Rattle.studio_seats.proofs.Grown.{entries_append}
-use Rattle.desk_session.specs.{declared.outcome.RecordOutcome.RecordOutcome, Sounds.Recorded}
-use Rattle.session_run.specs.Sides.{ArePieces, MicEnds, PieceRefused, Records}
-use Rattle.session_run.specs.{Last.mic_end, Last.record_end, Streams.input}
+use Rattle.session_run.specs.Sides.{MicEnds, PieceRefused, Records}
+use Rattle.session_run.specs.{Last.mic_end}
 use Rattle.session_run.proofs.FreedEntries.{done_pieces, fit_pieces, fit_reclaims, pieces_as}
 use Rattle.session_run.proofs.PieceEntries.{are_pieces, done_samples, refused_samples, samples_in, zipped}
 use Rattle.session_run.proofs.{EntryLemmas.IsPlain, SpentLemmas.record_refusal}
-use Rattle.script_reader.proofs.BounceLemmas.{each_own}
 use Rattle.pcm_base.specs.declared.answer.Reply.TheVariants as reply
 use Rattle.edit_ports.specs.declared.source.Source as source
 use Rattle.recorder_threads.specs.declared.microphone.MicEnd.TheVariants as mic_end

@@ -1,12 +1,12 @@
 -- What is left of the room of a disk in memory, deed by deed.
-use Rattle.std.proofs.Common.{◌≡◌, ◌⊎◌, inl, inr, ⊎_elim, refl, sym, ap, ◌∙◌, subst, ℕ, ◌+◌, ◌-◌, ◌*◌, ◌≤◌, IsSome}
-use Rattle.std.proofs.Common.{Option, Some, None, arith}
-use Rattle.disk_model.specs.Room.{IsSpent, IsWithin, Room, StaysRoom, together}
-use Rattle.disk_model.specs.{Disk.Files, Frames.Changed, Frames.asked, declared.store.Store.Ghosts}
-use Rattle.memory_project.specs.Fresh.{IsFresh, made_room, room_of_project}
-use Rattle.editor_state.specs.{Core.Core, Studios.IsHeld, Studios.IsStudio}
-use Rattle.session_run.specs.Outgrown.{IsTooMuch, Sum, nothing_needed}
-use Rattle.session_run.specs.Tries.{IsBeyond, faults_of, tried_project}
+use Rattle.session_run.proofs.Common.{◌≡◌, ◌⊎◌, inl, inr, ⊎_elim, refl, sym, ap, ◌∙◌, subst, ℕ, ◌+◌, ◌-◌, ◌*◌, ◌≤◌}
+use Rattle.session_run.proofs.Common.{IsSome, Option, Some, None, arith, IsSpent, Room, StaysRoom, Files, asked, Ghosts}
+use Rattle.session_run.proofs.Common.{IsFresh, Core, IsHeld, IsStudio, IsTooMuch, Sum, nothing_needed, faults_of}
+use Rattle.session_run.proofs.Common.{tried_project}
+use Rattle.disk_model.specs.Room.{IsWithin, together}
+use Rattle.disk_model.specs.{Frames.Changed}
+use Rattle.memory_project.specs.Fresh.{made_room, room_of_project}
+use Rattle.session_run.specs.Tries.{IsBeyond}
 use Rattle.session_run.proofs.MissingLemmas.{missing, missing_most}
 use Rattle.pcm_base.specs.Studio as model
 

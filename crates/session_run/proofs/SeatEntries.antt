@@ -1,19 +1,12 @@
 -- The recording and the playback of a session, by what was made for them.
-use Rattle.std.proofs.Common.{◌≡◌, ◌≢◌, ◌∙◌, refl, sym, ap, ℕ, ◌==◌, if◌then◌else◌, Bool, true, false, List, [], ◌∷◌}
-use Rattle.std.proofs.Common.{◌++◌, Option, Some, None}
-use Rattle.std.specs.Prelude.{IsSomeAnd}
-use Rattle.pcm_base.specs.{declared.command.Call.Call, declared.sound.Frame.Frame}
-use Rattle.pin_turn.specs.Counts.{Each}
-use Rattle.script_reader.specs.Change.{Change, change}
-use Rattle.studio_seats.specs.{declared.deed.Deed.Deed, Deeds.entries_of, Merge.by_seat, Merge.deeds_of, Onward.Asks}
-use Rattle.studio_seats.specs.{Pieces.pieces_by, Recording.RecorderAsks}
-use Rattle.studio_seats.proofs.FreeingLemmas.{asked_own, same_seat}
-use Rattle.studio_seats.proofs.{OnwardLemmas.each_append, MergeLemmas.deeds_append}
-use Rattle.desk_session.specs.Sounds.{Played, Recorded, piece_numbers}
-use Rattle.desk_session.specs.{declared.outcome.PlayOutcome.PlayOutcome, declared.outcome.RecordOutcome.RecordOutcome}
-use Rattle.desk_session.specs.{declared.side.Side.Side, Opening.play_calls, Opening.record_calls, Sides.WhereMade}
-use Rattle.session_run.specs.{Last.play_line, Last.record_line, Sides.PlaysSide, Sides.RecordsSide, Streams.input}
-use Rattle.session_run.specs.{Streams.output}
+use Rattle.session_run.proofs.Common.{◌≡◌, ◌≢◌, ◌∙◌, refl, sym, ap, ℕ, ◌==◌, if◌then◌else◌, Bool, true, false, List, []}
+use Rattle.session_run.proofs.Common.{◌∷◌, ◌++◌, Option, Some, None, IsSomeAnd, Call, Frame, Each, Change, change, Deed}
+use Rattle.session_run.proofs.Common.{entries_of, by_seat, deeds_of, Asks, pieces_by, RecorderAsks, same_seat}
+use Rattle.session_run.proofs.Common.{each_append, Played, Recorded, piece_numbers, PlayOutcome, RecordOutcome, Side}
+use Rattle.session_run.proofs.Common.{play_calls, record_calls, WhereMade, play_line, record_line, PlaysSide}
+use Rattle.session_run.proofs.Common.{RecordsSide, input, output}
+use Rattle.studio_seats.proofs.FreeingLemmas.{asked_own}
+use Rattle.studio_seats.proofs.{MergeLemmas.deeds_append}
 use Rattle.session_run.proofs.PieceEntries.{done_samples, own_samples}
 use Rattle.session_run.proofs.{EntryLemmas.IsPlain, PlayLemmas.plays, RecordLemmas.records}
 use Rattle.edit_ports.specs.declared.sink.Sink as sink

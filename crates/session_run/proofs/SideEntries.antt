@@ -1,18 +1,12 @@
 -- The entries that a session's opening made.
-use Rattle.std.proofs.Common.{◌≡◌, inl, inr, ◌∙◌, refl, sym, ap, subst, ℕ, ◌+◌, Bool, true, false, List, [], ◌∷◌, ◌++◌}
-use Rattle.std.proofs.Common.{Result, Ok, Err}
-use Rattle.pcm_base.specs.declared.command.Call.TheVariants.{Line, Pin}
-use Rattle.pcm_base.specs.{declared.answer.Reply.Reply, declared.command.Call.Call}
-use Rattle.pcm_base.specs.{declared.command.Command.TheVariants.Track, declared.refusal.Refusal.Refusal}
-use Rattle.editor_state.specs.{Applied.reply_of, Took.silent}
-use Rattle.pin_turn.specs.Counts.{Each}
-use Rattle.studio_seats.specs.Deeds.{deed, entries_of, entry_of, number_after}
-use Rattle.studio_seats.specs.{declared.deed.Deed.Deed, Desks.spent, Leads.HadTurn, Merge.any_seat, Merge.numbers_of}
-use Rattle.script_reader.specs.Answering.{is_refusal}
-use Rattle.desk_session.specs.declared.side.Side.{Side}
-use Rattle.desk_session.specs.declared.side.Side.TheVariants.{Made, NotAsked, Refused}
-use Rattle.desk_session.specs.Opening.{OwnDeed, PinDeed, TrackDeed, record_commits}
-use Rattle.session_run.specs.{Entries.last_number, Sides.IsOne, Sides.MakesSide}
+use Rattle.session_run.proofs.Common.{◌≡◌, inl, inr, ◌∙◌, refl, sym, ap, subst, ℕ, ◌+◌, Bool, true, false, List, []}
+use Rattle.session_run.proofs.Common.{◌∷◌, ◌++◌, Result, Ok, Err, Line, Pin, Reply, Call, Track, Refusal, reply_of}
+use Rattle.session_run.proofs.Common.{Each, entries_of, entry_of, number_after, Deed, spent, HadTurn, any_seat}
+use Rattle.session_run.proofs.Common.{numbers_of, is_refusal, Side, Made, NotAsked, Refused, OwnDeed, PinDeed}
+use Rattle.session_run.proofs.Common.{TrackDeed, record_commits, last_number}
+use Rattle.editor_state.specs.{Took.silent}
+use Rattle.studio_seats.specs.Deeds.{deed}
+use Rattle.session_run.specs.{Sides.IsOne, Sides.MakesSide}
 use Rattle.session_run.proofs.EntryLemmas.{IsPlain, last_as, plain_reply}
 use Rattle.pcm_base.specs.declared.answer.Reply.TheVariants as reply
 

@@ -1,37 +1,27 @@
 -- What becomes of the sounds of a vault, line by line.
-use Rattle.std.proofs.Common.{◌≡◌, ◌⊎◌, inl, inr, ⊎_elim, ◌∙◌, refl, sym, ap, subst, ℕ, Bool, true, false, List, []}
-use Rattle.std.proofs.Common.{◌∷◌, ◌++◌, ◌+◌, ◌*◌, append_assoc, length, take, drop, take-append-drop, Option, Some}
-use Rattle.std.proofs.Common.{Result, Ok, Err, IsTrue, arith, eq-eqb}
-use Rattle.std.proofs.lemmas.List.{append-nil}
-use Rattle.std.specs.{Prelude.IfOk, Prelude.MatchBool, Prelude.OnErr, Prelude.OnOk, List.flat_map}
-use Rattle.pcm_base.specs.declared.answer.Reply.TheVariants.{Pinned, Wrote}
-use Rattle.pcm_base.specs.Run.{Answers, Follows, Run, result_of}
-use Rattle.pcm_base.specs.{declared.answer.Answer.Answer, declared.answer.Reply.Reply}
-use Rattle.pcm_base.specs.{declared.command.Call.TheVariants.Pin, declared.command.Command.Command}
-use Rattle.pcm_base.specs.{declared.command.Command.TheVariants.Bounce, declared.entry.Entry.Entry}
-use Rattle.pcm_base.specs.{declared.refusal.Refusal.Refusal, declared.sound.Frame.Frame, Form.IsTurn, Mix.mix_of}
-use Rattle.pcm_base.specs.{Recordings.frame_bytes, State.current, Wave.wav_text}
-use Rattle.disk_model.specs.declared.store.Store.{Ghosts}
-use Rattle.editor_state.specs.{Applied.reply_of, Core.Core, Studios.IsHeld, Studios.studio_of, Took.as_reply}
+use Rattle.session_run.proofs.Common.{◌≡◌, ◌⊎◌, inl, inr, ⊎_elim, ◌∙◌, refl, sym, ap, subst, ℕ, Bool, true, false, List}
+use Rattle.session_run.proofs.Common.{[], ◌∷◌, ◌++◌, ◌+◌, ◌*◌, append_assoc, length, take, drop, Option, Some, Result}
+use Rattle.session_run.proofs.Common.{Ok, Err, arith, eq-eqb, append-nil, MatchBool, Pinned, Wrote, Answers, Run}
+use Rattle.session_run.proofs.Common.{result_of, Answer, Reply, Pin, Command, Bounce, Entry, Refusal, Frame}
+use Rattle.session_run.proofs.Common.{frame_bytes, current, Ghosts, reply_of, Core, IsHeld, studio_of, as_reply}
+use Rattle.session_run.proofs.Common.{is_silent, line_of, Deed, actor_of, entries_of, entry_of, by_seat, deeds_of}
+use Rattle.session_run.proofs.Common.{pin_frames, IsMixOf, AllTell, StandsFor, origin, all_told, entries_append, leads}
+use Rattle.session_run.proofs.Common.{AfterPin, BounceDeeds, Each, ByOthers, Bounces, Enters, Place, batch, line_deed}
+use Rattle.session_run.proofs.Common.{Next, AnswersLines, Turn, scripts_add, same_rest, SoundsFollow, BounceEntries}
+use Rattle.session_run.proofs.Common.{entries_by}
+use Rattle.std.proofs.Common.{take-append-drop, IsTrue}
+use Rattle.std.specs.{Prelude.IfOk, Prelude.OnErr, Prelude.OnOk, List.flat_map}
+use Rattle.pcm_base.specs.Run.{Follows}
+use Rattle.pcm_base.specs.{Form.IsTurn, Mix.mix_of, Wave.wav_text}
 use Rattle.editor_views.proofs.ExportLengths.{length_text}
 use Rattle.wav_pcm.specs.Written.{MayBegin}
 use Rattle.wav_pcm.proofs.GrowLaws.{begun_front}
-use Rattle.script_text.specs.Grammar.{is_silent, line_of}
-use Rattle.studio_seats.specs.{declared.deed.Deed.Deed, Deeds.actor_of, Deeds.entries_of, Deeds.entry_of, Merge.by_seat}
-use Rattle.studio_seats.specs.{Merge.deeds_of, Pins.makes_pin, Pins.pin_frames, Shows.IsMixOf, Stands.AllTell}
-use Rattle.studio_seats.specs.{Stands.StandsFor, Stands.origin}
-use Rattle.studio_seats.proofs.Grown.{all_told, entries_append, leads}
+use Rattle.studio_seats.specs.{Pins.makes_pin}
 use Rattle.studio_seats.proofs.{Chains.chain_cut, PinLemmas.frames_at, PinLemmas.run_rate}
-use Rattle.sound_bounce.specs.Bounces.{AfterPin, BounceDeeds, IsOwnPin, IsUnread, TellsMix, frames_in, length_in}
-use Rattle.sound_bounce.specs.Bounces.{text_by}
+use Rattle.sound_bounce.specs.Bounces.{IsOwnPin, IsUnread, TellsMix, frames_in, length_in, text_by}
 use Rattle.sound_bounce.proofs.{Sayings.mute_err, TellLemmas.bounces_tell, TellLemmas.cut_first}
-use Rattle.pin_turn.specs.{Counts.Each, Rule.ByOthers}
-use Rattle.script_reader.specs.Place.{Bounces, Enters, Place, batch, line_deed}
-use Rattle.script_reader.specs.Answering.{Next, AnswersLines, Turn}
-use Rattle.script_reader.proofs.AddedLemmas.{scripts_add, turn_sounds}
-use Rattle.desk_session.proofs.ListLemmas.{same_rest}
-use Rattle.session_run.specs.VaultSounds.{IsBounceOf, IsNoBounce, IsWholeFile, LineSounds, NextSounds, SoundsFollow}
-use Rattle.session_run.specs.{Answered.BounceEntries, Entries.entries_by}
+use Rattle.script_reader.proofs.AddedLemmas.{turn_sounds}
+use Rattle.session_run.specs.VaultSounds.{IsBounceOf, IsNoBounce, IsWholeFile, LineSounds, NextSounds}
 use Rattle.session_run.proofs.{BounceEntries.bounce_entries, EntryLemmas.entries_as, EntryLemmas.none_by}
 use Rattle.pcm_base.specs.Studio as model
 use Rattle.edit_ports.specs.declared.vault.Vault as vault

@@ -1,23 +1,11 @@
 -- A recording or a playback that found no turn left found so after as many as there are.
-use Rattle.std.proofs.Common.{◌≡◌, ◌⊎◌, inl, inr, ap, ◌∙◌, subst, ℕ, ℤ, Bool, true, List, [], ◌∷◌, ◌++◌, Option, Some}
-use Rattle.std.proofs.Common.{None}
-use Rattle.std.specs.Prelude.{IsSomeAnd}
-use Rattle.pcm_base.specs.{declared.refusal.Refusal.Refusal, declared.refusal.Refusal.TheVariants.NoMemory}
-use Rattle.pcm_base.specs.{declared.sound.Frame.Frame}
+use Rattle.session_run.proofs.Common.{◌≡◌, ◌⊎◌, inl, inr, ap, ◌∙◌, subst, ℕ, ℤ, Bool, true, List, [], ◌∷◌, ◌++◌, Option}
+use Rattle.session_run.proofs.Common.{Some, None, IsSomeAnd, Refusal, NoMemory, Frame, reply_of, reads_to, Each}
+use Rattle.session_run.proofs.Common.{Each-left, Each-right, MicEnd, Change, Deed, spent, HadTurn, deeds_of, asks_piece}
+use Rattle.session_run.proofs.Common.{EndsBy, EndReads, PlayOutcome, RecordOutcome, Side, PinDeed, TrackDeed, WhereMade}
+use Rattle.session_run.proofs.Common.{Played, Recorded, play_line, record_end, record_line, each_own}
 use Rattle.edit_ports.specs.Answers.{RefusedAt}
-use Rattle.editor_state.specs.Applied.{reply_of}
-use Rattle.player_threads.specs.Filled.{reads_to}
-use Rattle.pin_turn.specs.Counts.{Each}
-use Rattle.pin_turn.proofs.Sums.{Each-left, Each-right}
-use Rattle.recorder_threads.specs.declared.microphone.MicEnd.{MicEnd}
-use Rattle.script_reader.specs.Change.{Change}
-use Rattle.studio_seats.specs.{declared.deed.Deed.Deed, Desks.spent, Leads.HadTurn, Merge.deeds_of}
-use Rattle.studio_seats.specs.{Recording.asks_piece, Onward.EndsBy, Reads.EndReads, Reads.ReadsTo}
-use Rattle.desk_session.specs.{declared.outcome.PlayOutcome.PlayOutcome, declared.outcome.RecordOutcome.RecordOutcome}
-use Rattle.desk_session.specs.{declared.side.Side.Side, Opening.PinDeed, Opening.TrackDeed, Sides.WhereMade}
-use Rattle.desk_session.specs.{Sounds.Played, Sounds.Recorded}
-use Rattle.session_run.specs.Last.{play_line, record_end, record_line}
-use Rattle.script_reader.proofs.BounceLemmas.{each_own}
+use Rattle.studio_seats.specs.{Reads.ReadsTo}
 use Rattle.session_run.proofs.{PlayLemmas.play_refusal, SideEntries.pin_spent, SideEntries.track_spent}
 use Rattle.pcm_base.specs.declared.answer.Reply.TheVariants as reply
 use Rattle.edit_ports.specs.declared.sink.Sink as sink

@@ -1,22 +1,14 @@
 -- The status 4 of a call of the word `run`, by the counts of faults of its devices.
-use Rattle.std.proofs.Common.{◌≡◌, ◌⊎◌, inl, inr, refl, ℕ, ◌<◌, if◌then◌else◌, Bool, true, false, ◌||◌, nat_lt, List}
-use Rattle.std.proofs.Common.{◌∷◌, [], Option, Some, subst}
-use Rattle.std.proofs.lemmas.Bool.{lt-ltb}
-use Rattle.pcm_base.specs.Causes.{Rose}
-use Rattle.disk_model.specs.declared.store.Store.{Ghosts}
-use Rattle.call_words.specs.declared.asked.Words.{Words}
-use Rattle.script_reader.specs.Change.{Change, change}
-use Rattle.session_run.specs.Call.{HasCause, IsTry, OneRose, any_rose}
-use Rattle.session_run.specs.{declared.counts.FaultCounts.FaultCounts, Promise.AnyOf, Promise.Met, Promise.fault_counts}
+use Rattle.session_run.proofs.Common.{◌≡◌, ◌⊎◌, inl, inr, refl, ℕ, ◌<◌, if◌then◌else◌, Bool, true, false, ◌||◌, nat_lt}
+use Rattle.session_run.proofs.Common.{List, ◌∷◌, [], Option, Some, subst, lt-ltb, Rose, Ghosts, Words, Change, change}
+use Rattle.session_run.proofs.Common.{HasCause, IsTry, OneRose, any_rose, FaultCounts, Met}
+use Rattle.session_run.specs.{Promise.AnyOf, Promise.fault_counts}
 use Rattle.call_words.specs.declared.asked.Words.TheVariants as words
 
 -- what the promise says of the status
 pub record Counted {D : Type 0} (disk : Ghosts D) (m : Met D) : Type 0 where
   pub failed : AnyOf (λ c. c.before < c.now) (fault_counts disk m) → m.status ≡ 4
   pub status : m.status ≡ 4 → AnyOf (λ c. Rose c.before c.now) (fault_counts disk m)
-
-higher : (a b : ℕ) → a < b → nat_lt a b ≡ true
-higher a b less = lt-ltb a b less
 
 or_left : (a b : Bool) → a ≡ true → (a || b) ≡ true
 or_left true b is = refl
@@ -64,19 +56,19 @@ module _ (old new : FaultCounts) where
 
   of_mic : AnyOf (λ c. c.before < c.now) (change old.mic new.mic ∷ change old.speaker new.speaker ∷ [])
       → after_vault ≡ true
-  of_mic (inl h) = or_left mic_higher speaker_higher (higher old.mic new.mic h)
-  of_mic (inr (inl h)) = or_right mic_higher speaker_higher (higher old.speaker new.speaker h)
+  of_mic (inl h) = or_left mic_higher speaker_higher (lt-ltb old.mic new.mic h)
+  of_mic (inr (inl h)) = or_right mic_higher speaker_higher (lt-ltb old.speaker new.speaker h)
   of_mic (inr (inr h)) = absurd h
 
   -- one is higher than before
   higher_rose : AnyOf (λ c. c.before < c.now) changes → any_rose old new ≡ true
-  higher_rose (inl h) = or_left script_higher after_script (higher old.script new.script h)
+  higher_rose (inl h) = or_left script_higher after_script (lt-ltb old.script new.script h)
   higher_rose (inr (inl h)) =
-      or_right script_higher after_script (or_left out_higher after_out (higher old.out new.out h))
+      or_right script_higher after_script (or_left out_higher after_out (lt-ltb old.out new.out h))
   higher_rose (inr (inr (inl h))) = or_right script_higher after_script (or_right out_higher after_out
-      (or_left store_higher after_store (higher old.store new.store h)))
+      (or_left store_higher after_store (lt-ltb old.store new.store h)))
   higher_rose (inr (inr (inr (inl h)))) = or_right script_higher after_script (or_right out_higher after_out
-      (or_right store_higher after_store (or_left vault_higher after_vault (higher old.vault new.vault h))))
+      (or_right store_higher after_store (or_left vault_higher after_vault (lt-ltb old.vault new.vault h))))
   higher_rose (inr (inr (inr (inr h)))) = or_right script_higher after_script (or_right out_higher after_out
       (or_right store_higher after_store (or_right vault_higher after_vault (of_mic h))))
 

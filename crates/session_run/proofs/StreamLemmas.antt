@@ -1,10 +1,9 @@
 -- What was written to a sink, by its count of faults, and a source that was not read.
-use Rattle.std.proofs.Common.{ℕ, List, length, Option, Result, Ok, Err, sym, ap, ◌∙◌, arith}
+use Rattle.session_run.proofs.Common.{ℕ, List, length, Option, Result, Ok, Err, sym, ap, ◌∙◌, arith, grown, change}
+use Rattle.session_run.proofs.Common.{IsReadOn, PrintsFrom}
 use Rattle.std.proofs.lemmas.List.{take_all}
 use Rattle.pcm_base.specs.{declared.failed.Failed.Failed, Causes.HasCause}
-use Rattle.edit_ports.specs.Told.{grown, Open, Writes}
-use Rattle.script_reader.specs.Change.{change}
-use Rattle.session_run.specs.Streams.{IsReadOn, PrintsFrom}
+use Rattle.edit_ports.specs.Told.{Open, Writes}
 use Rattle.edit_ports.specs.declared.source.Source as source
 
 pub prints : (r : Result (Unit {0}) Failed) (count count_now : ℕ) (old new : Option (List ℕ)) (text : List ℕ)

@@ -1,17 +1,13 @@
 -- What a stop may leave of a script that ran.
-use Rattle.std.proofs.Common.{◌≡◌, ◌⊎◌, inl, inr, ⊎_elim, List, None, sym, subst}
+use Rattle.session_run.proofs.Common.{◌≡◌, ◌⊎◌, inl, inr, ⊎_elim, List, None, sym, subst, Files, Ghosts, Core}
+use Rattle.session_run.proofs.Common.{KeepsPrefix, IsHeld, studio_of, IsHonest, Deed, entries_of, DeedsAsk, Leads}
+use Rattle.session_run.proofs.Common.{StopsInFlight, AllTell, AreTold, StandsFor, origin, all_told, leads, Change}
+use Rattle.session_run.proofs.Common.{change, OpensTo}
 use Rattle.std.specs.Prelude.{IsSome}
-use Rattle.disk_model.specs.{Disk.Files, declared.store.Store.Ghosts}
 use Rattle.project_journal.specs.Gate.{EachNow, EachSince}
 use Rattle.record_body.specs.Saved.{Keeps}
-use Rattle.editor_state.specs.{Core.Core, Events.KeepsPrefix, Studios.IsHeld, Studios.shown, Studios.studio_of}
-use Rattle.editor_recovery.specs.Honest.{IsHonest}
+use Rattle.editor_state.specs.{Studios.shown}
 use Rattle.editor_recovery.proofs.Assembled.{shows_found}
-use Rattle.studio_seats.specs.{declared.deed.Deed.Deed, Deeds.entries_of, Leads.DeedsAsk, Leads.Leads}
-use Rattle.studio_seats.specs.{Leads.StopsInFlight, Stands.AllTell, Stands.AreTold, Stands.StandsFor, Stands.origin}
-use Rattle.studio_seats.proofs.Grown.{all_told, leads}
-use Rattle.script_reader.specs.Change.{Change, change}
-use Rattle.session_run.specs.Opening.{OpensTo}
 use Rattle.edit_ports.specs.declared.vault.Vault as vault
 use Rattle.record_body.specs.Saved as saved
 

@@ -1,16 +1,13 @@
 -- What `try` leaves of a fresh project in memory.
-use Rattle.std.proofs.Common.{◌≡◌, ◌⊎◌, inl, inr, ⊎_elim, ℕ, List, nat_lt, if◌then◌else◌, ap, ◌∙◌, subst, arith}
-use Rattle.disk_model.specs.{Frames.asked, declared.store.Store.Ghosts}
-use Rattle.editor_state.specs.{Core.Core, Left.LeavesForeign, Studios.studio_of}
-use Rattle.studio_seats.specs.{declared.deed.Deed.Deed, Deeds.entries_of, Leads.DeedsAsk, Leads.chain_asks}
-use Rattle.studio_seats.specs.{Stands.AreTold, Stands.Chain}
-use Rattle.desk_session.specs.Lent.{Kinds}
-use Rattle.memory_project.specs.{Fresh.IsFresh, declared.fresh.FreshProject.FreshProject}
-use Rattle.script_reader.specs.Change.{change}
-use Rattle.session_run.specs.Ports.{Idle, Ports, SameVault, job}
-use Rattle.session_run.specs.Tries.{Tried, faults_of, nothing, tried_project}
-use Rattle.session_run.specs.{declared.ending.Done.Done, Outgrown.Outgrows, Outgrown.nothing_needed, Outgrown.plus}
-use Rattle.session_run.specs.{Refused.IsRefused, Runs.RunsOpened, Runs.RunsTo, Runs.Wants, Streams.Unread}
+use Rattle.session_run.proofs.Common.{◌≡◌, ◌⊎◌, inl, inr, ⊎_elim, ℕ, List, nat_lt, if◌then◌else◌, ap, ◌∙◌, subst, arith}
+use Rattle.session_run.proofs.Common.{asked, Ghosts, Core, LeavesForeign, studio_of, Deed, entries_of, DeedsAsk}
+use Rattle.session_run.proofs.Common.{AreTold, Chain, Kinds, IsFresh, change, Ports, job, faults_of, tried_project}
+use Rattle.session_run.proofs.Common.{Done, nothing_needed, plus, IsRefused, RunsTo}
+use Rattle.studio_seats.specs.{Leads.chain_asks}
+use Rattle.memory_project.specs.{declared.fresh.FreshProject.FreshProject}
+use Rattle.session_run.specs.Ports.{Idle, SameVault}
+use Rattle.session_run.specs.Tries.{Tried, nothing}
+use Rattle.session_run.specs.{Outgrown.Outgrows, Runs.RunsOpened, Runs.Wants, Streams.Unread}
 use Rattle.session_run.proofs.OutgrownLemmas.{Grows, fits}
 use Rattle.session_run.proofs.RoomLemmas.{fresh_fine, much_more, spent_by}
 use Rattle.script_text.specs.declared.call_fault.CallFault.TheVariants as call

@@ -10,12 +10,13 @@ ghost use Rattle.session_run.specs.Refused.{IsRefused};
 ghost use Rattle.session_run.specs.Streams.{Streams, from_sink};
 
 use super::ending::Done;
+use super::opening::open_project;
 use super::refusing::{call_fault, refuse};
 use call_words::NewProject;
 use disk_model::Store;
 use edit_ports::Sink;
 use editor_core::Studio;
-use editor_recovery::{check, create, open_store};
+use editor_recovery::{check, create};
 use script_text::{CallFault, ProjectLines, write_checked, write_made, write_project};
 use std::alloc::Global;
 
@@ -75,7 +76,7 @@ fn list_opened<S: Store, O: Sink>(alloc: Global, out: &mut O, studio: Studio<S>)
 pub fn list_project<S: Store, O: Sink>(alloc: Global, out: &mut O, store: S) -> Done<S>
     ensures { (source : Streams) → Lists S.Store store (from_sink O.Sink source (change out.old out.new)) result }
 {
-    match open_store(alloc, store) {
+    match open_project(alloc, store) {
         Ok(studio) => list_opened(alloc, out, studio),
         Err((fault, store)) => refuse(alloc, out, store, call_fault(fault)),
     }
@@ -85,7 +86,7 @@ pub fn list_project<S: Store, O: Sink>(alloc: Global, out: &mut O, store: S) -> 
 pub fn check_project<S: Store, O: Sink>(alloc: Global, out: &mut O, store: S) -> Done<S>
     ensures { (source : Streams) → Checks S.Store store (from_sink O.Sink source (change out.old out.new)) result }
 {
-    match open_store(alloc, store) {
+    match open_project(alloc, store) {
         Ok(mut studio) => match check(alloc, &mut studio) {
             Ok(count) => {
                 let _ = write_checked(out, count, studio.commit_number());

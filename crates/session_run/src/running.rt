@@ -25,12 +25,12 @@ use super::ending::Done;
 use super::last::{
     any_refused, end_lines, mic_failed, play_line, record_line, speaker_failed, status_of,
 };
+use super::opening::open_project;
 use super::refusing::{call_fault, refuse};
 use desk_session::{Beside, Devices, Ended, RecordOutcome, Report, Seated};
 use disk_model::Store;
 use edit_ports::{Gate, Sink, Source, Vault};
 use editor_core::Studio;
-use editor_recovery::open_store;
 use pcm_base::Numbers;
 use script_text::CallFault;
 use std::alloc::Global;
@@ -155,7 +155,7 @@ where
     ensures reads { IsReadOn A.Source (change devices.entry.streams.script.now result.1.streams.script.now) }
     ensures same { AreSame devices.entry result.1 }
 {
-    match open_store(alloc, store) {
+    match open_project(alloc, store) {
         Ok(studio) => run_opened(rt, alloc, studio, devices, beside),
         Err((fault, store)) => {
             (

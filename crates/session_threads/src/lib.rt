@@ -7,18 +7,14 @@
 #![tactic(auto)]
 
 mod beside;
-mod both;
 mod lent;
 mod lines;
 mod play;
 mod playback;
 mod record;
 mod recording;
-mod sounds;
-mod task;
 
-pub use beside::run_beside;
-pub use both::record_and_play;
+pub use beside::{record_and_play, run_beside};
 pub use lent::{LentSink, LentSource, take_back};
 pub use lines::{Lines, Streams};
 pub use play::{Played, play_mix};

@@ -3,7 +3,7 @@ ghost use Rattle.std.specs.Prelude.{◌≡◌, [], false};
 ghost use Rattle.script_reader.specs.HeldLine.{Holds};
 ghost use Rattle.session_threads.specs.RanLines.{RanLines};
 
-use super::task::Task;
+use super::beside::Task;
 use edit_ports::{Gate, Sink, Source};
 use script_reader::{Editor, ScriptState, Stop, read_script};
 use std::alloc::Global;

@@ -1,22 +1,15 @@
 -- A bounce: its pin, what was written by it, and the pin let go.
-use Rattle.std.proofs.Common.{◌≡◌, ◌⊎◌, inl, inr, ⊎_elim, ℕ, ◌+◌, ◌*◌, ◌<◌, Bool, true, false, List, [], ◌∷◌, ◌++◌}
-use Rattle.std.proofs.Common.{append_assoc, refl, sym, ◌∙◌, ap, subst, Result, Ok, Err}
+use Rattle.sound_bounce.proofs.Common.{◌≡◌, ◌⊎◌, inl, inr, ⊎_elim, ℕ, ◌+◌, ◌*◌, ◌<◌, Bool, true, false, List, [], ◌∷◌}
+use Rattle.sound_bounce.proofs.Common.{◌++◌, append_assoc, refl, sym, ◌∙◌, ap, subst, Result, Ok, Err, IfOk, LoadPin}
+use Rattle.sound_bounce.proofs.Common.{Pin, PinLen, Unpin, Reply, Call, Refusal, Said, Ghosts, View, Each, Core, silent}
+use Rattle.sound_bounce.proofs.Common.{as_reply, Deed, Held, deed, Says, asked, spent, views, by_seat, deeds_of, origin}
+use Rattle.sound_bounce.proofs.Common.{IsTaken, NoTurn, OneCall, one_call, own_on, reason_or, onward_on, onward_self}
+use Rattle.sound_bounce.proofs.Common.{onward_as, BounceDeeds, WasRefused, Holds, IsGone, IsUnread, IsReadIn}
+use Rattle.sound_bounce.proofs.Common.{IsRefusedBy, IsWritten, LetsGo, LoadsAll, LoadsEnd, LoadsOf, Moved, ReadsPin}
+use Rattle.sound_bounce.proofs.Common.{RefusedAs, Spares, Unasked, length_in, may_let_go, moved, own_in, text_by}
 use Rattle.std.proofs.lemmas.Bool.{true≢false}
-use Rattle.std.specs.Prelude.{IfOk}
-use Rattle.pcm_base.specs.declared.command.Call.TheVariants.{LoadPin, Pin, PinLen, Unpin}
-use Rattle.pcm_base.specs.{declared.answer.Reply.Reply, declared.command.Call.Call, declared.refusal.Refusal.Refusal}
-use Rattle.pcm_base.specs.{declared.said.Said.Said}
-use Rattle.disk_model.specs.declared.store.Store.{Ghosts}
-use Rattle.pin_turn.specs.{declared.view.View.View, Counts.Each}
-use Rattle.editor_state.specs.{Core.Core, Took.silent, Took.as_reply}
-use Rattle.studio_seats.specs.{declared.deed.Deed.Deed, declared.held.Held.Held, Deeds.deed, Desks.Says, Desks.asked}
-use Rattle.studio_seats.specs.{Desks.spent, Desks.views, Merge.by_seat, Merge.deeds_of, Stands.origin}
-use Rattle.studio_seats.proofs.CallLemmas.{IsTaken, NoTurn, OneCall, call_idle, one_call, own_on, reason_or}
-use Rattle.studio_seats.proofs.{OnwardLemmas.onward_on, OnwardLemmas.onward_self, WorkLemmas.onward_as}
-use Rattle.sound_bounce.specs.Bounces.{BounceDeeds, Bounced, WasRefused, Holds, IsAfterPin, IsDone, IsGone, IsOfBounce}
-use Rattle.sound_bounce.specs.Bounces.{IsUnread, IsReadIn, IsRefusedBy, IsWritten, LetsGo, LoadsAll, LoadsEnd, LoadsOf}
-use Rattle.sound_bounce.specs.Bounces.{Moved, ReadsPin, RefusedAs, Spares, TellsPin, Unasked, length_in, may_let_go}
-use Rattle.sound_bounce.specs.Bounces.{moved, own_in, text_by}
+use Rattle.studio_seats.proofs.CallLemmas.{call_idle}
+use Rattle.sound_bounce.specs.Bounces.{Bounced, IsAfterPin, IsDone, IsOfBounce, TellsPin}
 use Rattle.pin_turn.proofs.Sums.{Each-left, Each-right}
 use Rattle.sound_bounce.proofs.FileLemmas.{spares_silent}
 use Rattle.sound_bounce.proofs.Sayings.{IsMute, faults_as, length_back, length_front, mute_gone, mute_pinned, text_back}

@@ -1,26 +1,17 @@
 -- The file of a pin: its header, and the frames of the loads.
-use Rattle.std.proofs.Common.{◌≡◌, ◌⊎◌, inl, inr, ⊎_elim, ℕ, ◌+◌, ◌*◌, ◌≤◌, ◌<◌, List, [], ◌∷◌, ◌++◌, Option, Some}
-use Rattle.std.proofs.Common.{refl, sym, ◌∙◌, ap, subst, arith, Result, Ok, Err, MatchResult}
-use Rattle.std.proofs.lemmas.List.{append-nil}
-use Rattle.std.specs.Prelude.{IsTrue, IfOk}
-use Rattle.pcm_base.specs.{declared.answer.Reply.Reply, declared.command.Call.TheVariants.PinLen}
-use Rattle.pcm_base.specs.{declared.refusal.Refusal.Refusal, declared.said.Said.Said, Causes.Rose}
-use Rattle.pcm_base.specs.{Outside.SameElsewhere, Recordings.frame_bytes}
-use Rattle.disk_model.specs.declared.store.Store.{Ghosts}
-use Rattle.edit_ports.specs.Sounds.{sound_bytes}
-use Rattle.pin_turn.specs.{declared.view.View.View, Counts.Each}
-use Rattle.editor_state.specs.{Core.Core, Took.silent, Took.as_reply}
+use Rattle.sound_bounce.proofs.Common.{◌≡◌, ◌⊎◌, inl, inr, ⊎_elim, ℕ, ◌+◌, ◌*◌, ◌≤◌, ◌<◌, List, [], ◌∷◌, ◌++◌, Option}
+use Rattle.sound_bounce.proofs.Common.{Some, refl, sym, ◌∙◌, ap, subst, arith, Result, Ok, Err, MatchResult, append-nil}
+use Rattle.sound_bounce.proofs.Common.{IsTrue, IfOk, Reply, PinLen, Refusal, Said, Rose, SameElsewhere, frame_bytes}
+use Rattle.sound_bounce.proofs.Common.{Ghosts, sound_bytes, View, Each, Core, silent, as_reply, wav_head, Deed, Held}
+use Rattle.sound_bounce.proofs.Common.{deed, Says, asked, spent, views, by_seat, deeds_of, origin, IsTaken, NoTurn}
+use Rattle.sound_bounce.proofs.Common.{OneCall, one_call, own_on, reason_or, onward_on, onward_self, onward_as}
+use Rattle.sound_bounce.proofs.Common.{FaultsBy, Files, WasRefused, Holds, IsLoadOf, IsReadIn, IsRefusedBy, IsUnread}
+use Rattle.sound_bounce.proofs.Common.{IsWritten, Keeps, LoadsAll, LoadsDone, Moved, ReadsPin, RefusedAs, Spares}
+use Rattle.sound_bounce.proofs.Common.{Unasked, frames_in, header_in, length_in, moved, own_in, text_by}
 use Rattle.wav_pcm.specs.declared.fault.SoundFault.TheVariants.{BadWav, NoFile, TooLong, Vault}
 use Rattle.wav_pcm.specs.{declared.fault.SoundFault.SoundFault, Parts.IsFor, Parts.SoundCountedBy, Parts.sound_refusal}
-use Rattle.wav_pcm.specs.{Wavs.FitsFile, Wavs.wav_head, Written.IsNotStarted, Written.MayBegin}
+use Rattle.wav_pcm.specs.{Wavs.FitsFile, Written.IsNotStarted, Written.MayBegin}
 use Rattle.wav_pcm.proofs.GrowLaws.{begun_front, begun_more}
-use Rattle.studio_seats.specs.{declared.deed.Deed.Deed, declared.held.Held.Held, Deeds.deed, Desks.Says, Desks.asked}
-use Rattle.studio_seats.specs.{Desks.spent, Desks.views, Merge.by_seat, Merge.deeds_of, Stands.origin}
-use Rattle.studio_seats.proofs.CallLemmas.{IsTaken, NoTurn, OneCall, one_call, own_on, reason_or}
-use Rattle.studio_seats.proofs.{OnwardLemmas.onward_on, OnwardLemmas.onward_self, WorkLemmas.onward_as}
-use Rattle.sound_bounce.specs.Bounces.{FaultsBy, Files, WasRefused, Holds, IsLoadOf, IsReadIn, IsRefusedBy, IsUnread}
-use Rattle.sound_bounce.specs.Bounces.{IsWritten, Keeps, LoadsAll, LoadsDone, Moved, ReadsPin, RefusedAs, Spares}
-use Rattle.sound_bounce.specs.Bounces.{Unasked, frames_in, header_in, length_in, moved, own_in, text_by}
 use Rattle.sound_bounce.proofs.Sayings.{faults_as, header_all, length_all, was_refused, refused_right}
 use Rattle.sound_bounce.proofs.VaultLemmas.{keeps_on, keeps_self, still}
 use Rattle.pcm_base.specs.declared.answer.Reply.TheVariants as reply

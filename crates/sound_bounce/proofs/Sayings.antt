@@ -1,15 +1,13 @@
 -- What deeds one after another say of a file.
-use Rattle.std.proofs.Common.{◌≡◌, ◌⊎◌, inl, inr, ⊎_elim, ℕ, ◌+◌, Bool, true, false, List, [], ◌∷◌, ◌++◌, length, refl}
-use Rattle.std.proofs.Common.{sym, ◌∙◌, ap, ap₂, subst, arith, Result, Ok, Err}
-use Rattle.std.proofs.{lemmas.List.append-nil, lemmas.Grind.flat_map-append}
-use Rattle.pcm_base.specs.declared.command.Call.TheVariants.{LoadPin, Unpin}
-use Rattle.pcm_base.specs.Recordings.{bytes_of_frame, frame_bytes}
-use Rattle.pcm_base.specs.{declared.answer.Reply.Reply, declared.command.Call.Call, declared.refusal.Refusal.Refusal}
-use Rattle.pcm_base.specs.{declared.sound.Frame.Frame}
-use Rattle.studio_seats.specs.{declared.deed.Deed.Deed, Desks.spent}
-use Rattle.sound_bounce.specs.Bounces.{AreLoads, FaultsBy, FaultsOf, WasRefused, IsRefusedBy, LetsGo, LoadsAll}
-use Rattle.sound_bounce.specs.Bounces.{LoadsEnd, frames_by, frames_in, header_by, header_in, length_by, length_in}
-use Rattle.sound_bounce.specs.Bounces.{text_by}
+use Rattle.sound_bounce.proofs.Common.{◌≡◌, ◌⊎◌, inl, inr, ⊎_elim, ℕ, ◌+◌, Bool, true, false, List, [], ◌∷◌, ◌++◌}
+use Rattle.sound_bounce.proofs.Common.{length, refl, sym, ◌∙◌, ap, subst, arith, Result, Ok, Err, append-nil, LoadPin}
+use Rattle.sound_bounce.proofs.Common.{Unpin, frame_bytes, Reply, Call, Refusal, Frame, Deed, spent, AreLoads, FaultsBy}
+use Rattle.sound_bounce.proofs.Common.{WasRefused, IsRefusedBy, LetsGo, LoadsAll, LoadsEnd, frames_by, frames_in}
+use Rattle.sound_bounce.proofs.Common.{header_by, header_in, length_by, length_in, text_by}
+use Rattle.std.proofs.Common.{ap₂}
+use Rattle.std.proofs.{lemmas.Grind.flat_map-append}
+use Rattle.pcm_base.specs.Recordings.{bytes_of_frame}
+use Rattle.sound_bounce.specs.Bounces.{FaultsOf}
 use Rattle.pcm_base.specs.declared.answer.Reply.TheVariants as reply
 use Rattle.pcm_base.specs.declared.refusal.Refusal.TheVariants as refusal
 

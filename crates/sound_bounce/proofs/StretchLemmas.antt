@@ -1,26 +1,17 @@
 -- The loads of a pin, one after another, and what is written of each.
-use Rattle.std.proofs.Common.{◌≡◌, ◌⊎◌, inl, inr, ⊎_elim, ℕ, ◌+◌, ◌≤◌, List, [], ◌∷◌, ◌++◌, length, refl, sym, ◌∙◌, ap}
-use Rattle.std.proofs.Common.{append_assoc, arith, subst, Result, Ok, Err, MatchResult}
-use Rattle.std.proofs.{lemmas.List.append-nil, lemmas.List.FromFn.length-map-range_with_len}
-use Rattle.std.specs.Prelude.{IsTrue}
-use Rattle.pcm_base.specs.{declared.answer.Reply.Reply, declared.command.Call.TheVariants.LoadPin}
-use Rattle.pcm_base.specs.{declared.refusal.Refusal.Refusal, declared.said.Said.Said, declared.sound.Frame.Frame}
-use Rattle.pcm_base.specs.{Causes.Rose, Mix.frame_at, Recordings.frame_bytes}
-use Rattle.disk_model.specs.declared.store.Store.{Ghosts}
-use Rattle.edit_ports.specs.Sounds.{MayHaveGrown}
-use Rattle.mixdown.specs.{declared.loaded.Loaded.Loaded, Loads.loaded_tracks, Loads.tracks_in}
+use Rattle.sound_bounce.proofs.Common.{◌≡◌, ◌⊎◌, inl, inr, ⊎_elim, ℕ, ◌+◌, ◌≤◌, List, [], ◌∷◌, ◌++◌, length, refl, sym}
+use Rattle.sound_bounce.proofs.Common.{◌∙◌, ap, append_assoc, arith, subst, Result, Ok, Err, MatchResult, append-nil}
+use Rattle.sound_bounce.proofs.Common.{length-map-range_with_len, IsTrue, Reply, LoadPin, Refusal, Said, Frame, Rose}
+use Rattle.sound_bounce.proofs.Common.{frame_at, frame_bytes, Ghosts, MayHaveGrown, loaded_tracks, View, Core, silent}
+use Rattle.sound_bounce.proofs.Common.{as_reply, IsThere, Deed, Held, deed, Says, asked, spent, views, by_seat}
+use Rattle.sound_bounce.proofs.Common.{deeds_of, origin, IsTaken, NoTurn, OneCall, one_call, own_on, reason_or}
+use Rattle.sound_bounce.proofs.Common.{onward_on, onward_self, AreLoads, GrowFails, Grows, IsLoadOf, IsRefusedBy}
+use Rattle.sound_bounce.proofs.Common.{LoadsAhead, LoadsDone, Moved, frames_by, frames_in, loaded_frames, moved, own_in}
+use Rattle.mixdown.specs.{declared.loaded.Loaded.Loaded, Loads.tracks_in}
 use Rattle.mixdown.proofs.LoadLaws.{full_mix}
-use Rattle.pin_turn.specs.declared.view.View.{View}
-use Rattle.editor_state.specs.{Core.Core, Took.silent, Took.as_reply}
 use Rattle.editor_views.specs.Loads.{HasLoaded}
-use Rattle.wav_pcm.specs.Written.{IsThere}
-use Rattle.studio_seats.specs.{declared.deed.Deed.Deed, declared.held.Held.Held, Deeds.deed, Desks.Says, Desks.asked}
-use Rattle.studio_seats.specs.{Desks.spent, Desks.views, Merge.by_seat, Merge.deeds_of, Onward.Onward, Stands.origin}
-use Rattle.studio_seats.proofs.CallLemmas.{IsTaken, NoTurn, OneCall, one_call, own_on, reason_or}
-use Rattle.studio_seats.proofs.OnwardLemmas.{onward_on, onward_self}
-use Rattle.sound_bounce.specs.Bounces.{AreLoads, GrowFails, Grows, GrowsBy, IsLoadOf, IsRefusedBy, LoadsAhead}
-use Rattle.sound_bounce.specs.Bounces.{LoadsDone, LoadsNext, LoadsTo, Moved, NextRefused, frames_by, frames_in}
-use Rattle.sound_bounce.specs.Bounces.{loaded_frames, moved, own_in}
+use Rattle.studio_seats.specs.{Onward.Onward}
+use Rattle.sound_bounce.specs.Bounces.{GrowsBy, LoadsNext, LoadsTo, NextRefused}
 use Rattle.sound_bounce.proofs.Sayings.{bytes_on, bytes_one, mute_refused, was_refused, refused_right}
 use Rattle.sound_bounce.proofs.VaultLemmas.{grown_less, grown_on, grown_so, grows_on, grows_self, keeps_on}
 use Rattle.pcm_base.specs.declared.answer.Reply.TheVariants as reply

@@ -1,30 +1,26 @@
 -- What the deeds of a bounce say, where the disk held the studio.
-use Rattle.std.proofs.Common.{◌≡◌, inl, inr, ⊎_elim, ℕ, ◌+◌, ◌-◌, ◌≤◌, ◌<◌, min, Bool, true, false, if◌then◌else◌, List}
-use Rattle.std.proofs.Common.{[], ◌∷◌, ◌++◌, length, take, drop, map, Some, refl, sym, ◌∙◌, ap, subst, append_assoc}
-use Rattle.std.proofs.Common.{arith, eq-eqb, Result, Ok, Err}
-use Rattle.std.proofs.lemmas.List.{append-nil, length-take, take_all}
-use Rattle.std.proofs.{lemmas.Bool.cases_lt, Math.Seq.take-add, Math.Seq.take-append_seam}
-use Rattle.std.specs.Prelude.{IsTrue, OnOk, OnErr}
-use Rattle.pcm_base.specs.declared.command.Call.TheVariants.{Pin, PinLen}
-use Rattle.pcm_base.specs.Mix.{frame_at, loaded_of, mix_length, mix_of}
-use Rattle.pcm_base.specs.{declared.answer.Reply.Reply, declared.entry.Entry.Entry}
-use Rattle.pcm_base.specs.{declared.lists.LoadedTrack.LoadedTrack, declared.refusal.Refusal.Refusal}
-use Rattle.pcm_base.specs.{declared.sound.Frame.Frame, Cells.Project, Recordings.frame_bytes, Wave.wav_text}
-use Rattle.disk_model.specs.declared.store.Store.{Ghosts}
+use Rattle.sound_bounce.proofs.Common.{◌≡◌, inl, inr, ⊎_elim, ℕ, ◌+◌, ◌-◌, ◌≤◌, ◌<◌, Bool, true, false, List, [], ◌∷◌}
+use Rattle.sound_bounce.proofs.Common.{◌++◌, length, take, drop, Some, refl, sym, ◌∙◌, ap, subst, append_assoc, arith}
+use Rattle.sound_bounce.proofs.Common.{Result, Ok, Err, append-nil, length-take, take_all, take-add, take-append_seam}
+use Rattle.sound_bounce.proofs.Common.{IsTrue, OnOk, OnErr, Pin, PinLen, frame_at, Reply, Refusal, Frame, frame_bytes}
+use Rattle.sound_bounce.proofs.Common.{Ghosts, Core, wav_head, Deed, by_seat, deeds_of, origin, AreLoads, BounceDeeds}
+use Rattle.sound_bounce.proofs.Common.{LoadsOf, ReadsPin, Unasked, frames_by, frames_in, header_by, header_in}
+use Rattle.sound_bounce.proofs.Common.{length_by, length_in, may_let_go, text_by}
+use Rattle.std.proofs.Common.{min, if◌then◌else◌, map, eq-eqb}
+use Rattle.std.proofs.{lemmas.Bool.cases_lt}
+use Rattle.pcm_base.specs.Mix.{loaded_of, mix_length, mix_of}
+use Rattle.pcm_base.specs.{declared.entry.Entry.Entry, declared.lists.LoadedTrack.LoadedTrack, Cells.Project}
+use Rattle.pcm_base.specs.{Wave.wav_text}
 use Rattle.mixdown.specs.Loads.{heard_track}
 use Rattle.mixdown.proofs.LoadedLaws.{loaded_mix}
 use Rattle.mix_reader.proofs.CountLaws.{made_from}
-use Rattle.editor_state.specs.{Applied.reply_of, Core.Core, Studios.IsHeld, Studios.studio_of}
-use Rattle.wav_pcm.specs.Wavs.{wav_head}
+use Rattle.editor_state.specs.{Applied.reply_of, Studios.IsHeld, Studios.studio_of}
 use Rattle.wav_pcm.proofs.GrowLaws.{frames_split}
-use Rattle.studio_seats.specs.{declared.deed.Deed.Deed, Deeds.entries_of, Deeds.entry_of, Merge.by_seat, Merge.deeds_of}
-use Rattle.studio_seats.specs.{Pins.is_made, Pins.makes_pin, Pins.pin_frames, Shows.IsMixOf, Stands.AllTell}
-use Rattle.studio_seats.specs.{Stands.StandsFor, Stands.origin}
+use Rattle.studio_seats.specs.{Deeds.entries_of, Deeds.entry_of, Pins.is_made, Pins.makes_pin, Pins.pin_frames}
+use Rattle.studio_seats.specs.{Shows.IsMixOf, Stands.AllTell, Stands.StandsFor}
 use Rattle.studio_seats.proofs.{FrameLemmas.frames_made, FrameLemmas.made_last, Grown.entries_append}
 use Rattle.studio_seats.proofs.{LoadLemmas.length_at, LoadLemmas.loads_at, PinLemmas.frames_on}
-use Rattle.sound_bounce.specs.Bounces.{AfterPin, AreLoads, BounceDeeds, BouncesTell, IsOwnPin, LoadsOf, ReadsPin}
-use Rattle.sound_bounce.specs.Bounces.{SaysWhole, Unasked, frames_by, frames_in, header_by, header_in, length_by}
-use Rattle.sound_bounce.specs.Bounces.{length_in, may_let_go, text_by}
+use Rattle.sound_bounce.specs.Bounces.{AfterPin, BouncesTell, IsOwnPin, SaysWhole}
 use Rattle.sound_bounce.proofs.Sayings.{frames_all, header_all, length_all, length_back, length_front, mute_gone}
 use Rattle.sound_bounce.proofs.Sayings.{mute_pinned, mute_refused, text_back, text_front}
 use Rattle.pcm_base.specs.declared.answer.Reply.TheVariants as reply

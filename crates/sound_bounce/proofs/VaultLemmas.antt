@@ -1,13 +1,13 @@
 -- What becomes of a sound, call by call.
-use Rattle.std.proofs.Common.{◌≡◌, inl, inr, ℕ, ◌+◌, ◌≤◌, Bool, List, [], ◌++◌, length, take, Option, Some, refl, sym}
-use Rattle.std.proofs.Common.{◌∙◌, ap, subst, arith, append_assoc, length-append, Result, Ok, Err, MatchResult}
-use Rattle.std.proofs.lemmas.List.{append-nil, take-append-le, take_all}
-use Rattle.std.proofs.Math.Seq.{take-add, take-append_seam, drop-append_seam}
-use Rattle.std.specs.Prelude.{IsTrue, OnOk, OnErr}
-use Rattle.pcm_base.specs.{Causes.HasCause, Outside.SameElsewhere}
-use Rattle.edit_ports.specs.Sounds.{MayHaveGrown, sound_bytes}
-use Rattle.wav_pcm.specs.Written.{IsThere}
-use Rattle.sound_bounce.specs.Bounces.{GrowFails, Grows, Keeps, moved}
+use Rattle.sound_bounce.proofs.Common.{◌≡◌, inl, inr, ℕ, ◌+◌, ◌≤◌, Bool, List, [], ◌++◌, length, take, Option, Some}
+use Rattle.sound_bounce.proofs.Common.{refl, sym, ◌∙◌, ap, subst, arith, append_assoc, Result, Ok, Err, MatchResult}
+use Rattle.sound_bounce.proofs.Common.{append-nil, take_all, take-add, take-append_seam, IsTrue, OnOk, OnErr}
+use Rattle.sound_bounce.proofs.Common.{SameElsewhere, MayHaveGrown, sound_bytes, IsThere, GrowFails, Grows, Keeps}
+use Rattle.sound_bounce.proofs.Common.{moved}
+use Rattle.std.proofs.Common.{length-append}
+use Rattle.std.proofs.lemmas.List.{take-append-le}
+use Rattle.std.proofs.Math.Seq.{drop-append_seam}
+use Rattle.pcm_base.specs.{Causes.HasCause}
 use Rattle.edit_ports.specs.declared.vault.Vault as vault
 
 take_past : (xs ys : List ℕ) (n : ℕ) → take (length xs + n) (xs ++ ys) ≡ xs ++ take n ys

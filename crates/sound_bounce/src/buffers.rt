@@ -13,8 +13,8 @@ pub(crate) struct Buffers {
 }
 
 impl Buffers {
-    /// Room for this many frames. The cells of the tracks take theirs at the first two loads, when it is known how many
-    /// tracks there are.
+    /// Room for this many frames. The samples of the tracks take theirs at the first two loads, when it is known how
+    /// many tracks there are.
     pub(crate) fn new(alloc: Global, batch: usize) -> Result<Buffers, NoMemory>
         requires few { batch ≤ MAX_LOADED }
         ensures frames { IfOk result (λ b. length b.frames.items ≡ batch) }

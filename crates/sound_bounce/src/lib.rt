@@ -10,6 +10,8 @@ mod buffers;
 mod laws;
 mod snapshot;
 mod stretches;
+mod task;
 
 pub use laws::bounces_tell;
 pub use snapshot::bounce;
+pub use task::Task;

@@ -17,10 +17,10 @@ ghost use Rattle.sound_bounce.specs.Bounces.{
 
 use super::buffers::Buffers;
 use super::stretches::write_stretches;
+use super::task::{Mix, Task};
 use disk_model::Store;
 use edit_ports::Vault;
 use pcm_base::{Frame, Refusal, Said};
-use std::alloc::Global;
 use std::sync::Wait;
 use std::thread::Threads;
 use studio_seats::{Desk, DeskSeat};
@@ -40,33 +40,26 @@ fn sized(len: u64, what: Result<(), Refusal>) -> Result<u64, Refusal>
 /// Writes the file of a pin that has `len` frames, and answers how many bytes it has. TooLong is tested before anything
 /// is written.
 fn write_file<R: Threads + Wait + Sync, S: Store, V: Vault>(
-    rt: &R,
-    alloc: Global,
-    desk: &Desk<S, V>,
+    task: &Task<R, S, V>,
     seat: &mut DeskSeat<S, V>,
     vault: &mut V,
-    name: &str,
-    pin: u64,
-    len: u64,
-    batch: usize,
+    mix: Mix,
     frames: &mut [Frame],
     bytes: &mut [u8],
 ) -> Result<u64, Refusal>
-    requires seat { IsAt desk.now seat.old }
-    requires batch { batch ≤ MAX_LOADED }
-    requires frames { length frames.old ≡ batch }
-    requires bytes { 64 + 4 * batch ≤ length bytes.old }
-    ensures same { IsAt desk.now seat.new }
-    ensures files { Files (start_at desk.now).rate pin batch len result (views (known seat.old) (known seat.new))
-        (moved V.Vault name.now vault.old vault.new) }
+    requires seat { IsAt task.now.desk.now seat.old }
+    requires batch { task.now.batch ≤ MAX_LOADED }
+    requires frames { length frames.old ≡ task.now.batch }
+    requires bytes { 64 + 4 * task.now.batch ≤ length bytes.old }
+    ensures same { IsAt task.now.desk.now seat.new }
+    ensures files { Files (start_at task.now.desk.now).rate mix.pin task.now.batch mix.len result
+        (views (known seat.old) (known seat.new)) (moved V.Vault task.now.name.now vault.old vault.new) }
 {
-    let per_second = desk.rate();
-    match start_wav(vault, name, len, per_second, bytes) {
+    let per_second = task.desk.rate();
+    match start_wav(vault, task.name, mix.len, per_second, bytes) {
         Ok(()) => sized(
-            len,
-            write_stretches(
-                rt, alloc, desk, seat, vault, name, pin, len, batch, frames, bytes,
-            ),
+            mix.len,
+            write_stretches(task, seat, vault, mix, frames, bytes),
         ),
         Err(reason) => Err(reason),
     }
@@ -74,30 +67,24 @@ fn write_file<R: Threads + Wait + Sync, S: Store, V: Vault>(
 
 /// Writes the mix of a pin, and answers how many bytes the file has. The length is asked in one turn.
 fn write_pinned<R: Threads + Wait + Sync, S: Store, V: Vault>(
-    rt: &R,
-    alloc: Global,
-    desk: &Desk<S, V>,
+    task: &Task<R, S, V>,
     seat: &mut DeskSeat<S, V>,
     vault: &mut V,
-    name: &str,
     pin: u64,
-    batch: usize,
     frames: &mut [Frame],
     bytes: &mut [u8],
 ) -> Result<u64, Refusal>
-    requires seat { IsAt desk.now seat.old }
-    requires batch { batch ≤ MAX_LOADED }
-    requires frames { length frames.old ≡ batch }
-    requires bytes { 64 + 4 * batch ≤ length bytes.old }
-    ensures same { IsAt desk.now seat.new }
-    ensures written { IsWritten (start_at desk.now).rate pin batch result (views (known seat.old) (known seat.new))
-        (moved V.Vault name.now vault.old vault.new) }
+    requires seat { IsAt task.now.desk.now seat.old }
+    requires batch { task.now.batch ≤ MAX_LOADED }
+    requires frames { length frames.old ≡ task.now.batch }
+    requires bytes { 64 + 4 * task.now.batch ≤ length bytes.old }
+    ensures same { IsAt task.now.desk.now seat.new }
+    ensures written { IsWritten (start_at task.now.desk.now).rate pin task.now.batch result
+        (views (known seat.old) (known seat.new)) (moved V.Vault task.now.name.now vault.old vault.new) }
 {
-    let Said { at: _, what } = desk.pin_len(rt, seat, pin);
+    let Said { at: _, what } = task.desk.pin_len(task.rt, seat, pin);
     match what {
-        Ok(len) => write_file(
-            rt, alloc, desk, seat, vault, name, pin, len, batch, frames, bytes,
-        ),
+        Ok(len) => write_file(task, seat, vault, Mix { pin, len }, frames, bytes),
         Err(reason) => Err(reason),
     }
 }
@@ -145,60 +132,48 @@ fn let_go<R: Wait, S: Store, V: Vault>(
 
 /// Writes the mix of a pin, and lets the pin go.
 fn write_and_let_go<R: Threads + Wait + Sync, S: Store, V: Vault>(
-    rt: &R,
-    alloc: Global,
-    desk: &Desk<S, V>,
+    task: &Task<R, S, V>,
     seat: &mut DeskSeat<S, V>,
     vault: &mut V,
-    name: &str,
     pin: u64,
-    batch: usize,
     frames: &mut [Frame],
     bytes: &mut [u8],
 ) -> Result<u64, Refusal>
-    requires seat { IsAt desk.now seat.old }
-    requires batch { batch ≤ MAX_LOADED }
-    requires frames { length frames.old ≡ batch }
-    requires bytes { 64 + 4 * batch ≤ length bytes.old }
-    ensures same { IsAt desk.now seat.new }
-    ensures done { IsDone (start_at desk.now).rate pin batch result (views (known seat.old) (known seat.new))
-        (moved V.Vault name.now vault.old vault.new) }
+    requires seat { IsAt task.now.desk.now seat.old }
+    requires batch { task.now.batch ≤ MAX_LOADED }
+    requires frames { length frames.old ≡ task.now.batch }
+    requires bytes { 64 + 4 * task.now.batch ≤ length bytes.old }
+    ensures same { IsAt task.now.desk.now seat.new }
+    ensures done { IsDone (start_at task.now.desk.now).rate pin task.now.batch result
+        (views (known seat.old) (known seat.new)) (moved V.Vault task.now.name.now vault.old vault.new) }
 {
-    let what = write_pinned(
-        rt, alloc, desk, seat, vault, name, pin, batch, frames, bytes,
-    );
+    let what = write_pinned(task, seat, vault, pin, frames, bytes);
     let may = may_let_go(&what);
-    let _gone = let_go(rt, desk, seat, pin, may);
+    let _gone = let_go(task.rt, task.desk, seat, pin, may);
     what
 }
 
 /// As [`bounce`], with memory for it.
 fn write_current<R: Threads + Wait + Sync, S: Store, V: Vault>(
-    rt: &R,
-    alloc: Global,
-    desk: &Desk<S, V>,
+    task: &Task<R, S, V>,
     seat: &mut DeskSeat<S, V>,
     vault: &mut V,
-    name: &str,
-    batch: usize,
     frames: &mut [Frame],
     bytes: &mut [u8],
 ) -> Said<u64>
-    requires seat { IsAt desk.now seat.old }
-    requires batch { batch ≤ MAX_LOADED }
-    requires frames { length frames.old ≡ batch }
-    requires bytes { 64 + 4 * batch ≤ length bytes.old }
-    ensures same { IsAt desk.now seat.new }
-    ensures bounced { Bounced (origin S.Store V.Vault (start_at desk.now)) batch result
-        (views (known seat.old) (known seat.new)) (moved V.Vault name.now vault.old vault.new) }
+    requires seat { IsAt task.now.desk.now seat.old }
+    requires batch { task.now.batch ≤ MAX_LOADED }
+    requires frames { length frames.old ≡ task.now.batch }
+    requires bytes { 64 + 4 * task.now.batch ≤ length bytes.old }
+    ensures same { IsAt task.now.desk.now seat.new }
+    ensures bounced { Bounced (origin S.Store V.Vault (start_at task.now.desk.now)) task.now.batch result
+        (views (known seat.old) (known seat.new)) (moved V.Vault task.now.name.now vault.old vault.new) }
 {
-    let Said { at, what } = desk.pin(rt, seat);
+    let Said { at, what } = task.desk.pin(task.rt, seat);
     match what {
         Ok(pin) => Said {
             at,
-            what: write_and_let_go(
-                rt, alloc, desk, seat, vault, name, pin, batch, frames, bytes,
-            ),
+            what: write_and_let_go(task, seat, vault, pin, frames, bytes),
         },
         Err(reason) => Said {
             at,
@@ -212,7 +187,7 @@ fn write_current<R: Threads + Wait + Sync, S: Store, V: Vault>(
 /// while the next are loaded, and then written to the vault. A last turn lets the pin go. So the file is the mix of the
 /// project as it was at the commit number that is said, whatever others do before the file is whole.
 ///
-/// Memory is taken for `batch` frames, their bytes, and the cells of the tracks, twice. It does not grow with the
+/// Memory is taken for `batch` frames, their bytes, and the samples of the tracks, twice. It does not grow with the
 /// length of the mix.
 ///
 /// # Errors
@@ -221,30 +196,22 @@ fn write_current<R: Threads + Wait + Sync, S: Store, V: Vault>(
 /// anything is written; those of [`Desk::load_pin`]; `VaultFault`, also where the next load was refused. After each
 /// but `NoPin` and `Spent` the pin is let go. The sound is as it was, or holds the first bytes of the file.
 pub fn bounce<R: Threads + Wait + Sync, S: Store, V: Vault>(
-    rt: &R,
-    alloc: Global,
-    desk: &Desk<S, V>,
+    task: &Task<R, S, V>,
     seat: &mut DeskSeat<S, V>,
     vault: &mut V,
-    name: &str,
-    batch: usize,
 ) -> Said<u64>
-    requires seat { IsAt desk.now seat.old }
-    requires some { 0 < batch }
-    requires batch { batch ≤ MAX_LOADED }
-    ensures same { IsAt desk.now seat.new }
-    ensures bounced { Bounced (origin S.Store V.Vault (start_at desk.now)) batch result
-        (views (known seat.old) (known seat.new)) (moved V.Vault name.now vault.old vault.new) }
+    requires seat { IsAt task.now.desk.now seat.old }
+    requires some { 0 < task.now.batch }
+    requires batch { task.now.batch ≤ MAX_LOADED }
+    ensures same { IsAt task.now.desk.now seat.new }
+    ensures bounced { Bounced (origin S.Store V.Vault (start_at task.now.desk.now)) task.now.batch result
+        (views (known seat.old) (known seat.new)) (moved V.Vault task.now.name.now vault.old vault.new) }
 {
-    match Buffers::new(alloc, batch) {
+    match Buffers::new(task.alloc, task.batch) {
         Ok(mut buffers) => write_current(
-            rt,
-            alloc,
-            desk,
+            task,
             seat,
             vault,
-            name,
-            batch,
             buffers.frames.as_mut_slice(),
             buffers.bytes.as_mut_slice(),
         ),

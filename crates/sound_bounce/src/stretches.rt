@@ -17,13 +17,13 @@ ghost use Rattle.sound_bounce.specs.Bounces.{
   moved,
 };
 
-use super::beside::write_and_load;
+use super::beside::mix_and_load;
+use super::task::{Mix, Part, Step, Task};
 use disk_model::Store;
 use edit_ports::Vault;
 use mix_threads::mix_loaded;
 use mixdown::Loaded;
 use pcm_base::{Failed, Frame, Refusal, Said};
-use std::alloc::Global;
 use std::mem;
 use std::sync::Wait;
 use std::thread::Threads;
@@ -82,19 +82,18 @@ pub(crate) fn load_stretch<R: Wait, S: Store, V: Vault>(
     rt: &R,
     desk: &Desk<S, V>,
     seat: &mut DeskSeat<S, V>,
-    pin: u64,
-    from: u64,
-    batch: usize,
+    part: Part,
     loaded: &mut Loaded,
 ) -> Result<(), Refusal>
     requires seat { IsAt desk.now seat.old }
-    requires batch { batch ≤ MAX_LOADED }
-    requires few { from + batch < 2 ^ 64 }
+    requires batch { part.batch ≤ MAX_LOADED }
+    requires few { part.from + part.batch < 2 ^ 64 }
     ensures same { IsAt desk.now seat.new }
     ensures load { MatchResult result
-        (λ _. LoadsNext pin batch from loaded.new (views (known seat.old) (known seat.new)))
-        (λ why. NextRefused pin batch from why (views (known seat.old) (known seat.new))) }
+        (λ _. LoadsNext part.pin part.batch part.from loaded.new (views (known seat.old) (known seat.new)))
+        (λ why. NextRefused part.pin part.batch part.from why (views (known seat.old) (known seat.new))) }
 {
+    let Part { pin, from, batch } = part;
     let Said { at: _, what } = desk.load_pin(rt, seat, pin, from, batch, loaded);
     match what {
         Ok(_) => Ok(()),
@@ -107,46 +106,48 @@ pub(crate) fn load_stretch<R: Wait, S: Store, V: Vault>(
 /// failed.
 /// It ends whatever the turns are answered, as no more than [`COUNTER_LIMIT`](pcm_base::COUNTER_LIMIT) turns are taken.
 pub(crate) fn write_stretches<R: Threads + Wait + Sync, S: Store, V: Vault>(
-    rt: &R,
-    alloc: Global,
-    desk: &Desk<S, V>,
+    task: &Task<R, S, V>,
     seat: &mut DeskSeat<S, V>,
     vault: &mut V,
-    name: &str,
-    pin: u64,
-    len: u64,
-    batch: usize,
+    mix: Mix,
     frames: &mut [Frame],
     bytes: &mut [u8],
 ) -> Result<(), Refusal>
-    requires seat { IsAt desk.now seat.old }
-    requires batch { batch ≤ MAX_LOADED }
-    requires few { len ≤ MAX_FRAMES }
-    requires frames { length frames.old ≡ batch }
-    requires bytes { 64 + 4 * batch ≤ length bytes.old }
-    requires there { IsTrue (V.tells vault.old) → IsThere (V.holds vault.old name.now) }
-    ensures same { IsAt desk.now seat.new }
-    ensures loads { LoadsDone pin batch len result (views (known seat.old) (known seat.new))
-        (moved V.Vault name.now vault.old vault.new) }
+    requires seat { IsAt task.now.desk.now seat.old }
+    requires batch { task.now.batch ≤ MAX_LOADED }
+    requires few { mix.len ≤ MAX_FRAMES }
+    requires frames { length frames.old ≡ task.now.batch }
+    requires bytes { 64 + 4 * task.now.batch ≤ length bytes.old }
+    requires there { IsTrue (V.tells vault.old) → IsThere (V.holds vault.old task.now.name.now) }
+    ensures same { IsAt task.now.desk.now seat.new }
+    ensures loads { LoadsDone mix.pin task.now.batch mix.len result (views (known seat.old) (known seat.new))
+        (moved V.Vault task.now.name.now vault.old vault.new) }
 {
+    let Mix { pin, len } = mix;
     if len == 0 {
         return Ok(());
     }
-    let mut loaded = Loaded::new(alloc);
-    match load_stretch(rt, desk, seat, pin, 0, batch, &mut loaded) {
+    let batch = task.batch;
+    let desk = task.desk;
+    let mut loaded = Loaded::new(task.alloc);
+    let mut from = 0;
+    match load_stretch(task.rt, desk, seat, Part { pin, from, batch }, &mut loaded) {
         Ok(()) => {}
         Err(reason) => return Err(reason),
     }
-    let mut next = Loaded::new(alloc);
-    let mut to = loaded.len as u64;
-    'stretches: while to < len {
-        let (wrote, what) = write_and_load(
-            rt, desk, seat, vault, name, pin, to, batch, &loaded, &mut next, frames, bytes,
-        );
+    let mut next = Loaded::new(task.alloc);
+    from = loaded.len as u64;
+    'stretches: while from < len {
+        let step = Step {
+            mixes: &loaded,
+            loads: Part { pin, from, batch },
+        };
+        let what = mix_and_load(task.rt, desk, seat, step, &mut next, frames);
+        let wrote = append_mixed(vault, task.name, &loaded, frames, bytes);
         match wrote {
             Ok(()) => match what {
                 Ok(()) => {
-                    to += next.len as u64;
+                    from += next.len as u64;
                     mem::swap(&mut loaded, &mut next);
                 }
                 Err(reason) => return Err(reason),
@@ -154,7 +155,7 @@ pub(crate) fn write_stretches<R: Threads + Wait + Sync, S: Store, V: Vault>(
             Err(_) => return Err(Refusal::VaultFault),
         }
     }
-    match write_loaded(rt, vault, name, &loaded, frames, bytes) {
+    match write_loaded(task.rt, vault, task.name, &loaded, frames, bytes) {
         Ok(()) => Ok(()),
         Err(_) => Err(Refusal::VaultFault),
     }

@@ -57,21 +57,33 @@ pub(crate) fn giver(items: Vec<Frame>, refuses_from: u64) -> MemGiver
     }
 }
 
+// What the four workers read and write.
+#[derive(Drop)]
+struct Ends {
+    mic: MemSource,
+    taker: MemTaker,
+    giver: MemGiver,
+    speaker: MemSink,
+}
+
 // Records and plays over new rings.
 fn run<R: Threads + Wait + Sync, G: Gate + Sync>(
     rt: &R,
     alloc: Global,
     gate: &G,
-    mic: MemSource,
-    taker: MemTaker,
-    giver: MemGiver,
-    speaker: MemSink,
+    ends: Ends,
 ) -> Option<(Recording, Playing)>
-    requires taker { taker.refused ≡ None }
-    requires giver { giver.refused ≡ None }
-    ensures taker { IfSome result (λ r. r.0.taker.most ≡ taker.most) }
-    ensures giver { IfSome result (λ r. r.1.giver.items.items ≡ giver.items.items) }
+    requires taker { ends.taker.refused ≡ None }
+    requires giver { ends.giver.refused ≡ None }
+    ensures taker { IfSome result (λ r. r.0.taker.most ≡ ends.taker.most) }
+    ensures giver { IfSome result (λ r. r.1.giver.items.items ≡ ends.giver.items.items) }
 {
+    let Ends {
+        mic,
+        taker,
+        giver,
+        speaker,
+    } = ends;
     let Ok(chunks) = RecordRing::new(alloc) else {
         return None;
     };
@@ -154,10 +166,12 @@ fn all_is_recorded_and_played(rt: HostRuntime) -> Result<(), Fail> {
         &rt,
         alloc,
         &HoldingGate::new(),
-        MemSource::new(bytes, 100, Numbers::new(Vec::new(alloc))),
-        taker(alloc, 1000),
-        giver(frames, u64::MAX),
-        MemSink::new(alloc, 1 << 20, 13, Numbers::new(Vec::new(alloc)))?,
+        Ends {
+            mic: MemSource::new(bytes, 100, Numbers::new(Vec::new(alloc))),
+            taker: taker(alloc, 1000),
+            giver: giver(frames, u64::MAX),
+            speaker: MemSink::new(alloc, 1 << 20, 13, Numbers::new(Vec::new(alloc)))?,
+        },
     );
     let (recorded, played) = ran.expect(&rt, "memory");
     let got = taken_samples(alloc, &recorded.taker.taken)?;
@@ -180,14 +194,16 @@ fn recorder_and_player_overlap(rt: HostRuntime) -> Result<(), Fail> {
         &rt,
         alloc,
         &MeetingGate::new(8),
-        MemSource::new(
-            some_bytes(alloc, 8000)?,
-            8000,
-            Numbers::new(Vec::new(alloc)),
-        ),
-        taker(alloc, 1000),
-        giver(frames, u64::MAX),
-        MemSink::new(alloc, 1 << 20, 8000, Numbers::new(Vec::new(alloc)))?,
+        Ends {
+            mic: MemSource::new(
+                some_bytes(alloc, 8000)?,
+                8000,
+                Numbers::new(Vec::new(alloc)),
+            ),
+            taker: taker(alloc, 1000),
+            giver: giver(frames, u64::MAX),
+            speaker: MemSink::new(alloc, 1 << 20, 8000, Numbers::new(Vec::new(alloc)))?,
+        },
     );
     let (recorded, played) = ran.expect(&rt, "memory");
     assert!(rt; recorded.samples == 4000);
@@ -222,10 +238,12 @@ fn faults_and_refusals_end_each(rt: HostRuntime) -> Result<(), Fail> {
         &rt,
         alloc,
         &OpenGate,
-        MemSource::new(bytes, 100, Numbers::new([15u64].to_vec(alloc)?)),
-        taker(alloc, 2),
-        giver(frames, 2048),
-        MemSink::new(alloc, 1001, 13, Numbers::new(Vec::new(alloc)))?,
+        Ends {
+            mic: MemSource::new(bytes, 100, Numbers::new([15u64].to_vec(alloc)?)),
+            taker: taker(alloc, 2),
+            giver: giver(frames, 2048),
+            speaker: MemSink::new(alloc, 1001, 13, Numbers::new(Vec::new(alloc)))?,
+        },
     );
     let (recorded, played) = ran.expect(&rt, "memory");
     let got = taken_samples(alloc, &recorded.taker.taken)?;

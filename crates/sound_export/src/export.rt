@@ -1,30 +1,30 @@
 // A mix is written to a vault.
 ghost use Rattle.std.specs.Prelude.{◌≡◌, ◌≤◌, ◌<◌, ◌+◌, ◌*◌, length, Some, Err, IsTrue, OnOk, OnErr, IfOk, IfErr};
-ghost use Rattle.pcm_base.specs.declared.limits.TheConstants.{MAX_CELLS, MAX_TRACKS};
 ghost use Rattle.pcm_base.specs.Mix.{mix_of};
 ghost use Rattle.pcm_base.specs.Wave.{wav_text};
 ghost use Rattle.pcm_base.specs.Outside.{SameElsewhere};
 ghost use Rattle.project_state.specs.Meaning.{meant, point_blocks};
 ghost use Rattle.sample_block.specs.Sources.{sources_of, AllNamed, AllWhole};
 ghost use Rattle.wav_pcm.specs.Written.{MayBegin};
-ghost use Rattle.block_cache.specs.Readers.{Reads};
+ghost use Rattle.block_cache.specs.Readers.{Hits, Reads};
+ghost use Rattle.mix_reader.specs.Heard.{HasHeard};
 ghost use Rattle.mix_reader.specs.Tracks.{mix_length_of, stored_mix};
 ghost use Rattle.sound_export.specs.declared.fault.ExportFault.TheVariants as fault;
 ghost use Rattle.sound_export.specs.Written.{ExportCounted, IsLengthFault, IsNoDamage, disk_part};
 
+use super::buffers::MixBuffers;
 use super::fault::{ExportFault, start_fault};
 use super::stretch::append_mix;
 use block_cache::BlockReader;
 use disk_model::Store;
 use edit_ports::Vault;
 use mix_reader::mix_len;
-use pcm_base::{Cell, Frame};
 use project_state::Point;
 use wav_pcm::start_wav;
 
 /// Writes the mix of a point's tracks to a vault as a WAV file, and answers how many bytes it has. The length is tested
 /// before anything is written. Then the header is written, and frames are read, mixed and appended a stretch at a
-/// time, as many as `frames` has room for. Their bytes are written by `bytes`. After an error the sound is as it was,
+/// time, as many as `buffers` has room for. Their bytes are written by `bytes`. After an error the sound is as it was,
 /// or holds the first bytes of the file.
 pub fn write_mix<S: Store, V: Vault>(
     reader: &mut BlockReader<S>,
@@ -32,16 +32,15 @@ pub fn write_mix<S: Store, V: Vault>(
     name: &str,
     point: &Point,
     rate: u32,
-    cells: &mut [Cell],
-    frames: &mut [Frame],
+    buffers: &mut MixBuffers,
     bytes: &mut [u8],
 ) -> Result<u64, ExportFault>
     requires named { AllNamed (point_blocks point.now) }
-    requires cells { MAX_TRACKS ≤ length cells.old }
-    requires some { 0 < length frames.old }
     requires bytes { 64 ≤ length bytes.old }
-    requires few_frames { length frames.old ≤ MAX_CELLS }
     ensures reads { Reads (point_blocks point.now) reader.old reader.new (disk_part result) }
+    // Where the cache has all pages of the tracks that are heard, the disk refuses nothing and is asked nothing.
+    ensures hit { Hits (HasHeard reader.old.cache 0 (mix_length_of point.now) point.now) reader.old reader.new
+        (disk_part result) }
     ensures written { IsTrue (V.tells vault.old) → IsTrue (S.tells reader.old.store) → OnOk result
         (V.holds vault.new name.now ≡ Some (wav_text (stored_mix (S.reads reader.old.store) point.now) rate)) }
     ensures size { IfOk result (λ n. n ≡ 44 + 4 * mix_length_of point.now) }
@@ -67,6 +66,6 @@ pub fn write_mix<S: Store, V: Vault>(
     if let Err(why) = start_wav(vault, name, len, rate, bytes) {
         return Err(start_fault(why));
     }
-    append_mix(reader, vault, name, point, len, cells, frames, bytes)?;
+    append_mix(reader, vault, name, point, buffers, bytes)?;
     Ok(44 + 4 * len)
 }

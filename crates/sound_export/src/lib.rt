@@ -5,9 +5,11 @@
 //! as it was, or holds the first bytes of that file. No memory is taken: the buffers are handed in.
 #![tactic(auto)]
 
+mod buffers;
 mod export;
 mod fault;
 mod stretch;
 
+pub use buffers::MixBuffers;
 pub use export::write_mix;
 pub use fault::ExportFault;

@@ -1,50 +1,49 @@
 // Frames of a mix, appended to a sound a stretch at a time.
 ghost use Rattle.std.specs.Prelude.{◌≡◌, ◌≤◌, ◌<◌, ◌+◌, ◌-◌, ◌*◌, ◌^◌, ◌++◌, ℕ, length, take, drop, min, Some, IsTrue};
 ghost use Rattle.std.specs.Prelude.{OnOk, OnErr, IfOk, IfErr};
-ghost use Rattle.pcm_base.specs.declared.limits.TheConstants.{MAX_CELLS, MAX_TRACKS};
-ghost use Rattle.pcm_base.specs.Pieces.{Sources};
-ghost use Rattle.pcm_base.specs.Mix.{mix_length};
 ghost use Rattle.pcm_base.specs.Outside.{SameElsewhere};
 ghost use Rattle.edit_ports.specs.Sounds.{sound_bytes, MayHaveGrown};
-ghost use Rattle.project_state.specs.Meaning.{meant, point_blocks};
+ghost use Rattle.project_state.specs.Meaning.{point_blocks};
 ghost use Rattle.sample_block.specs.Sources.{AllNamed};
-ghost use Rattle.block_cache.specs.Readers.{Reads};
+ghost use Rattle.block_cache.specs.Readers.{Hits, Reads};
+ghost use Rattle.mix_reader.specs.Heard.{HasHeard};
 ghost use Rattle.mix_reader.specs.Readers.{IsReader};
 ghost use Rattle.mix_reader.specs.Tracks.{mix_length_of, stored_mix};
 ghost use Rattle.pcm_base.specs.Recordings.{frame_bytes};
 ghost use Rattle.wav_pcm.specs.Written.{IsThere};
+ghost use Rattle.sound_export.specs.declared.buffers.TheConstants.{MIX_FRAMES};
 ghost use Rattle.sound_export.specs.Written.{ExportCounted, IsOfDevice, disk_part};
 
+use super::buffers::MixBuffers;
 use super::fault::ExportFault;
 use block_cache::BlockReader;
 use disk_model::Store;
 use edit_ports::Vault;
-use mix_reader::MixReader;
-use pcm_base::{Cell, Frame};
+use mix_reader::{MixReader, mix_len};
 use project_state::Point;
 use wav_pcm::append_frames;
 
-/// Appends the next frames of a mix to a sound that is there, as many as are left and as fit into `frames`, and answers
-/// how many.
+/// Appends the next frames of a mix to a sound that is there, as many as are left and as there is room for, and
+/// answers how many.
 fn append_stretch<'a, S: Store, V: Vault>(
     reader: &mut BlockReader<S>,
     vault: &mut V,
     name: &str,
     mix: &mut MixReader<'a>,
-    cells: &mut [Cell],
-    frames: &mut [Frame],
+    buffers: &mut MixBuffers,
     bytes: &mut [u8],
 ) -> Result<usize, ExportFault>
     requires reader { IsReader mix.old }
-    requires cells { MAX_TRACKS ≤ length cells.old }
     requires bytes { 64 ≤ length bytes.old }
-    requires few { mix.old.at + length frames.old < 2 ^ 64 }
-    ensures count { IfOk result
-        (λ n. n ≡ min (length frames.old) (mix_length_of mix.old.point.now - mix.old.at)) }
+    requires left { mix.old.at ≤ mix_length_of mix.old.point.now }
+    requires few { mix.old.at + MIX_FRAMES < 2 ^ 64 }
+    ensures count { IfOk result (λ n. n ≡ min MIX_FRAMES (mix_length_of mix.old.point.now - mix.old.at)) }
     ensures place { IfOk result (λ n. mix.new.at ≡ mix.old.at + n) }
     ensures reader { IsReader mix.new }
     ensures point { mix.new.point.now ≡ mix.old.point.now }
     ensures reads { Reads (point_blocks mix.old.point.now) reader.old reader.new (disk_part result) }
+    ensures hit { Hits (HasHeard reader.old.cache mix.old.at (mix_length_of mix.old.point.now) mix.old.point.now)
+        reader.old reader.new (disk_part result) }
     ensures appended { IsTrue (V.tells vault.old) → IsTrue (S.tells reader.old.store)
         → IsThere (V.holds vault.old name.now)
         → IfOk result (λ n. V.holds vault.new name.now ≡ Some (sound_bytes (V.holds vault.old name.now)
@@ -60,35 +59,30 @@ fn append_stretch<'a, S: Store, V: Vault>(
     ensures device { IfErr result (λ e. IsOfDevice e) }
     ensures faults { ExportCounted result (V.fault_count vault.old) (V.fault_count vault.new) }
 {
-    let count = mix.read(reader, cells, frames)?;
+    let MixBuffers { samples, frames } = buffers;
+    let count = mix.read(reader, samples, frames)?;
     if let Err(_) = append_frames(vault, name, &frames[..count], bytes) {
         return Err(ExportFault::VaultFault);
     }
     Ok(count)
 }
 
-/// Appends all frames of the mix, `len` of them, to a sound that is there, in one pass over the tracks.
+/// Appends all frames of the mix to a sound that is there, in one pass over the tracks.
 pub(crate) fn append_mix<S: Store, V: Vault>(
     reader: &mut BlockReader<S>,
     vault: &mut V,
     name: &str,
     point: &Point,
-    len: u64,
-    cells: &mut [Cell],
-    frames: &mut [Frame],
+    buffers: &mut MixBuffers,
     bytes: &mut [u8],
 ) -> Result<(), ExportFault>
     requires named { AllNamed (point_blocks point.now) }
-    requires len { len ≡ mix_length_of point.now }
-    requires mix { (src : Sources) → mix_length (meant src point.now) ≡ len }
-    requires few { len ≤ MAX_CELLS }
     requires there { IsTrue (V.tells vault.old)
         → V.holds vault.old name.now ≡ Some (sound_bytes (V.holds vault.old name.now)) }
-    requires cells { MAX_TRACKS ≤ length cells.old }
-    requires some { 0 < length frames.old }
     requires bytes { 64 ≤ length bytes.old }
-    requires few_frames { length frames.old ≤ MAX_CELLS }
     ensures reads { Reads (point_blocks point.now) reader.old reader.new (disk_part result) }
+    ensures hit { Hits (HasHeard reader.old.cache 0 (mix_length_of point.now) point.now) reader.old reader.new
+        (disk_part result) }
     ensures appended { IsTrue (V.tells vault.old) → IsTrue (S.tells reader.old.store)
         → OnOk result (V.holds vault.new name.now ≡ Some (sound_bytes (V.holds vault.old name.now)
         ++ frame_bytes (stored_mix (S.reads reader.old.store) point.now))) }
@@ -100,9 +94,10 @@ pub(crate) fn append_mix<S: Store, V: Vault>(
     ensures device { IfErr result (λ e. IsOfDevice e) }
     ensures faults { ExportCounted result (V.fault_count vault.old) (V.fault_count vault.new) }
 {
+    let len = mix_len(point);
     let mut mix = MixReader::new(point, 0);
     'stretches: while mix.at < len {
-        if let Err(fault) = append_stretch(reader, vault, name, &mut mix, cells, frames, bytes) {
+        if let Err(fault) = append_stretch(reader, vault, name, &mut mix, buffers, bytes) {
             return Err(fault);
         }
     }

@@ -1,10 +1,10 @@
 -- What deeds ask of the disk, one after another.
-use Rattle.std.proofs.Common.{sym, subst, List, [], ◌∷◌}
-use Rattle.disk_model.specs.{Frames.Changed, Room.Room, declared.store.Store.Ghosts}
+use Rattle.studio_seats.proofs.Common.{sym, subst, List, [], ◌∷◌, Ghosts, Core, IsStudio, Deed, Chain}
+use Rattle.disk_model.specs.{Frames.Changed, Room.Room}
 use Rattle.disk_model.proofs.{Frames.Fewer, Frames.changed_none, Frames.changed_turn, Rooms.within_refl}
-use Rattle.editor_state.specs.{Core.Core, Left.LeavesForeign, Studios.IsStudio}
+use Rattle.editor_state.specs.{Left.LeavesForeign}
 use Rattle.editor_state.proofs.Calls.OtherFiles.{foreign_of, foreign_same, foreign_then}
-use Rattle.studio_seats.specs.{declared.deed.Deed.Deed, Leads.DeedsAsk, Leads.chain_asks, Stands.Chain}
+use Rattle.studio_seats.specs.{Leads.DeedsAsk, Leads.chain_asks}
 use Rattle.edit_ports.specs.declared.vault.Vault as vault
 
 module _ {D V : Type 0} (disk : Ghosts D) (vaults : vault.Ghosts V) (fewer : (store : D) → Fewer disk store) where

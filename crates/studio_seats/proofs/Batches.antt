@@ -1,13 +1,13 @@
 -- The samples of several chunks, put together.
-use Rattle.std.proofs.Common.{◌≡◌, ◌⊎◌, inl, inr, ℕ, zero, suc, ◌+◌, ◌-◌, ◌*◌, ◌<◌, ◌≤◌, ℤ, List, [], ◌∷◌, ◌++◌, length}
-use Rattle.std.proofs.Common.{take, drop, get_or, map, Result, Ok, Err, refl, sym, ◌∙◌, ap, subst, arith}
-use Rattle.std.proofs.lemmas.List.{length-append, length-drop, length-map, length-take-le, take_all, take-map}
-use Rattle.std.proofs.lemmas.List.{take-take, take_more, take-append-drop, map-append}
+use Rattle.studio_seats.proofs.Common.{◌≡◌, ◌⊎◌, inl, inr, ℕ, zero, suc, ◌+◌, ◌-◌, ◌*◌, ◌<◌, ◌≤◌, ℤ, List, [], ◌∷◌}
+use Rattle.studio_seats.proofs.Common.{◌++◌, length, take, drop, map, Result, Ok, Err, refl, sym, ◌∙◌, ap, subst, arith}
+use Rattle.studio_seats.proofs.Common.{length-append, length-map, length-take-le, IfErr, IfOk, MatchResult, OnOk}
+use Rattle.studio_seats.proofs.Common.{is_err, parts_of, pieces_in, pieces_of, Part, Refusal, AreTaken, numbered_pieces}
+use Rattle.studio_seats.proofs.Common.{samples_of}
+use Rattle.std.proofs.Common.{get_or}
+use Rattle.std.proofs.lemmas.List.{length-drop, take_all, take-map, take-take, take_more, take-append-drop, map-append}
 use Rattle.std.proofs.lemmas.Slice.{drop-put_mid, take-put_mid}
-use Rattle.std.specs.Prelude.{IfErr, IfOk, MatchResult, OnOk, is_err}
-use Rattle.pcm_base.specs.Recordings.{parts_of, pieces_in, pieces_of}
-use Rattle.pcm_base.specs.{Parts.Part, declared.refusal.Refusal.Refusal}
-use Rattle.edit_ports.specs.{Answers.AreTaken, Answers.numbered_pieces, Answers.samples_of, declared.pieces.Taken.Taken}
+use Rattle.edit_ports.specs.{declared.pieces.Taken.Taken}
 use Rattle.pcm_base.proofs.ListFacts.{parts_append}
 use borrow.Rule.Slice.PartMut.{put_mid}
 
@@ -80,10 +80,13 @@ pub record FirstOf (chunks : List Part) (samples : List ℤ) (count most : ℕ) 
   pub few : count ≤ most
 
 -- of all that were joined, or of the first chunk alone
-pub tried_first : (chunks : List Part) (xs : List ℤ) (n count most : ℕ) → length xs ≡ n
-    → pieces_of xs ≡ take (pieces_in n) (samples_of chunks) → pieces_in n ≤ length chunks → pieces_in n ≤ most
-    → (count ≡ length xs) ⊎ ((count ≡ 256) × (256 < length xs)) → FirstOf chunks (take count xs) (pieces_in count) most
-tried_first chunks xs n count most len are known few (inl all) =
+pub tried_first : (chunks : List Part) (batch : List ℤ) (n count most : ℕ) → n ≤ length batch
+    → pieces_of (take n batch) ≡ take (pieces_in n) (samples_of chunks) → pieces_in n ≤ length chunks
+    → pieces_in n ≤ most → (count ≡ length (take n batch)) ⊎ ((count ≡ 256) × (256 < length (take n batch)))
+    → FirstOf chunks (take count (take n batch)) (pieces_in count) most
+tried_first chunks batch n count most wide are known few (inl all) =
+    let xs : List ℤ = take n batch in
+    let len : length xs ≡ n = length-take-le n batch wide in
     let same : take count xs ≡ xs = take_all count xs (omega (arith, all)) in
     let is : pieces_in n ≡ pieces_in count = ap pieces_in (sym len ∙ sym all) in record {
       many = ap (λ (l : List ℤ). pieces_in (length l)) same ∙ ap pieces_in (sym all);
@@ -91,7 +94,9 @@ tried_first chunks xs n count most len are known few (inl all) =
       known = omega (arith, known, is);
       few = omega (arith, few, is);
     }
-tried_first chunks xs n count most len are known few (inr (is, more)) =
+tried_first chunks batch n count most wide are known few (inr (is, more)) =
+    let xs : List ℤ = take n batch in
+    let len : length xs ≡ n = length-take-le n batch wide in
     let first : List ℤ = take 256 xs in
     let cut : take count xs ≡ first = ap (λ (m : ℕ). take m xs) is in
     let long : length first ≡ 256 = length-take-le 256 xs (omega (arith, more)) in

@@ -1,16 +1,9 @@
 -- One call of a seat, and the own deed that it is.
-use Rattle.std.proofs.Common.{◌≡◌, ◌⊎◌, inl, inr, ⊎_elim, ℕ, ◌+◌, ◌<◌, true, false, List, [], ◌∷◌, ◌++◌, length}
-use Rattle.std.proofs.Common.{append_assoc, refl, sym, ◌∙◌, ap, arith, Result, Ok, Err}
-use Rattle.std.proofs.{lemmas.Bool.true≢false, lemmas.List.length-append}
-use Rattle.pcm_base.specs.{declared.answer.Reply.Reply, declared.command.Call.Call}
-use Rattle.pcm_base.specs.{declared.limits.TheConstants.COUNTER_LIMIT, declared.refusal.Refusal.Refusal}
-use Rattle.pcm_base.specs.{declared.said.Said.Said}
-use Rattle.disk_model.specs.declared.store.Store.{Ghosts}
-use Rattle.pin_turn.specs.declared.view.View.{View}
-use Rattle.editor_state.specs.{Core.Core, Took.silent}
-use Rattle.studio_seats.specs.Desks.{Says, Spends, Turned, asked, spent, views}
-use Rattle.studio_seats.specs.{declared.deed.Deed.Deed, declared.held.Held.Held, Deeds.deed, Deeds.number_after}
-use Rattle.studio_seats.specs.{Merge.by_seat, Merge.deeds_of, Onward.Onward, Stands.origin}
+use Rattle.studio_seats.proofs.Common.{◌≡◌, ◌⊎◌, inl, inr, ⊎_elim, ℕ, ◌+◌, ◌<◌, true, false, List, [], ◌∷◌, ◌++◌}
+use Rattle.studio_seats.proofs.Common.{length, append_assoc, refl, sym, ◌∙◌, ap, arith, Result, Ok, Err, true≢false}
+use Rattle.studio_seats.proofs.Common.{length-append, Reply, Call, COUNTER_LIMIT, Refusal, Said, Ghosts, View, Core}
+use Rattle.studio_seats.proofs.Common.{silent, Says, Spends, Turned, asked, spent, views, Deed, Held, deed}
+use Rattle.studio_seats.proofs.Common.{number_after, by_seat, deeds_of, Onward, origin}
 use Rattle.studio_seats.proofs.OnwardLemmas.{onward_self, onward_spent, onward_taken}
 use Rattle.studio_seats.proofs.{MergeLemmas.deeds_append, Turns.turned_number, WorkLemmas.own_turn}
 use Rattle.edit_ports.specs.declared.vault.Vault as vault

@@ -1,9 +1,6 @@
 -- Deeds one after another.
-use Rattle.std.proofs.Common.{refl, subst, List, [], ◌∷◌, ◌++◌}
-use Rattle.disk_model.specs.declared.store.Store.{Ghosts}
-use Rattle.editor_state.specs.{Core.Core, Studios.IsStudio}
-use Rattle.studio_seats.specs.declared.deed.Deed.{Deed}
-use Rattle.studio_seats.specs.Stands.{AllTell, Chain, Does, Origin, StandsFor}
+use Rattle.studio_seats.proofs.Common.{refl, subst, List, [], ◌∷◌, ◌++◌, Ghosts, Core, IsStudio, Deed, AllTell, Chain}
+use Rattle.studio_seats.proofs.Common.{Does, Origin, StandsFor}
 use Rattle.edit_ports.specs.declared.vault.Vault as vault
 
 module _ {D V : Type 0} (disk : Ghosts D) (vaults : vault.Ghosts V) where

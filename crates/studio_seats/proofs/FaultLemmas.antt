@@ -1,16 +1,11 @@
 -- Counts of faults along a run.
-use Rattle.std.proofs.Common.{◌≡◌, ◌⊎◌, inl, inr, sym, ap, ◌∙◌, subst, ℕ, ◌≤◌, IsTrue, None, List, [], ◌∷◌, Result, Ok}
-use Rattle.std.proofs.Common.{Err, arith}
-use Rattle.std.specs.Prelude.{IfErr}
-use Rattle.pcm_base.specs.Run.{Answers, Breaks, ChangeFailed, ReadFailed, Run, may_change, outside, result_of}
-use Rattle.pcm_base.specs.{declared.answer.Reply.Reply, declared.command.Call.Call, declared.entry.Entry.Entry}
-use Rattle.pcm_base.specs.{declared.entry.SoundMove.SoundMove, declared.refusal.Refusal.Refusal, Causes.Rose}
-use Rattle.pin_turn.specs.Counts.{Each}
-use Rattle.disk_model.specs.declared.store.Store.{Ghosts}
-use Rattle.editor_state.specs.{Applied.reply_of, Studios.studio_of}
-use Rattle.model_laws.proofs.Answered.{carried_is}
-use Rattle.studio_seats.specs.Faults.{AreServed, DesksServe, IsCalm, IsServed, Serves}
-use Rattle.studio_seats.specs.{declared.deed.Deed.Deed, Deeds.entries_of, Stands.origin}
+use Rattle.studio_seats.proofs.Common.{◌≡◌, ◌⊎◌, inl, inr, sym, ap, ◌∙◌, subst, ℕ, ◌≤◌, IsTrue, None, List, [], ◌∷◌}
+use Rattle.studio_seats.proofs.Common.{Result, Ok, Err, arith, IfErr, Answers, Run, outside, result_of, Reply, Call}
+use Rattle.studio_seats.proofs.Common.{Entry, SoundMove, Refusal, Each, Ghosts, reply_of, studio_of, carried_is}
+use Rattle.studio_seats.proofs.Common.{IsServed, Deed, entries_of, origin}
+use Rattle.pcm_base.specs.Run.{Breaks, ChangeFailed, ReadFailed, may_change}
+use Rattle.pcm_base.specs.{Causes.Rose}
+use Rattle.studio_seats.specs.Faults.{AreServed, DesksServe, IsCalm, Serves}
 use Rattle.studio_seats.proofs.{Grown.leads, TestFaults.Tells, TestFaults.served_test, TestFaults.tested}
 use Rattle.pcm_base.specs.declared.refusal.Refusal.TheVariants as refusal
 use Rattle.pcm_base.specs.Studio as model

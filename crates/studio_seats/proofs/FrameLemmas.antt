@@ -1,20 +1,14 @@
 -- The frames of a pin, turn by turn.
-use Rattle.std.proofs.Common.{◌≡◌, ⊎_elim, ℕ, Bool, true, false, List, [], ◌∷◌, ◌++◌, length, take, drop, Option, Some}
-use Rattle.std.proofs.Common.{if◌then◌else◌, refl, sym, ◌∙◌, ap, subst, append_assoc, eq-eqb, rules, Result, Ok, Err}
-use Rattle.std.proofs.lemmas.List.{append-nil}
-use Rattle.std.specs.Prelude.{IfOk, IsTrue}
-use Rattle.pcm_base.specs.declared.answer.Reply.TheVariants.{Frames, Pinned}
-use Rattle.pcm_base.specs.declared.command.Call.TheVariants.{Pin, ReadPin}
-use Rattle.pcm_base.specs.State.{State, current}
-use Rattle.pcm_base.specs.{declared.answer.Reply.Reply, declared.entry.Entry.Entry, declared.refusal.Refusal.Refusal}
-use Rattle.pcm_base.specs.{declared.said.Said.Said, declared.sound.Frame.Frame, Mix.mix_of}
-use Rattle.disk_model.specs.declared.store.Store.{Ghosts}
-use Rattle.pin_turn.specs.declared.view.View.{View}
-use Rattle.editor_state.specs.{Core.Core, Studios.studio_of, Took.silent, Took.as_reply}
-use Rattle.studio_seats.specs.Deeds.{deed, entries_of, entry_of}
-use Rattle.studio_seats.specs.Desks.{Says, Spends, Turned, asked, views}
-use Rattle.studio_seats.specs.Pins.{after_entry, is_made, makes_pin, pin_frames}
-use Rattle.studio_seats.specs.{declared.deed.Deed.Deed, declared.held.Held.Held, Shows.IsMixOf, Stands.origin}
+use Rattle.studio_seats.proofs.Common.{◌≡◌, ⊎_elim, ℕ, Bool, true, false, List, [], ◌∷◌, ◌++◌, length, take, drop}
+use Rattle.studio_seats.proofs.Common.{Option, Some, if◌then◌else◌, refl, sym, ◌∙◌, ap, subst, append_assoc, eq-eqb}
+use Rattle.studio_seats.proofs.Common.{Result, Ok, Err, append-nil, IfOk, Frames, Pinned, Pin, ReadPin, State, current}
+use Rattle.studio_seats.proofs.Common.{Reply, Entry, Refusal, Said, Frame, mix_of, Ghosts, View, Core, studio_of}
+use Rattle.studio_seats.proofs.Common.{silent, as_reply, deed, entries_of, entry_of, Says, Spends, Turned, asked, views}
+use Rattle.studio_seats.proofs.Common.{after_entry, makes_pin, pin_frames, Deed, Held, origin}
+use Rattle.std.proofs.Common.{rules}
+use Rattle.std.specs.Prelude.{IsTrue}
+use Rattle.studio_seats.specs.Pins.{is_made}
+use Rattle.studio_seats.specs.{Shows.IsMixOf}
 use Rattle.studio_seats.proofs.Grown.{all_told, entries_append, leads}
 use Rattle.studio_seats.proofs.PinLemmas.{frames_on, read_frames, run_shows}
 use Rattle.pcm_base.specs.Studio as model

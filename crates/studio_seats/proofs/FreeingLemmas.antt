@@ -1,13 +1,9 @@
 -- Pieces and the reclaims between them, list by list.
-use Rattle.std.proofs.Common.{◌≡◌, ◌⊎◌, inl, inr, ℕ, ◌==◌, ◌&&◌, if◌then◌else◌, ℤ, Bool, true, false, List, [], ◌∷◌}
-use Rattle.std.proofs.Common.{◌++◌, refl, sym, ◌∙◌, ap, arith}
-use Rattle.std.proofs.lemmas.Bool.Decides.{nat_tests}
-use Rattle.pcm_base.specs.{declared.command.Call.Call, declared.entry.Entry.Entry}
-use Rattle.pin_turn.specs.Counts.{Each}
-use Rattle.studio_seats.specs.Deeds.{entries_of, is_commit, raised_by}
-use Rattle.studio_seats.specs.Freeing.{AreFreed, IsDue, IsFullReclaim, makes_piece, unfreed, unfreed_by}
-use Rattle.studio_seats.specs.{declared.deed.Deed.Deed, Merge.by_seat, Merge.deeds_of, Onward.Asks, Pieces.piece_in}
-use Rattle.studio_seats.specs.{Pieces.pieces_by, Recording.asks_piece}
+use Rattle.studio_seats.proofs.Common.{◌≡◌, ◌⊎◌, inl, inr, ℕ, ◌==◌, ◌&&◌, if◌then◌else◌, ℤ, Bool, true, false, List, []}
+use Rattle.studio_seats.proofs.Common.{◌∷◌, ◌++◌, refl, sym, ◌∙◌, ap, arith, nat_tests, Call, Entry, Each, entries_of}
+use Rattle.studio_seats.proofs.Common.{is_commit, raised_by, AreFreed, IsDue, IsFullReclaim, unfreed, Deed, by_seat}
+use Rattle.studio_seats.proofs.Common.{deeds_of, Asks, piece_in, pieces_by, asks_piece}
+use Rattle.studio_seats.specs.Freeing.{makes_piece, unfreed_by}
 
 pub same_seat : (a b : ℕ) → (a == b) ≡ true → a ≡ b
 same_seat a b h = grind (arith, nat_tests)

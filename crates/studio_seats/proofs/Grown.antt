@@ -1,26 +1,21 @@
 -- A list of deeds that is one longer.
-use Rattle.std.proofs.Common.{◌≡◌, ◌⊎◌, inl, inr, ⊎_elim, refl, sym, ap, ◌∙◌, subst, ℕ, IsSome, Option, Some, None}
-use Rattle.std.proofs.Common.{List, [], ◌∷◌, ◌++◌, append_assoc, Result, Ok, Err}
-use Rattle.std.proofs.{lemmas.List.append-nil, lemmas.Option.none-some}
-use Rattle.std.specs.Prelude.{IfErr}
-use Rattle.pcm_base.specs.Run.{Run, Step, name_in}
-use Rattle.pcm_base.specs.{declared.answer.Reply.Reply, declared.answer.Reply.TheVariants.Refused}
-use Rattle.pcm_base.specs.{declared.command.Call.Call, declared.entry.Entry.Entry, declared.refusal.Refusal.Refusal}
-use Rattle.disk_model.specs.{Disk.Files, MomentLaws.upto_refl, MomentLaws.upto_trans, declared.store.Store.Ghosts}
+use Rattle.studio_seats.proofs.Common.{◌≡◌, ◌⊎◌, inl, inr, ⊎_elim, refl, sym, ap, ◌∙◌, subst, ℕ, IsSome, Option, Some}
+use Rattle.studio_seats.proofs.Common.{None, List, [], ◌∷◌, ◌++◌, append_assoc, Result, Ok, Err, append-nil, none-some}
+use Rattle.studio_seats.proofs.Common.{IfErr, Run, Step, name_in, Reply, Refused, Call, Entry, Refusal, Ghosts, IsHeld}
+use Rattle.studio_seats.proofs.Common.{IsStudio, shown, studio_of, Took, freeing, silent, reply_of, Core, lasts_took}
+use Rattle.studio_seats.proofs.Common.{Each-append, Deed, deed, entry_of, entries_of, number_after, raised_by, AllTell}
+use Rattle.studio_seats.proofs.Common.{Chain, Does, Origin, StandsFor}
+use Rattle.disk_model.specs.{Disk.Files, MomentLaws.upto_refl, MomentLaws.upto_trans}
 use Rattle.disk_model.proofs.Moments.{each_on}
 use Rattle.project_journal.specs.Gate.{EachNow, EachSince}
 use Rattle.record_body.specs.Saved.{Keeps}
-use Rattle.editor_state.specs.Studios.{IsHeld, IsStudio, shown, studio_of}
-use Rattle.editor_state.specs.Took.{Took, exchange_of, freeing, silent}
-use Rattle.editor_state.specs.{Applied.reply_of, Core.Core, Events.KeepsPrefix, Left.Left, Left.Stops}
+use Rattle.editor_state.specs.Took.{exchange_of}
+use Rattle.editor_state.specs.{Events.KeepsPrefix, Left.Left, Left.Stops}
 use Rattle.editor_state.proofs.Calls.RunEntries.{flies, prefix_more, run_more, step_of}
-use Rattle.editor_state.proofs.{Calls.VaultCalls.lasts_took, Images.ImageProjects.keeps_now}
-use Rattle.editor_state.proofs.{Refusals.IntactFiles.held_undamaged}
-use Rattle.pin_turn.proofs.Sums.{Each-append, Each-left, Each-right}
-use Rattle.studio_seats.specs.declared.deed.Deed.{Deed}
-use Rattle.studio_seats.specs.Deeds.{deed, entry_of, entries_of, number_after, raised_by}
+use Rattle.editor_state.proofs.{Images.ImageProjects.keeps_now, Refusals.IntactFiles.held_undamaged}
+use Rattle.pin_turn.proofs.Sums.{Each-left, Each-right}
 use Rattle.studio_seats.specs.Leads.{HadTurn, IsUnharmed, Leads, StopsInFlight}
-use Rattle.studio_seats.specs.Stands.{AllTell, AreTold, Chain, Does, Origin, StandsFor}
+use Rattle.studio_seats.specs.Stands.{AreTold}
 use Rattle.studio_seats.proofs.{Refused.number_raised, Refused.stopped_not, Refused.stopped_shown, TestFaults.had_turn}
 use Rattle.pcm_base.specs.declared.refusal.Refusal.TheVariants as refusal
 use Rattle.pcm_base.specs.Studio as model

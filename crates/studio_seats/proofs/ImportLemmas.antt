@@ -1,17 +1,13 @@
 -- Deeds over vaults that do not report their bytes, as deeds over vaults that do.
-use Rattle.std.proofs.Common.{◌≡◌, inl, inr, ⊎_elim, ◌∙◌, refl, sym, ap, ℕ, true, is_some, IsSome, Option, Some, None}
-use Rattle.std.proofs.Common.{List, [], ◌∷◌, Result, Ok, Err, IfErr, IfOk, ◌⊎◌, subst}
-use Rattle.std.proofs.lemmas.Bool.{true≢false}
-use Rattle.pcm_base.specs.{declared.answer.Reply.Reply, declared.command.Call.Call}
-use Rattle.pcm_base.specs.{declared.command.Call.TheVariants.Line, declared.command.Command.TheVariants.Import}
-use Rattle.pcm_base.specs.{declared.refusal.Refusal.Refusal, Run.name_in}
-use Rattle.disk_model.specs.declared.store.Store.{Ghosts}
-use Rattle.pin_turn.specs.Counts.{Each}
+use Rattle.studio_seats.proofs.Common.{◌≡◌, inl, inr, ⊎_elim, ◌∙◌, refl, sym, ap, ℕ, true, IsSome, Option, Some, None}
+use Rattle.studio_seats.proofs.Common.{List, [], ◌∷◌, Result, Ok, Err, ◌⊎◌, subst, true≢false, Reply, Call, Line}
+use Rattle.studio_seats.proofs.Common.{Refusal, name_in, Ghosts, Each, Core, Took, lasts_took, Deed, AllTell, Chain}
+use Rattle.studio_seats.proofs.Common.{Does, origin}
+use Rattle.std.proofs.Common.{is_some, IfErr, IfOk}
+use Rattle.pcm_base.specs.{declared.command.Command.TheVariants.Import}
 use Rattle.editor_state.specs.Vaults.{IfCutShort, IsCutShort, left_as}
-use Rattle.editor_state.specs.{Core.Core, Exchanges.reads_sound, Took.Took, Took.with_sound}
-use Rattle.editor_state.proofs.Calls.VaultCalls.{lasts_took}
+use Rattle.editor_state.specs.{Exchanges.reads_sound, Took.with_sound}
 use Rattle.studio_seats.specs.Imports.{AreReadAs, ImportsLead, IsReadAs, IsReadable, telling}
-use Rattle.studio_seats.specs.{declared.deed.Deed.Deed, Stands.AllTell, Stands.Chain, Stands.Does, Stands.origin}
 use Rattle.studio_seats.proofs.Grown.{all_told, leads}
 use Rattle.edit_ports.specs.declared.vault.Vault as vault
 

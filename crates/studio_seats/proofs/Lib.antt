@@ -1,3 +1,4 @@
+mod Common
 -- The lemmas, lowest first.
 pub mod Refused
 pub mod TestFaults

@@ -1,14 +1,9 @@
 -- What a line did, over a vault.
-use Rattle.std.proofs.Common.{◌≡◌, ◌∙◌, refl, sym, ap, subst, ℕ, IsTrue, List, Option, Some, None, Result, Ok, Err}
-use Rattle.std.specs.Prelude.{IfErr}
-use Rattle.pcm_base.specs.Run.{Heard, name_in_line}
-use Rattle.pcm_base.specs.{declared.answer.Answer.Answer, declared.answer.Reply.Reply}
-use Rattle.pcm_base.specs.{declared.answer.Reply.TheVariants.Refused, declared.command.Call.TheVariants.Line}
-use Rattle.pcm_base.specs.{declared.command.Command.Command, declared.refusal.Refusal.Refusal, Outside.Sounds}
-use Rattle.disk_model.specs.declared.store.Store.{Ghosts}
-use Rattle.editor_state.specs.Applied.{Applies, EndsAlike, move_of, reply_of, Span, sound_moved}
-use Rattle.editor_state.specs.Took.{as_reply}
-use Rattle.studio_seats.specs.{Deeds.deed, Stands.Does}
+use Rattle.studio_seats.proofs.Common.{◌≡◌, ◌∙◌, refl, sym, ap, subst, ℕ, IsTrue, List, Option, Some, None, Result, Ok}
+use Rattle.studio_seats.proofs.Common.{Err, IfErr, Heard, name_in_line, Answer, Reply, Refused, Line, Refusal, Ghosts}
+use Rattle.studio_seats.proofs.Common.{move_of, reply_of, as_reply, deed, Does}
+use Rattle.pcm_base.specs.{declared.command.Command.Command, Outside.Sounds}
+use Rattle.editor_state.specs.Applied.{Applies, EndsAlike, Span, sound_moved}
 
 module _ {R : Type 0} where
   -- the answer and the result tell what the line was told

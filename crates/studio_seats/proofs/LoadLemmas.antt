@@ -1,14 +1,8 @@
 -- What is answered of a pin at one of the deeds of a desk.
-use Rattle.std.proofs.Common.{◌≡◌, ◌⊎◌, ℕ, List, ◌∷◌, ◌++◌, length, Some, None, subst, Result, Ok}
-use Rattle.pcm_base.specs.{declared.answer.Reply.Reply, declared.answer.Reply.TheVariants.Length}
-use Rattle.pcm_base.specs.{declared.answer.Reply.TheVariants.Loaded, declared.command.Call.Call}
-use Rattle.pcm_base.specs.{declared.command.Call.TheVariants.LoadPin, declared.command.Call.TheVariants.PinLen}
-use Rattle.pcm_base.specs.{declared.lists.LoadedTrack.LoadedTrack, declared.refusal.Refusal.Refusal}
-use Rattle.pcm_base.specs.{declared.sound.Frame.Frame, Cells.Project, Mix.loaded_of, Mix.mix_of, Run.Answers}
-use Rattle.disk_model.specs.declared.store.Store.{Ghosts}
-use Rattle.editor_state.specs.{Core.Core, Studios.IsHeld, Studios.studio_of}
-use Rattle.studio_seats.specs.Stands.{AllTell, StandsFor, origin}
-use Rattle.studio_seats.specs.{declared.deed.Deed.Deed, Deeds.entries_of, Pins.ShowsPin, Pins.pin_frames}
+use Rattle.studio_seats.proofs.Common.{◌≡◌, ◌⊎◌, ℕ, List, ◌∷◌, ◌++◌, length, Some, None, subst, Result, Ok, Reply}
+use Rattle.studio_seats.proofs.Common.{Length, Loaded, Call, LoadPin, PinLen, LoadedTrack, Refusal, Frame, Project}
+use Rattle.studio_seats.proofs.Common.{loaded_of, mix_of, Answers, Ghosts, Core, IsHeld, studio_of, AllTell, StandsFor}
+use Rattle.studio_seats.proofs.Common.{origin, Deed, entries_of, ShowsPin, pin_frames}
 use Rattle.studio_seats.proofs.PinLemmas.{load_tracks, pin_length, run_shows}
 use Rattle.studio_seats.proofs.{Chains.chain_cut, Grown.all_told, Grown.leads}
 use Rattle.pcm_base.specs.Studio as model

@@ -1,20 +1,18 @@
 -- One list of deeds, by their makers: what follows.
-use Rattle.std.proofs.Common.{◌≡◌, ℕ, zero, suc, ◌+◌, ◌<◌, ◌≤◌, nat_lt, ◌&&◌, if◌then◌else◌, ℤ, Bool, true, false, List}
-use Rattle.std.proofs.Common.{[], ◌∷◌, ◌++◌, length, take, drop, Result, Ok, Err, refl, sym, ◌∙◌, ap, subst, arith}
-use Rattle.std.proofs.Common.{append_assoc, eq-eqb}
-use Rattle.std.proofs.{lemmas.Bool.lt-ltb, lemmas.List.append-nil}
+use Rattle.studio_seats.proofs.Common.{◌≡◌, ℕ, zero, suc, ◌+◌, ◌<◌, ◌≤◌, nat_lt, ◌&&◌, if◌then◌else◌, ℤ, Bool, true}
+use Rattle.studio_seats.proofs.Common.{false, List, [], ◌∷◌, ◌++◌, length, take, drop, Result, Ok, Err, refl, sym, ◌∙◌}
+use Rattle.studio_seats.proofs.Common.{ap, subst, arith, append_assoc, eq-eqb, lt-ltb, append-nil, Each, ByOthers}
+use Rattle.studio_seats.proofs.Common.{parts_of, pieces_in, pieces_of, counted_from, commits_of, Reply, Refusal, Call}
+use Rattle.studio_seats.proofs.Common.{numbered_pieces, actor_of, commits, number_after, raised_by, by_seat, deeds_of}
+use Rattle.studio_seats.proofs.Common.{Deed, piece_in, piece_by, pieces_by}
 use Rattle.std.specs.List.{zip}
-use Rattle.pin_turn.specs.{Counts.Each, Counts.times, Counts.once_below, Rule.ByOthers}
+use Rattle.pin_turn.specs.{Counts.times, Counts.once_below}
 use Rattle.pin_turn.proofs.Sums.{times-append, times_else, once_more}
-use Rattle.pcm_base.specs.Recordings.{parts_of, pieces_in, pieces_of}
-use Rattle.pcm_base.specs.{Arithmetic.counted_from, Counters.commits_of, declared.chunk.TheConstants.CHUNK_SAMPLES}
-use Rattle.pcm_base.specs.{declared.answer.Reply.Reply, declared.refusal.Refusal.Refusal, declared.command.Call.Call}
-use Rattle.edit_ports.specs.Answers.{numbered_pieces}
-use Rattle.studio_seats.specs.Deeds.{actor_of, commits, made, number_after, raised_by}
-use Rattle.studio_seats.specs.Merge.{by_seat, any_seat, numbers_if, numbers_of, deeds_of, Rises, one_if, SplitsIn}
-use Rattle.studio_seats.specs.Merge.{MergedNumbers, is_piece, OnlyPieces, numbers_in, PieceNumbers, OwnOrder}
-use Rattle.studio_seats.specs.{declared.deed.Deed.Deed, Pieces.piece_in, Pieces.piece_by, Pieces.pieces_by}
-use Rattle.studio_seats.proofs.PieceLemmas.{pieces_append, pieces_others}
+use Rattle.pcm_base.specs.{declared.chunk.TheConstants.CHUNK_SAMPLES}
+use Rattle.studio_seats.specs.Deeds.{made}
+use Rattle.studio_seats.specs.Merge.{any_seat, numbers_if, numbers_of, Rises, one_if, SplitsIn, MergedNumbers, is_piece}
+use Rattle.studio_seats.specs.Merge.{OnlyPieces, numbers_in, PieceNumbers, OwnOrder}
+use Rattle.studio_seats.proofs.PieceLemmas.{not_mine, pieces_append, pieces_others}
 use Rattle.studio_seats.proofs.{Grown.number_append, Turns.number_grows}
 use Rattle.pcm_base.specs.declared.command.Call.TheVariants as call
 
@@ -180,15 +178,12 @@ deeds_append kind [] ys = refl
 deeds_append kind (e ∷ es) ys = ap (λ (l : List Deed). (if kind e then e ∷ [] else []) ++ l) (deeds_append kind es ys)
     ∙ sym (append_assoc (if kind e then e ∷ [] else []) (deeds_of kind es) (deeds_of kind ys))
 
-not_its : (b : Bool) (e : Deed) → (if b then 1 else 0) + 0 ≡ 0 → (if b then e ∷ [] else []) ≡ []
-not_its true e h = absurd (omega (arith, h))
-not_its false e h = refl
-
 pub deeds_others : (seat : ℕ) (more : List Deed) → ByOthers actor_of (seat ∷ []) more
     → deeds_of (by_seat seat) more ≡ []
 deeds_others seat [] h = refl
 deeds_others seat (e ∷ es) h =
-    ap (λ (l : List Deed). l ++ deeds_of (by_seat seat) es) (not_its (by_seat seat e) e h.0) ∙ deeds_others seat es h.1
+    ap (λ (b : Bool). (if b then e ∷ [] else []) ++ deeds_of (by_seat seat) es) (not_mine (by_seat seat e) h.0)
+    ∙ deeds_others seat es h.1
 
 pub numbers_append : (kind : Deed → Bool) (n : ℕ) (xs ys : List Deed)
     → numbers_of kind n (xs ++ ys) ≡ numbers_of kind n xs ++ numbers_of kind (number_after n xs) ys
@@ -199,17 +194,13 @@ numbers_append kind n (e ∷ es) ys =
     ∙ sym (append_assoc here (numbers_of kind (raised_by e n) es)
     (numbers_of kind (number_after (raised_by e n) es) ys))
 
-no_number : (b : Bool) (count n : ℕ) → (if b then 1 else 0) + 0 ≡ 0 → numbers_if b count n ≡ []
-no_number true count n h = absurd (omega (arith, h))
-no_number false count n h = refl
-
 -- deeds of others have no numbers of the seat
 pub numbers_others : (seat n : ℕ) (more : List Deed) → ByOthers actor_of (seat ∷ []) more
     → numbers_of (by_seat seat) n more ≡ []
 numbers_others seat n [] h = refl
 numbers_others seat n (e ∷ es) h =
-    ap (λ (l : List ℕ). l ++ numbers_of (by_seat seat) (raised_by e n) es) (no_number (by_seat seat e) (made e) n h.0)
-    ∙ numbers_others seat (raised_by e n) es h.1
+    ap (λ (b : Bool). numbers_if b (made e) n ++ numbers_of (by_seat seat) (raised_by e n) es)
+    (not_mine (by_seat seat e) h.0) ∙ numbers_others seat (raised_by e n) es h.1
 
 pub own_order : OwnOrder
 own_order seat seen between e mine others = deeds_append (by_seat seat) (seen ++ between) (e ∷ [])

@@ -1,15 +1,11 @@
 -- A seat goes on, turn by turn.
-use Rattle.std.proofs.Common.{◌≡◌, ⊎_elim, ℕ, ◌+◌, if◌then◌else◌, ◌==◌, Bool, true, false, List, [], ◌∷◌, ◌++◌, length}
-use Rattle.std.proofs.Common.{refl, sym, ◌∙◌, ap, subst, arith, append_assoc, eq-eqb, Result}
-use Rattle.std.proofs.lemmas.List.{append-nil, length-append}
-use Rattle.pcm_base.specs.{declared.answer.Reply.Reply, declared.command.Call.Call, declared.entry.SoundMove.SoundMove}
-use Rattle.pcm_base.specs.{declared.refusal.Refusal.Refusal, declared.said.Said.Said}
-use Rattle.disk_model.specs.declared.store.Store.{Ghosts}
-use Rattle.pin_turn.specs.{declared.view.View.View, Counts.Each, Rule.ByOthers}
-use Rattle.editor_state.specs.Core.{Core}
-use Rattle.studio_seats.specs.Desks.{Says, Spends, Turned, asked, views}
-use Rattle.studio_seats.specs.{declared.held.Held.Held, declared.deed.Deed.Deed, Deeds.actor_of, Deeds.deed}
-use Rattle.studio_seats.specs.{Merge.by_seat, Onward.Onward, Onward.Asks, Onward.places_of, Stands.origin}
+use Rattle.studio_seats.proofs.Common.{◌≡◌, ⊎_elim, ℕ, ◌+◌, if◌then◌else◌, ◌==◌, Bool, true, List, [], ◌∷◌, ◌++◌}
+use Rattle.studio_seats.proofs.Common.{length, refl, sym, ◌∙◌, ap, subst, arith, append_assoc, eq-eqb, Result}
+use Rattle.studio_seats.proofs.Common.{true≢false, append-nil, length-append, Reply, Call, SoundMove, Refusal, Said}
+use Rattle.studio_seats.proofs.Common.{Ghosts, View, Each, ByOthers, Core, Says, Spends, Turned, asked, views, Held}
+use Rattle.studio_seats.proofs.Common.{Deed, actor_of, deed, by_seat, Onward, Asks, origin}
+use Rattle.studio_seats.specs.{Onward.places_of}
+use Rattle.studio_seats.proofs.PieceLemmas.{not_mine}
 use Rattle.edit_ports.specs.declared.vault.Vault as vault
 
 pub each_append : (P : Deed → Type 0) (xs ys : List Deed) → Each P xs → Each P ys → Each P (xs ++ ys)
@@ -26,26 +22,22 @@ places_append kind k (x ∷ xs) ys =
     (places_append kind (k + 1) xs ys ∙ ap (λ (n : ℕ). places_of kind (k + 1) xs ++ places_of kind n ys) shift)
     ∙ sym (append_assoc here (places_of kind (k + 1) xs) (places_of kind (k + length (x ∷ xs)) ys))
 
-no_place : (b : Bool) (k : ℕ) → (if b then 1 else 0) + 0 ≡ 0 → (if b then k ∷ [] else []) ≡ []
-no_place true k h = absurd (omega (arith, h))
-no_place false k h = refl
-
 -- deeds of others stand at no places of the seat
 pub places_others : (seat k : ℕ) (more : List Deed) → ByOthers actor_of (seat ∷ []) more
     → places_of (by_seat seat) k more ≡ []
 places_others seat k [] h = refl
-places_others seat k (e ∷ es) h = ap (λ (l : List ℕ). l ++ places_of (by_seat seat) (k + 1) es)
-    (no_place (seat == e.actor) k h.0) ∙ places_others seat (k + 1) es h.1
-
-not_own : (seat actor : ℕ) → (if seat == actor then 1 else 0) + 0 ≡ 0 → actor ≡ seat → ⊥
-not_own seat actor h is = let b : (seat == actor) ≡ true = eq-eqb seat actor (sym is) in
-    let one : (if true then 1 else 0) + 0 ≡ 0 = subst (λ (b : Bool). (if b then 1 else 0) + 0 ≡ 0) b h in
-    absurd (omega (arith, one))
+places_others seat k (e ∷ es) h =
+    ap (λ (b : Bool). (if b then k ∷ [] else []) ++ places_of (by_seat seat) (k + 1) es)
+    (not_mine (seat == e.actor) h.0)
+    ∙ places_others seat (k + 1) es h.1
 
 pub asks_others : (fits : Call → Type 0) (seat : ℕ) (more : List Deed) → ByOthers actor_of (seat ∷ []) more
     → Asks fits seat more
 asks_others fits seat [] h = tt
-asks_others fits seat (e ∷ es) h = ((λ is. absurd (not_own seat e.actor h.0 is)), asks_others fits seat es h.1)
+asks_others fits seat (e ∷ es) h = (
+  λ is. absurd (true≢false (sym (eq-eqb seat e.actor (sym is)) ∙ not_mine (seat == e.actor) h.0)),
+  asks_others fits seat es h.1,
+)
 
 pub one_place : (seat k : ℕ) (c : Call) (what : Result Reply Refusal) (sound : SoundMove)
     → places_of (by_seat seat) k (deed seat c what sound ∷ []) ≡ k ∷ []

@@ -1,20 +1,11 @@
 -- The pieces of a seat, turn by turn.
-use Rattle.std.proofs.Common.{◌≡◌, ⊎_elim, ℕ, ◌+◌, ◌-◌, ◌≤◌, ◌==◌, ◌&&◌, nat_lt, if◌then◌else◌, ℤ, Bool, true, false}
-use Rattle.std.proofs.Common.{List, [], ◌∷◌, ◌++◌, length, refl, sym, ◌∙◌, ap, subst, arith, append_assoc, eq-eqb}
-use Rattle.std.proofs.Common.{Result, Ok, Err}
-use Rattle.std.proofs.{lemmas.Bool.lt-ltb, lemmas.List.append-nil}
-use Rattle.std.specs.Prelude.{MatchResult, IfOk, IfErr}
-use Rattle.pcm_base.specs.Recordings.{pieces_in, pieces_of}
-use Rattle.pcm_base.specs.{declared.answer.Reply.TheVariants.Done, declared.command.Call.TheVariants.Piece}
-use Rattle.pcm_base.specs.{declared.refusal.Refusal.Refusal, declared.said.Said.Said}
-use Rattle.disk_model.specs.declared.store.Store.{Ghosts}
-use Rattle.pin_turn.specs.{declared.view.View.View, Rule.ByOthers}
-use Rattle.editor_state.specs.{Core.Core, Took.silent, Took.as_reply}
-use Rattle.edit_ports.specs.Answers.{numbered_pieces}
-use Rattle.studio_seats.specs.Deeds.{actor_of, deed, is_commit, number_after, raised_by}
-use Rattle.studio_seats.specs.Desks.{Says, Spends, Turned, asked, views}
-use Rattle.studio_seats.specs.Pieces.{piece_by, piece_in, pieces_by}
-use Rattle.studio_seats.specs.{declared.deed.Deed.Deed, declared.held.Held.Held, Stands.origin}
+use Rattle.studio_seats.proofs.Common.{◌≡◌, ⊎_elim, ℕ, ◌+◌, ◌-◌, ◌≤◌, ◌==◌, ◌&&◌, nat_lt, if◌then◌else◌, ℤ, Bool, true}
+use Rattle.studio_seats.proofs.Common.{false, List, [], ◌∷◌, ◌++◌, length, refl, sym, ◌∙◌, ap, subst, arith}
+use Rattle.studio_seats.proofs.Common.{append_assoc, eq-eqb, Result, Ok, Err, lt-ltb, append-nil, MatchResult, IfOk}
+use Rattle.studio_seats.proofs.Common.{IfErr, pieces_in, pieces_of, Done, Piece, Refusal, Said, Ghosts, View, ByOthers}
+use Rattle.studio_seats.proofs.Common.{Core, silent, as_reply, numbered_pieces, actor_of, deed, is_commit, number_after}
+use Rattle.studio_seats.proofs.Common.{raised_by, Says, Spends, Turned, asked, views, piece_by, piece_in, pieces_by}
+use Rattle.studio_seats.proofs.Common.{Deed, Held, origin}
 use Rattle.studio_seats.proofs.{Grown.number_append, Turns.number_on, Turns.turned_number}
 use Rattle.edit_ports.specs.declared.vault.Vault as vault
 
@@ -34,19 +25,18 @@ pieces_append to by seat n (d ∷ ds) ys =
     ∙ sym (append_assoc (piece_by to by seat d n) (pieces_by to by seat
     (raised_by d n) ds) (pieces_by to by seat (number_after (raised_by d n) ds) ys))
 
-not_by : (mine commits : Bool) (piece : List (List ℤ × ℕ)) → (if mine then 1 else 0) + 0 ≡ 0
-    → (if mine && commits then piece else []) ≡ []
-not_by true commits piece h = absurd (omega (arith, h))
-not_by false commits piece h = refl
+-- a deed that counts for none of a seat is not the seat's
+pub not_mine : (mine : Bool) → (if mine then 1 else 0) + 0 ≡ 0 → mine ≡ false
+not_mine true h = absurd (omega (arith, h))
+not_mine false h = refl
 
 -- deeds of others have no piece of the seat
 pub pieces_others : (to by seat n : ℕ) (more : List Deed) → ByOthers actor_of (seat ∷ []) more
     → pieces_by to by seat n more ≡ []
 pieces_others to by seat n [] h = refl
 pieces_others to by seat n (d ∷ ds) h =
-    ap (λ (l : List (List ℤ × ℕ)). l ++ pieces_by to by seat (raised_by d n) ds)
-    (not_by (seat == d.actor) (is_commit d) (piece_in to by d.call n) h.0)
-    ∙ pieces_others to by seat (raised_by d n) ds h.1
+    ap (λ (b : Bool). (if b && is_commit d then piece_in to by d.call n else []) ++ pieces_by to by seat
+    (raised_by d n) ds) (not_mine (seat == d.actor) h.0) ∙ pieces_others to by seat (raised_by d n) ds h.1
 
 -- one turn of the seat
 one_turn : (to by seat n : ℕ) (seen between : List Deed) (d : Deed) → ByOthers actor_of (seat ∷ []) between

@@ -1,14 +1,13 @@
 -- What a pin shows stays, as long as nobody lets it go.
-use Rattle.std.proofs.Common.{◌≡◌, ◌⊎◌, inl, inr, ⊎_elim, ℕ, ◌+◌, ◌<◌, Bool, true, false, List, [], ◌∷◌, ◌++◌, take}
-use Rattle.std.proofs.Common.{drop, length, Option, Some, None, if◌then◌else◌, refl, sym, ◌∙◌, ap, arith, Result, Ok}
-use Rattle.std.proofs.lemmas.List.{length-map}
-use Rattle.pcm_base.specs.{declared.answer.Reply.Reply, declared.command.Call.Call, declared.entry.Entry.Entry}
-use Rattle.pcm_base.specs.{declared.entry.SoundMove.SoundMove, declared.refusal.Refusal.Refusal}
-use Rattle.pcm_base.specs.{declared.sound.Frame.Frame, Arithmetic.counted_from, Cells.Project}
-use Rattle.pcm_base.specs.{declared.lists.LoadedTrack.LoadedTrack, Mix.frame_at, Mix.loaded_of, Mix.mix_length}
-use Rattle.pcm_base.specs.{Mix.mix_of, Run.Answers, Run.Run, Run.Step, Run.result_of, State.State, State.current}
+use Rattle.studio_seats.proofs.Common.{◌≡◌, ◌⊎◌, inl, inr, ⊎_elim, ℕ, ◌+◌, ◌<◌, Bool, true, false, List, [], ◌∷◌, ◌++◌}
+use Rattle.studio_seats.proofs.Common.{take, drop, length, Option, Some, None, if◌then◌else◌, refl, sym, ◌∙◌, ap, arith}
+use Rattle.studio_seats.proofs.Common.{Result, Ok, length-map, Reply, Call, Entry, SoundMove, Refusal, Frame}
+use Rattle.studio_seats.proofs.Common.{counted_from, Project, LoadedTrack, loaded_of, mix_of, Answers, Run, Step}
+use Rattle.studio_seats.proofs.Common.{result_of, State, current, ShowsPin, after_entry, after_what, makes_pin}
+use Rattle.studio_seats.proofs.Common.{pin_frames}
+use Rattle.pcm_base.specs.{Mix.frame_at, Mix.mix_length}
 use Rattle.studio_seats.specs.PinLaws.{PinsStay}
-use Rattle.studio_seats.specs.Pins.{StaysHeld, ShowsPin, after_entry, after_what, makes_pin, pin_frames}
+use Rattle.studio_seats.specs.Pins.{StaysHeld}
 use Rattle.studio_seats.proofs.PinSteps.{Leads, either_bool, leads_of, made, made_number, next_grows, stays}
 use Rattle.studio_seats.proofs.PinSteps.{stays_or_goes}
 use Rattle.pcm_base.proofs.ListFacts.{length-counted_from}
@@ -64,22 +63,27 @@ module _ (p : ℕ) where
       (λ (gone : At u ≡ None). inr gone)
       (run_keeps run.0 u es run.2 (low_on t run.0 e.call (result_of e.reply) e.sound first low))
 
+  -- the frames of a pin are of the first entry, if that made it, and else of the later ones
+  by_first : (t : model.Studio) (e : Entry) (es : List Entry) (b : Bool) → makes_pin e.call e.reply p ≡ b
+      → pin_frames t.rate t.state (e ∷ es) p
+      ≡ (if b then Some (mix_of (current t.state)) else pin_frames t.rate (after_entry t.rate t.state e) es p)
+  by_first t e es b is =
+      ap (λ (z : Bool). if z then Some (mix_of (current t.state)) else pin_frames t.rate
+      (after_entry t.rate t.state e) es p) is
+
   -- the frames of a pin that a later entry made
   frames_later : (t mid : model.Studio) (e : Entry) (es : List Entry) (frames : List Frame)
       → makes_pin e.call e.reply p ≡ false → Leads t e.call (result_of e.reply) e.sound mid
       → pin_frames t.rate t.state (e ∷ es) p ≡ Some frames → pin_frames mid.rate mid.state es p ≡ Some frames
   frames_later t mid e es frames other first is =
-      (λ i. pin_frames (first.rate i) (first.state i) es p)
-      ∙ sym (ap (λ (z : Bool). if z then Some (mix_of (current t.state)) else pin_frames t.rate
-      (after_entry t.rate t.state e) es p) other) ∙ is
+      (λ i. pin_frames (first.rate i) (first.state i) es p) ∙ sym (by_first t e es false other) ∙ is
 
   -- and of one that the first entry made
   frames_now : (t : model.Studio) (e : Entry) (es : List Entry) (frames : List Frame)
       → makes_pin e.call e.reply p ≡ true
       → pin_frames t.rate t.state (e ∷ es) p ≡ Some frames → frames ≡ mix_of (current t.state)
   frames_now t e es frames makes is =
-      sym (ap frames_or (sym (ap (λ (z : Bool). if z then Some (mix_of (current t.state)) else pin_frames t.rate
-      (after_entry t.rate t.state e) es p) makes) ∙ is))
+      sym (ap frames_or (sym (by_first t e es true makes) ∙ is))
 
   -- a pin that was made in a run shows its frames afterwards, or is gone
   pub run_shows : (t u : model.Studio) (es : List Entry) (frames : List Frame) → Run t es u
@@ -108,12 +112,11 @@ module _ (p : ℕ) where
   run_holds t u (e ∷ es) frames run is kept = ⊎_elim
       (λ (makes : makes_pin e.call e.reply p ≡ true).
       let there = made t run.0 e.call e.reply e.sound p makes (leads t run.0 e run.1) in
-      let shown : ShowsPin u.state p frames = record {
+      record {
         project = current t.state;
         there = run_stays run.0 u es run.2 there.1 kept.1 ∙ there.0;
         shows = frames_now t e es frames makes is;
-      } in
-      shown)
+      })
       (λ (other : makes_pin e.call e.reply p ≡ false).
       run_holds run.0 u es frames run.2 (frames_later t run.0 e es frames other (leads t run.0 e run.1) is) kept.1)
       (either_bool (makes_pin e.call e.reply p))
@@ -129,9 +132,7 @@ module _ (p : ℕ) where
       → Step u e.call e.sound e.reply w → makes_pin e.call e.reply p ≡ true
       → pin_frames t.rate t.state (es ++ e ∷ more) p ≡ Some (mix_of (current u.state))
   frames_at t u w [] more e run step makes =
-      ap (λ (z : Bool). if z then Some (mix_of (current t.state)) else pin_frames t.rate
-      (after_entry t.rate t.state e) more p) makes
-      ∙ ap (λ (s : model.Studio). Some (mix_of (current s.state))) (sym run)
+      by_first t e more true makes ∙ ap (λ (s : model.Studio). Some (mix_of (current s.state))) (sym run)
   frames_at t u w (x ∷ xs) more e run step makes = ⊎_elim
       (λ (first : makes_pin x.call x.reply p ≡ true).
       let there = made t run.0 x.call x.reply x.sound p first (leads t run.0 x run.1) in
@@ -140,12 +141,9 @@ module _ (p : ℕ) where
       absurd (omega (arith, low, next)))
       (λ (other : makes_pin x.call x.reply p ≡ false).
       let on = leads t run.0 x run.1 in
-      let same : pin_frames run.0.rate run.0.state (xs ++ e ∷ more) p
-      ≡ pin_frames t.rate (after_entry t.rate t.state x) (xs ++ e ∷ more) p =
-      λ i. pin_frames (on.rate i) (on.state i) (xs ++ e ∷ more) p in
-      ap (λ (z : Bool). if z then Some (mix_of (current t.state)) else pin_frames t.rate
-      (after_entry t.rate t.state x) (xs ++ e ∷ more) p) other
-      ∙ sym same ∙ frames_at run.0 u w xs more e run.2 step makes)
+      by_first t x (xs ++ e ∷ more) false other
+      ∙ sym (λ i. pin_frames (on.rate i) (on.state i) (xs ++ e ∷ more) p)
+      ∙ frames_at run.0 u w xs more e run.2 step makes)
       (either_bool (makes_pin x.call x.reply p))
 
 -- a run keeps the rate

@@ -1,12 +1,14 @@
 -- What one step leaves of a pin.
-use Rattle.std.proofs.Common.{◌≡◌, ◌⊎◌, inl, inr, ⊎_elim, ℕ, ◌+◌, ◌<◌, ◌≤◌, Bool, true, false, Some, None}
-use Rattle.std.proofs.Common.{if◌then◌else◌, refl, sym, ◌∙◌, ap, subst, arith, eq-eqb, ne_eqb, Result, Ok, Err}
-use Rattle.std.proofs.lemmas.Bool.{true≢false, eqb-true, eqb-false}
-use Rattle.pcm_base.specs.Run.{Answers, followed, outside, result_of}
-use Rattle.pcm_base.specs.{declared.answer.Reply.Reply, declared.command.Call.Call, declared.entry.SoundMove.SoundMove}
-use Rattle.pcm_base.specs.{declared.refusal.Refusal.Refusal, State.State, State.current, Step.MayAnswer, Step.after}
-use Rattle.model_laws.proofs.Answered.{answered_replied, carried_is}
-use Rattle.studio_seats.specs.Pins.{after_what, drops_pin, makes_pin, tells_pin}
+use Rattle.studio_seats.proofs.Common.{◌≡◌, ◌⊎◌, inl, inr, ⊎_elim, ℕ, ◌+◌, ◌<◌, ◌≤◌, Bool, true, false, Some, None}
+use Rattle.studio_seats.proofs.Common.{if◌then◌else◌, refl, sym, ◌∙◌, ap, subst, arith, eq-eqb, Result, Ok, Err}
+use Rattle.studio_seats.proofs.Common.{true≢false, Answers, outside, result_of, Reply, Call, SoundMove, Refusal, State}
+use Rattle.studio_seats.proofs.Common.{current, carried_is, after_what, makes_pin}
+use Rattle.std.proofs.Common.{ne_eqb}
+use Rattle.std.proofs.lemmas.Bool.{eqb-true, eqb-false}
+use Rattle.pcm_base.specs.Run.{followed}
+use Rattle.pcm_base.specs.{Step.MayAnswer, Step.after}
+use Rattle.model_laws.proofs.Answered.{answered_replied}
+use Rattle.studio_seats.specs.Pins.{drops_pin, tells_pin}
 use Rattle.studio_seats.proofs.Refused.{refused_same}
 use Rattle.pcm_base.specs.declared.answer.Reply.TheVariants as reply
 use Rattle.pcm_base.specs.declared.command.Call.TheVariants as call
@@ -30,11 +32,7 @@ module _ (rate : ℕ) (s : State) (p : ℕ) where
   stays (call.Unpin q) (Ok r) sound low h =
       ap (λ (z : Bool). if z then None else s.pins p) (ne_eqb p q (λ e. eqb-false q p h (sym e)))
   stays c (Err why) sound low h = refl
-  stays (call.Line c) (Ok r) sound low h = refl
-  stays (call.Piece track tag samples) (Ok r) sound low h = refl
-  stays (call.PinLen q) (Ok r) sound low h = refl
-  stays (call.ReadPin q from count) (Ok r) sound low h = refl
-  stays (call.LoadPin q from count) (Ok r) sound low h = refl
+  stays _ (Ok r) sound low h = refl
 
   -- it is gone after a call that lets it go
   goes : (c : Call) (what : Result Reply Refusal) (sound : SoundMove) → drops_pin c what p ≡ true
@@ -53,14 +51,9 @@ module _ (rate : ℕ) (s : State) (p : ℕ) where
 -- the next pin never falls
 pub next_grows : (rate : ℕ) (s : State) (c : Call) (what : Result Reply Refusal) (sound : SoundMove)
     → s.next_pin ≤ (after_what rate s c what sound).next_pin
-next_grows rate s c (Err why) sound = omega arith
-next_grows rate s (call.Line c) (Ok r) sound = omega arith
-next_grows rate s (call.Piece track tag samples) (Ok r) sound = omega arith
 next_grows rate s call.Pin (Ok r) sound = omega arith
-next_grows rate s (call.PinLen q) (Ok r) sound = omega arith
-next_grows rate s (call.ReadPin q from count) (Ok r) sound = omega arith
-next_grows rate s (call.LoadPin q from count) (Ok r) sound = omega arith
-next_grows rate s (call.Unpin q) (Ok r) sound = omega arith
+next_grows rate s c (Err why) sound = omega arith
+next_grows rate s _ (Ok r) sound = omega arith
 
 -- ---- one step
 

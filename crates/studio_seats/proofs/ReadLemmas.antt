@@ -1,20 +1,14 @@
 -- A seat reads a pin on, call by call.
-use Rattle.std.proofs.Common.{◌≡◌, ⊎_elim, inl, inr, ℕ, ◌+◌, ◌<◌, ◌≤◌, nat_lt, if◌then◌else◌, Bool, true, false, List}
-use Rattle.std.proofs.Common.{[], ◌∷◌, ◌++◌, length, take, Option, refl, sym, ◌∙◌, ap, subst, arith, Result, Ok, Err}
+use Rattle.studio_seats.proofs.Common.{◌≡◌, ⊎_elim, inl, inr, ℕ, ◌+◌, ◌<◌, ◌≤◌, nat_lt, if◌then◌else◌, Bool, true}
+use Rattle.studio_seats.proofs.Common.{false, List, [], ◌∷◌, ◌++◌, length, take, Option, refl, sym, ◌∙◌, ap, subst}
+use Rattle.studio_seats.proofs.Common.{arith, Result, Ok, Err, nat_tests, append-nil, length-take-le, IfOk, OnOk, Reply}
+use Rattle.studio_seats.proofs.Common.{Frames, Call, ReadPin, Refusal, Said, Frame, Ghosts, NextAt, after_read}
+use Rattle.studio_seats.proofs.Common.{first_refusal, View, Core, silent, as_reply, Says, Spends, Turned, asked, spent}
+use Rattle.studio_seats.proofs.Common.{views, Held, Deed, deed, by_seat, deeds_of, Onward, worker, origin, ReadsOn}
 use Rattle.std.proofs.Common.{IfErr}
-use Rattle.std.proofs.{lemmas.Bool.Decides.nat_tests, lemmas.List.append-nil, lemmas.List.length-take-le}
-use Rattle.std.specs.Prelude.{IfOk, OnOk}
-use Rattle.pcm_base.specs.{declared.answer.Reply.Reply, declared.answer.Reply.TheVariants.Frames}
-use Rattle.pcm_base.specs.{declared.command.Call.Call, declared.command.Call.TheVariants.ReadPin}
-use Rattle.pcm_base.specs.{declared.refusal.Refusal.Refusal, declared.said.Said.Said, declared.sound.Frame.Frame}
-use Rattle.disk_model.specs.declared.store.Store.{Ghosts}
-use Rattle.edit_ports.specs.Answers.{AtEnd, NextAt, RefusedAt, after_read, first_refusal}
-use Rattle.pin_turn.specs.declared.view.View.{View}
-use Rattle.editor_state.specs.{Core.Core, Took.silent, Took.as_reply}
-use Rattle.studio_seats.specs.Desks.{Says, Spends, Turned, asked, spent, views}
-use Rattle.studio_seats.specs.{declared.held.Held.Held, declared.deed.Deed.Deed, Deeds.deed, Merge.by_seat}
-use Rattle.studio_seats.specs.{Merge.deeds_of, Onward.IsReadOf, Onward.Onward, Onward.Worker, Onward.worker}
-use Rattle.studio_seats.specs.{Reads.AreFullReads, Reads.IsAsked, Reads.ReadsOn, Reads.ReadsTo, Stands.origin}
+use Rattle.edit_ports.specs.Answers.{AtEnd, Reading, RefusedAt}
+use Rattle.studio_seats.specs.{Onward.IsReadOf, Onward.Worker}
+use Rattle.studio_seats.specs.Reads.{AreFullReads, EndReads, IsAsked, ReadsTo}
 use Rattle.studio_seats.proofs.OnwardLemmas.{onward_on, onward_self, onward_spent, onward_taken}
 use Rattle.studio_seats.proofs.WorkLemmas.{own_turn}
 use Rattle.edit_ports.specs.declared.vault.Vault as vault
@@ -68,33 +62,42 @@ module _ {D V : Type 0} (pin from : ℕ) (disk : Ghosts D) (vaults : vault.Ghost
   abbrev Before : Type 0
   Before = ReadsTo v.used_up pin old (NextAt from) own
 
+  -- what was read before were full reads
+  full_before : (b : Before) → own ≡ b.full
+  full_before b = b.are ∙ ap (λ (l : List Deed). b.full ++ l) b.ends.1 ∙ append-nil b.full
+
+  -- this read is the last
+  last_read : (b : Before) (refused : Option Refusal) (reading : Reading) (d : Deed)
+      → EndReads w.used_up pin b.place refused reading (d ∷ [])
+      → ReadsTo w.used_up pin refused reading (own ++ d ∷ [])
+  last_read b refused reading d ends = record {
+    place = b.place;
+    full = b.full;
+    last = d ∷ [];
+    are = ap (λ (l : List Deed). l ++ d ∷ []) (full_before b);
+    reads = b.reads;
+    ends = ends;
+  }
+
   -- frames were given: all that were asked for, or fewer
   gave : (count : ℕ) (fewer : Bool) → nat_lt count (length out) ≡ fewer → count ≤ length out' → new ≡ old → Before
       → ReadsTo w.used_up pin new (if fewer then AtEnd else NextAt (from + count)) (own ++ done_of (Ok count) ∷ [])
   gave count true test bound same b =
       let len : length (take count out') ≡ count = length-take-le count out' bound in
       let short : count < length out = grind (arith, nat_tests) in
-      record {
-        place = b.place;
-        full = b.full;
-        last = done_of (Ok count) ∷ [];
-        are = ap (λ (l : List Deed). l ++ done_of (Ok count) ∷ [])
-            (b.are ∙ ap (λ (l : List Deed). b.full ++ l) b.ends.1 ∙ append-nil b.full);
-        reads = b.reads;
-        ends = (
-          same ∙ b.ends.0,
-          done_of (Ok count),
-          refl,
-          record {
-            count = length out;
-            few = few;
-            frames = take count out';
-            short = omega (arith, len, short);
-            call_is = ap (λ (n : ℕ). ReadPin pin n (length out)) b.ends.2;
-            what_is = refl;
-          },
-        );
-      }
+      last_read b new AtEnd (done_of (Ok count)) (
+        same ∙ b.ends.0,
+        done_of (Ok count),
+        refl,
+        record {
+          count = length out;
+          few = few;
+          frames = take count out';
+          short = omega (arith, len, short);
+          call_is = ap (λ (n : ℕ). ReadPin pin n (length out)) b.ends.2;
+          what_is = refl;
+        },
+      )
   gave count false test bound same b =
       let len : length (take count out') ≡ count = length-take-le count out' bound in
       let all : length out ≤ count = grind (arith, nat_tests) in
@@ -103,8 +106,7 @@ module _ {D V : Type 0} (pin from : ℕ) (disk : Ghosts D) (vaults : vault.Ghost
         place = b.place + length (take count out');
         full = b.full ++ done_of (Ok count) ∷ [];
         last = [];
-        are = ap (λ (l : List Deed). l ++ done_of (Ok count) ∷ [])
-            (b.are ∙ ap (λ (l : List Deed). b.full ++ l) b.ends.1 ∙ append-nil b.full)
+        are = ap (λ (l : List Deed). l ++ done_of (Ok count) ∷ []) (full_before b)
             ∙ sym (append-nil (b.full ++ done_of (Ok count) ∷ []));
         reads = full_more pin 0 b.place b.full (done_of (Ok count)) (take count out') b.reads
             (subst IsAsked full few) (λ i. ReadPin pin (b.ends.2 i) (full i)) refl;
@@ -114,29 +116,21 @@ module _ {D V : Type 0} (pin from : ℕ) (disk : Ghosts D) (vaults : vault.Ghost
   -- the read was refused, by a turn or because none was left
   refused : (why : Refusal) → new ≡ first_refusal old why → Before
       → ReadsTo w.used_up pin new (RefusedAt from) (own ++ done_of (Err why) ∷ [])
-  refused why first b = record {
-    place = b.place;
-    full = b.full;
-    last = done_of (Err why) ∷ [];
-    are = ap (λ (l : List Deed). l ++ done_of (Err why) ∷ [])
-        (b.are ∙ ap (λ (l : List Deed). b.full ++ l) b.ends.1 ∙ append-nil b.full);
-    reads = b.reads;
-    ends = (
-      b.ends.2,
-      why,
-      first ∙ ap (λ (o : Option Refusal). first_refusal o why) b.ends.0,
-      inl (
-        done_of (Err why),
-        refl,
-        record {
-          count = length out;
-          few = few;
-          call_is = ap (λ (n : ℕ). ReadPin pin n (length out)) b.ends.2;
-          what_is = refl;
-        },
-      ),
-    );
-  }
+  refused why first b = last_read b new (RefusedAt from) (done_of (Err why)) (
+    b.ends.2,
+    why,
+    first ∙ ap (λ (o : Option Refusal). first_refusal o why) b.ends.0,
+    inl (
+      done_of (Err why),
+      refl,
+      record {
+        count = length out;
+        few = few;
+        call_is = ap (λ (n : ℕ). ReadPin pin n (length out)) b.ends.2;
+        what_is = refl;
+      },
+    ),
+  )
 
   taken : (r : Result ℕ Refusal) (at : ℕ) → Taken r at → IfOk r (λ count. count ≤ length out') → OnOk r (new ≡ old)
       → IfErr r (λ why. new ≡ first_refusal old why) → ReadsOn pin (after_read from (length out) r) a (worker w new)

@@ -1,24 +1,16 @@
 -- A recorder goes on, call by call.
-use Rattle.std.proofs.Common.{◌≡◌, ◌⊎◌, ⊎_elim, inl, inr, ℕ, ◌+◌, ◌≤◌, ℤ, Bool, true, false, List, [], ◌∷◌, ◌++◌}
-use Rattle.std.proofs.Common.{length, Option, None, refl, sym, ◌∙◌, ap, subst, arith, Result, Ok, Err, IfErr}
-use Rattle.std.proofs.{lemmas.Bool.true≢false, lemmas.List.append-nil}
-use Rattle.std.specs.Prelude.{is_err, IsOk, OnOk}
-use Rattle.pcm_base.specs.declared.command.Call.TheVariants.{Line, Piece}
-use Rattle.pcm_base.specs.{Recordings.pieces_in, declared.answer.Reply.Reply, declared.answer.Reply.TheVariants.Done}
-use Rattle.pcm_base.specs.{declared.command.Call.Call, declared.command.Command.TheVariants.Reclaim}
-use Rattle.pcm_base.specs.{declared.entry.Entry.Entry, declared.refusal.Refusal.Refusal, declared.said.Said.Said}
-use Rattle.disk_model.specs.declared.store.Store.{Ghosts}
-use Rattle.edit_ports.specs.Answers.{first_refusal}
-use Rattle.pin_turn.specs.{declared.view.View.View, Counts.Each}
-use Rattle.pin_turn.proofs.Sums.{Each-append}
-use Rattle.editor_state.specs.{Core.Core, Took.silent, Took.as_reply}
-use Rattle.studio_seats.specs.Desks.{Says, Spends, Turned, asked, spent, views}
-use Rattle.studio_seats.specs.Recording.{Frees, FreesOnce, FreesTo, Recorder, RecorderAsks, RecordsOn, asks_piece}
-use Rattle.studio_seats.specs.Recording.{recorder}
-use Rattle.studio_seats.specs.{declared.held.Held.Held, declared.deed.Deed.Deed, Deeds.deed, Deeds.entries_of}
-use Rattle.studio_seats.specs.{Deeds.entry_of, Deeds.number_after, Freeing.AreFreed, Freeing.IsDue}
-use Rattle.studio_seats.specs.{Freeing.IsFullReclaim, Freeing.unfreed, Merge.by_seat, Merge.deeds_of, Onward.AreDone}
-use Rattle.studio_seats.specs.{Onward.Asks, Onward.EndsBy, Onward.Onward, Pieces.pieces_by, Stands.origin}
+use Rattle.studio_seats.proofs.Common.{◌≡◌, ◌⊎◌, ⊎_elim, inl, inr, ℕ, ◌+◌, ◌≤◌, ℤ, Bool, true, false, List, [], ◌∷◌}
+use Rattle.studio_seats.proofs.Common.{◌++◌, length, Option, None, refl, sym, ◌∙◌, ap, subst, arith, Result, Ok, Err}
+use Rattle.studio_seats.proofs.Common.{true≢false, append-nil, is_err, OnOk, Line, Piece, pieces_in, Reply, Done, Call}
+use Rattle.studio_seats.proofs.Common.{Reclaim, Entry, Refusal, Said, Ghosts, first_refusal, View, Each, Each-append}
+use Rattle.studio_seats.proofs.Common.{Core, silent, as_reply, Says, Spends, Turned, asked, spent, views, RecordsOn}
+use Rattle.studio_seats.proofs.Common.{asks_piece, recorder, Held, Deed, deed, entries_of, entry_of, number_after}
+use Rattle.studio_seats.proofs.Common.{AreFreed, IsDue, IsFullReclaim, unfreed, by_seat, deeds_of, Asks, EndsBy, Onward}
+use Rattle.studio_seats.proofs.Common.{pieces_by, origin}
+use Rattle.std.proofs.Common.{IfErr}
+use Rattle.std.specs.Prelude.{IsOk}
+use Rattle.studio_seats.specs.Recording.{Frees, FreesOnce, FreesTo, Recorder, RecorderAsks}
+use Rattle.studio_seats.specs.{Onward.AreDone}
 use Rattle.studio_seats.proofs.FreeingLemmas.{asked_own, freed_append, freed_ended, no_piece_among, no_pieces_by}
 use Rattle.studio_seats.proofs.FreeingLemmas.{none_by, reclaim_frees, unfreed_append}
 use Rattle.studio_seats.proofs.OnwardLemmas.{onward_on, onward_self, onward_spent, onward_taken}

@@ -1,13 +1,10 @@
 -- What is answered, and what a refusal leaves.
-use Rattle.std.proofs.lemmas.Option.{none-some}
-use Rattle.std.proofs.Common.{◌≡◌, inl, inr, refl, sym, ap, ◌∙◌, subst, ℕ, ◌+◌, Option, Some, None, IsSome, Result, Ok}
-use Rattle.std.proofs.Common.{Err, arith}
+use Rattle.studio_seats.proofs.Common.{none-some, ◌≡◌, inl, inr, refl, sym, ap, ◌∙◌, subst, ℕ, ◌+◌, Option, Some, None}
+use Rattle.studio_seats.proofs.Common.{IsSome, Result, Ok, Err, arith, Reply, Call, SoundMove, Refusal, Answers, shown}
+use Rattle.studio_seats.proofs.Common.{carried_is, commits}
 use Rattle.pcm_base.specs.Causes.{Cause, Test, Damage, Disk, Vault, Memory, cause_of}
-use Rattle.pcm_base.specs.{declared.answer.Reply.Reply, declared.command.Call.Call, declared.entry.SoundMove.SoundMove}
-use Rattle.pcm_base.specs.{declared.refusal.Refusal.Refusal, Run.Answers, Run.BreaksBy}
-use Rattle.editor_state.specs.{Studios.shown, Took.number_behind}
-use Rattle.model_laws.proofs.Answered.{carried_is}
-use Rattle.studio_seats.specs.Deeds.{commits}
+use Rattle.pcm_base.specs.{Run.BreaksBy}
+use Rattle.editor_state.specs.{Took.number_behind}
 use Rattle.pcm_base.specs.Studio as model
 
 pub stopped_not : (o : Option ℕ) → IsSome o → o ≡ None → ⊥

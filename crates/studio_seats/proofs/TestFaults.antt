@@ -1,27 +1,24 @@
 -- What a test may tell: of no device, and of no turn.
-use Rattle.std.proofs.Common.{◌≡◌, inl, inr, refl, sym, ap, ◌∙◌, subst, ℕ, ◌+◌, ◌-◌, ◌==◌, nat_lt, nat_le, ◌&&◌, ◌||◌}
-use Rattle.std.proofs.Common.{not, Bool, true, false, Option, Some, None, is_none, List, [], ◌∷◌, IsSome, length, map}
-use Rattle.std.proofs.Common.{take, Result, Ok, Err}
-use Rattle.pcm_base.specs.declared.limits.TheConstants.{COUNTER_LIMIT, MAX_CELLS, MAX_TRACKS, MAX_VIEW}
-use Rattle.pcm_base.specs.Counters.{commits_of, counter_tests, generations_of, no_room, pins_of, places_of, record_test}
-use Rattle.pcm_base.specs.Counters.{layouts_of, tracks_of}
+use Rattle.studio_seats.proofs.Common.{◌≡◌, inl, inr, refl, sym, ap, ◌∙◌, subst, ℕ, ◌+◌, ◌-◌, ◌==◌, nat_lt, ◌&&◌, Bool}
+use Rattle.studio_seats.proofs.Common.{true, false, Option, Some, None, List, [], ◌∷◌, IsSome, length, map, take}
+use Rattle.studio_seats.proofs.Common.{Result, Ok, Err, COUNTER_LIMIT, commits_of, Answers, outside, result_of, Reply}
+use Rattle.studio_seats.proofs.Common.{Refused, Call, SoundMove, Refusal, State, current, reply_of, spent, IsServed}
+use Rattle.std.proofs.Common.{nat_le, ◌||◌, not, is_none}
+use Rattle.pcm_base.specs.declared.limits.TheConstants.{MAX_CELLS, MAX_TRACKS, MAX_VIEW}
+use Rattle.pcm_base.specs.Counters.{counter_tests, generations_of, no_room, pins_of, places_of, record_test, layouts_of}
+use Rattle.pcm_base.specs.Counters.{tracks_of}
 use Rattle.pcm_base.specs.Refusals.{◌otherwise◌, bad_columns, bad_range, bad_view, call_tests, channel_tests}
 use Rattle.pcm_base.specs.Refusals.{empty_clipboard, file_tests, import_tests, insert_tests, inserted_length}
 use Rattle.pcm_base.specs.Refusals.{length_limit, no_pin, no_track, paste_tests, pasted_lengths, placed_length}
 use Rattle.pcm_base.specs.Refusals.{range_tests, refused_if, run_tests, shape_tests, too_narrow, track_limit}
 use Rattle.pcm_base.specs.Refusals.{view_tests}
-use Rattle.pcm_base.specs.Run.{Answers, outside, refusal_of, result_of, stop_test}
+use Rattle.pcm_base.specs.Run.{refusal_of, stop_test}
 use Rattle.pcm_base.specs.Shape.{Shape, NewTrack, DropTrack, SetTrack, PutIn, EditRange, CutRun, CopyRun, PasteRun}
 use Rattle.pcm_base.specs.Shape.{MoveTo, Purge, Look, Import, Export, Back, Forward, View, Cells, Frames, Columns}
 use Rattle.pcm_base.specs.Shape.{Tracks, shape_of}
-use Rattle.pcm_base.specs.{declared.answer.Reply.Reply, declared.answer.Reply.TheVariants.Refused}
-use Rattle.pcm_base.specs.{declared.command.Call.Call, declared.entry.SoundMove.SoundMove}
-use Rattle.pcm_base.specs.{declared.refusal.Refusal.Refusal, declared.wav.WavFault.WavFault, Cells.cells_at}
-use Rattle.pcm_base.specs.{Cells.longest, Cells.tracks_from, Edits.source_count, Outside.Outside, State.State}
-use Rattle.pcm_base.specs.{State.clip_of, State.current, Wave.Sound, Wave.wav_of}
-use Rattle.editor_state.specs.Applied.{reply_of}
+use Rattle.pcm_base.specs.{declared.wav.WavFault.WavFault, Cells.cells_at, Cells.longest, Cells.tracks_from}
+use Rattle.pcm_base.specs.{Edits.source_count, Outside.Outside, State.clip_of, Wave.Sound, Wave.wav_of}
 use Rattle.editor_state.proofs.Calls.RunEntries.{plain, plain_result}
-use Rattle.studio_seats.specs.{Desks.spent, Faults.IsServed}
 use Rattle.studio_seats.proofs.Refused.{stopped_not}
 use Rattle.pcm_base.specs.declared.command.Call.TheVariants as call
 use Rattle.pcm_base.specs.declared.refusal.Refusal.TheVariants as refusal
@@ -159,20 +156,10 @@ module _ (stopped : Option ℕ) where
       (room t.next_layout (layouts_of out t.state c)))))))
 
 pub going : (stopped : Option ℕ) (c : Call) → Tells stopped (stop_test stopped c)
-going (Some n) (call.Line c) = refl
-going (Some n) (call.Piece track tag samples) = refl
-going (Some n) call.Pin = refl
-going (Some n) (call.PinLen pin) = refl
-going (Some n) (call.ReadPin pin from count) = refl
-going (Some n) (call.LoadPin pin from count) = refl
-going None (call.Line c) = tt
-going None (call.Piece track tag samples) = tt
-going None call.Pin = tt
-going None (call.PinLen n) = tt
-going None (call.ReadPin n from count) = tt
-going None (call.LoadPin n from count) = tt
-going None (call.Unpin n) = tt
 going (Some n) (call.Unpin pin) = tt
+going (Some n) _ = refl
+going None (call.Unpin pin) = tt
+going None _ = tt
 
 pub tested : (out : Outside) (t : model.Studio) (c : Call) (blocks len : ℕ)
     → Tells t.stopped (refusal_of out t c blocks len)

@@ -1,22 +1,23 @@
 -- One turn of a seat, put together.
-use Rattle.std.proofs.Common.{◌≡◌, inl, inr, ⊎_elim, refl, sym, ap, ◌∙◌, subst, ℕ, ◌≤◌, false, true, List, [], ◌∷◌}
-use Rattle.std.proofs.Common.{◌++◌, Result, Ok, Err, MatchResult, arith}
-use Rattle.std.proofs.lemmas.Bool.{true≢false}
-use Rattle.std.specs.Fn.{Mut, CalledAtMut}
-use Rattle.pcm_base.specs.{declared.answer.Reply.Reply, declared.command.Call.Call, declared.entry.SoundMove.SoundMove}
-use Rattle.pcm_base.specs.{declared.refusal.Refusal.Refusal, declared.said.Said.Said}
-use Rattle.disk_model.specs.declared.store.Store.{Ghosts}
+use Rattle.studio_seats.proofs.Common.{◌≡◌, inl, inr, ⊎_elim, refl, sym, ap, ◌∙◌, subst, ℕ, ◌≤◌, false, true, List, []}
+use Rattle.studio_seats.proofs.Common.{◌∷◌, ◌++◌, Result, Ok, Err, None, arith, true≢false, Reply, Call, SoundMove}
+use Rattle.studio_seats.proofs.Common.{Refusal, Said, name_in, Ghosts, View, ByOthers, Core, IsStudio, Took, freeing}
+use Rattle.studio_seats.proofs.Common.{silent, core_of, actor_of, deed, number_after, raised_by, Says, Spends, Turned}
+use Rattle.studio_seats.proofs.Common.{asked, spent, views, AllTell, Does, Origin, origin, Deed, Held}
+use Rattle.std.proofs.Common.{MatchResult}
+use Rattle.std.specs.Fn.{Mut, CalledAtMut, Takes}
 use Rattle.pin_turn.specs.Calls.{TakesAtMut, FitsTurn, TookTurn, addition, called_as, meaning}
-use Rattle.pin_turn.specs.{declared.view.Spent.Spent, declared.view.View.View, Rule.ByOthers}
-use Rattle.editor_state.specs.{Core.Core, Studios.IsStudio}
-use Rattle.editor_core.specs.Core.{core_of}
-use Rattle.studio_seats.specs.Deeds.{actor_of, deed, number_after, raised_by}
-use Rattle.studio_seats.specs.Desks.{Asked, Says, Spends, Turned, Views, asked, deed_of, spent, views}
-use Rattle.studio_seats.specs.Stands.{AllTell, Does, Origin, origin}
-use Rattle.studio_seats.specs.{declared.deed.Deed.Deed, declared.held.Held.Held, Holding.HeldFor}
-use Rattle.studio_seats.proofs.{Chains.extends, Grown.leads}
+use Rattle.pin_turn.specs.{declared.view.Spent.Spent}
+use Rattle.studio_seats.specs.Desks.{Asked, Views, deed_of}
+use Rattle.studio_seats.specs.{Holding.HeldFor}
+use Rattle.studio_seats.proofs.{Chains.extends, Grown.does_silent, Grown.leads}
 use denote.Ref.{MutBor}
 use Rattle.edit_ports.specs.declared.vault.Vault as vault
+
+-- the deed of a turn whose call names no sound
+abbrev pub quiet : {D V : Type 0} {disk : Ghosts D} → View (Held D V disk) Deed → Call → Result Reply Refusal
+    → List Deed
+quiet v call what = deed v.number call what silent ∷ []
 
 module _ {D V : Type 0} (disk : Ghosts D) (vaults : vault.Ghosts V) where
   -- the studio of a turn
@@ -36,179 +37,135 @@ module _ {D V : Type 0} (disk : Ghosts D) (vaults : vault.Ghosts V) where
       subst (λ (z : Held D V disk × Held D V disk). Does disk (AllTell vaults) (core z.0) d (core z.1))
       (λ i. (a i, b i)) does
 
+  -- what is said of a turn
+  abbrev SaidBy : {A : Type 0} → Result (Said A) Spent → Said A → Type 0
+  SaidBy result said = MatchResult result (λ s. said ≡ s) (λ _. (said.at ≡ 0) × (said.what ≡ Err spent))
+
   module _ {F A : Type 0} (start : Held D V disk) (v : View (Held D V disk) Deed)
-      (g : Mut F (MutBor (Held D V disk) × Unit {0}) (Said A × (MutBor (Held D V disk) × Unit {0}))) (f : F)
-      (call : Call) (what : Said A → F → Result Reply Refusal) (sound : F → SoundMove) where
-    -- what the turn adds
-    abbrev done : Said A → F → Deed
-    done s f' = deed v.number call (what s f') (sound f')
-
-    -- the closure may be called at what the turn finds, and is one call of the studio
-    pub fits : ((more : List Deed) (x : Held D V disk) → ByOthers actor_of (v.number ∷ []) more
-        → HeldFor disk vaults start x (v.seen ++ more) → TakesAtMut g f x)
-        → ((s : Said A) (f' : F) (x x' : Held D V disk) (called : CalledAtMut g f x s f' x')
-        → Does disk (AllTell vaults) (core called.shown.now) (done s f') (core called.left.now))
-        → FitsTurn (meaning (HeldFor disk vaults) actor_of start) v g f (λ s f'. done s f' ∷ [])
-    fits may does = record {
-      may = λ more x others few stood. may more x others stood;
-      leaves = λ more x others few stood s f' x' called.
-          extends (origin disk vaults (core start)) (core x) (core x') (v.seen ++ more) stood (done s f')
-          (does_at x x' called.shown.now called.left.now (done s f') (does s f' x x' called) called.shows
-          called.leaves);
-      by_seat = λ s f'. (done s f', refl, refl);
-    }
-
-    -- what the closure says of a call, which is told to the caller in other words
-    pub record Called (f' : F) (s : Said A) (x x' : Held D V disk) (said_what : Said A → Result Reply Refusal)
-        (said_sound : SoundMove) : Type 0 where
-      pub does : Does disk (AllTell vaults) (core x) (done s f') (core x')
-      pub number : s.at ≡ (core x').commit_number
-      pub what_is : what s f' ≡ said_what s
-      pub sound_is : sound f' ≡ said_sound
-
-    turned : (s : Said A) (f' : F) (w : View (Held D V disk) Deed) (said_what : Said A → Result Reply Refusal)
-        (said_sound : SoundMove)
-        (took : TookTurn (meaning (HeldFor disk vaults) actor_of start) g (called_as f s f')
-        (addition v (done s f' ∷ []) w))
-        → Called f' s took.called.shown.now took.called.left.now said_what said_sound
-        → Turned (origin disk vaults (core start)) (asked call (said_what s) said_sound) s.at (views v w)
-    turned s f' w said_what said_sound took at =
-        let does = does_at took.value took.value' took.called.shown.now took.called.left.now (done s f') at.does
-        took.called.shows took.called.leaves in
-        subst (λ (z : Result Reply Refusal × SoundMove).
-        Turned (origin disk vaults (core start)) (asked call z.0 z.1) s.at (views v w))
-        (λ i. (at.what_is i, at.sound_is i)) record {
-          between = took.between;
-          by_others = took.by_others;
-          few = took.few;
-          unspent = took.unspent;
-          view = took.view;
-          before = core took.value;
-          after = core took.value';
-          stood = took.stood;
-          does = does;
-          stands = extends (origin disk vaults (core start)) (core took.value) (core took.value')
-              (v.seen ++ took.between) took.stood (done s f') does;
-          number = at.number ∙ ap (λ (z : Held D V disk). (core z).commit_number) took.called.leaves;
-        }
-
-    -- what the seat then says
-    pub says : (f' : F) (said_what : Said A → Result Reply Refusal) (said_sound : SoundMove)
-        (w : View (Held D V disk) Deed) (result : Result (Said A) Spent) (said : Said A)
-        → MatchResult result (λ s. TookTurn (meaning (HeldFor disk vaults) actor_of start) g (called_as f s f')
-        (addition v (done s f' ∷ []) w))
-        (λ _. (w ≡ record v { used_up = true }) × (f' ≡ f))
-        → MatchResult result (λ s. said ≡ s) (λ _. (said.at ≡ 0) × (said.what ≡ Err spent))
-        → ((s : Said A) (x x' : Held D V disk) (called : CalledAtMut g f x s f' x')
-        → Called f' s called.shown.now called.left.now said_what said_sound)
-        → Says (origin disk vaults (core start)) (asked call (said_what said) said_sound) said (views v w)
-    says f' said_what said_sound w (Ok s) said took same at =
-        inl (subst (λ (z : Said A).
-        Turned (origin disk vaults (core start)) (asked call (said_what z) said_sound) z.at (views v w)) (sym same)
-        (turned s f' w said_what said_sound took (at s took.value took.value' took.called)))
-    says f' said_what said_sound w (Err y) said h none at = inr record { at = none.0; what = none.1; view = h.0 }
+      (g : Mut F (MutBor (Held D V disk) × Unit {0}) (Said A × (MutBor (Held D V disk) × Unit {0}))) (f : F) where
+    -- the turn was taken, with what the closure left and the seat then knows, or none was left
+    abbrev Taken : (Said A → List Deed) → F → View (Held D V disk) Deed → Result (Said A) Spent → Type 0
+    Taken added f' w result = MatchResult result (λ s. TookTurn (meaning (HeldFor disk vaults) actor_of start) g
+        (called_as f s f') (addition v (added s) w)) (λ _. (w ≡ record v { used_up = true }) × (f' ≡ f))
 
     -- a fact of the call, where the turn was taken
-    pub if_taken : (f' : F) (w : View (Held D V disk) Deed) (result : Result (Said A) Spent) (said : Said A)
-        (P : Said A → Type 0)
-        → MatchResult result (λ s. TookTurn (meaning (HeldFor disk vaults) actor_of start) g (called_as f s f')
-        (addition v (done s f' ∷ []) w))
-        (λ _. (w ≡ record v { used_up = true }) × (f' ≡ f))
-        → MatchResult result (λ s. said ≡ s) (λ _. (said.at ≡ 0) × (said.what ≡ Err spent))
-        → ((s : Said A) (x x' : Held D V disk) (called : CalledAtMut g f x s f' x') → P s)
+    pub if_taken : (added : Said A → List Deed) (f' : F) (w : View (Held D V disk) Deed)
+        (result : Result (Said A) Spent) (said : Said A) (P : Said A → Type 0) → Taken added f' w result
+        → SaidBy result said → ((s : Said A) (x x' : Held D V disk) (called : CalledAtMut g f x s f' x') → P s)
         → w.used_up ≡ false → P said
-    if_taken f' w (Ok s) said P took same met unspent = subst P (sym same) (met s took.value took.value' took.called)
-    if_taken f' w (Err y) said P h none met unspent =
+    if_taken added f' w (Ok s) said P took same met unspent =
+        subst P (sym same) (met s took.value took.value' took.called)
+    if_taken added f' w (Err y) said P h none met unspent =
         absurd (true≢false (sym (ap (λ (z : View (Held D V disk) Deed). z.used_up) h.0) ∙ unspent))
 
     -- taken or not
-    pub either_way : (f' : F) (w : View (Held D V disk) Deed) (result : Result (Said A) Spent) (P : Type 0)
-        → MatchResult result (λ s. TookTurn (meaning (HeldFor disk vaults) actor_of start) g (called_as f s f')
-        (addition v (done s f' ∷ []) w))
-        (λ _. (w ≡ record v { used_up = true }) × (f' ≡ f))
-        → (f' ≡ f → P) → ((s : Said A) (x x' : Held D V disk) (called : CalledAtMut g f x s f' x') → P) → P
-    either_way f' w (Ok s) P took still met = met s took.value took.value' took.called
-    either_way f' w (Err y) P h still met = still h.1
+    pub either_way : (added : Said A → List Deed) (f' : F) (w : View (Held D V disk) Deed)
+        (result : Result (Said A) Spent) (P : Type 0) → Taken added f' w result → (f' ≡ f → P)
+        → ((s : Said A) (x x' : Held D V disk) (called : CalledAtMut g f x s f' x') → P) → P
+    either_way added f' w (Ok s) P took still met = met s took.value took.value' took.called
+    either_way added f' w (Err y) P h still met = still h.1
 
-  -- the same where the call itself is known only after the turn, by what the closure left
-  module _ {F A : Type 0} (start : Held D V disk) (v : View (Held D V disk) Deed)
-      (g : Mut F (MutBor (Held D V disk) × Unit {0}) (Said A × (MutBor (Held D V disk) × Unit {0}))) (f : F)
-      (call : F → Call) (what : Said A → F → Result Reply Refusal) (sound : F → SoundMove) where
-    abbrev done_by : Said A → F → Deed
-    done_by s f' = deed v.number (call f') (what s f') (sound f')
+    -- The call itself may be known only after the turn, by what the closure left.
+    module _ (call : F → Call) (what : Said A → F → Result Reply Refusal) (sound : F → SoundMove) where
+      -- what the turn adds
+      abbrev done : Said A → F → Deed
+      done s f' = deed v.number (call f') (what s f') (sound f')
 
-    pub fits_by : ((more : List Deed) (x : Held D V disk) → ByOthers actor_of (v.number ∷ []) more
-        → HeldFor disk vaults start x (v.seen ++ more) → TakesAtMut g f x)
-        → ((s : Said A) (f' : F) (x x' : Held D V disk) (called : CalledAtMut g f x s f' x')
-        → Does disk (AllTell vaults) (core called.shown.now) (done_by s f') (core called.left.now))
-        → FitsTurn (meaning (HeldFor disk vaults) actor_of start) v g f (λ s f'. done_by s f' ∷ [])
-    fits_by may does = record {
-      may = λ more x others few stood. may more x others stood;
-      leaves = λ more x others few stood s f' x' called.
-          extends (origin disk vaults (core start)) (core x) (core x') (v.seen ++ more) stood (done_by s f')
-          (does_at x x' called.shown.now called.left.now (done_by s f') (does s f' x x' called) called.shows
-          called.leaves);
-      by_seat = λ s f'. (done_by s f', refl, refl);
-    }
+      -- the closure may be called at what the turn finds, and is one call of the studio
+      pub fits : ((more : List Deed) (x : Held D V disk) → ByOthers actor_of (v.number ∷ []) more
+          → HeldFor disk vaults start x (v.seen ++ more) → TakesAtMut g f x)
+          → ((s : Said A) (f' : F) (x x' : Held D V disk) (called : CalledAtMut g f x s f' x')
+          → Does disk (AllTell vaults) (core called.shown.now) (done s f') (core called.left.now))
+          → FitsTurn (meaning (HeldFor disk vaults) actor_of start) v g f (λ s f'. done s f' ∷ [])
+      fits may does = record {
+        may = λ more x others few stood. may more x others stood;
+        leaves = λ more x others few stood s f' x' called.
+            extends (origin disk vaults (core start)) (core x) (core x') (v.seen ++ more) stood (done s f')
+            (does_at x x' called.shown.now called.left.now (done s f') (does s f' x x' called) called.shows
+            called.leaves);
+        by_seat = λ s f'. (done s f', refl, refl);
+      }
 
-    pub record CalledBy (f' : F) (s : Said A) (x x' : Held D V disk) (said_call : Call)
-        (said_what : Said A → Result Reply Refusal) (said_sound : SoundMove) : Type 0 where
-      pub does : Does disk (AllTell vaults) (core x) (done_by s f') (core x')
-      pub number : s.at ≡ (core x').commit_number
-      pub call_is : call f' ≡ said_call
-      pub what_is : what s f' ≡ said_what s
-      pub sound_is : sound f' ≡ said_sound
+      -- what the closure says of a call, which is told to the caller in other words
+      pub record Called (f' : F) (s : Said A) (x x' : Held D V disk) (said_call : Call)
+          (said_what : Said A → Result Reply Refusal) (said_sound : SoundMove) : Type 0 where
+        pub does : Does disk (AllTell vaults) (core x) (done s f') (core x')
+        pub number : s.at ≡ (core x').commit_number
+        pub call_is : call f' ≡ said_call
+        pub what_is : what s f' ≡ said_what s
+        pub sound_is : sound f' ≡ said_sound
 
-    turned_by : (s : Said A) (f' : F) (w : View (Held D V disk) Deed) (said_call : Call)
-        (said_what : Said A → Result Reply Refusal) (said_sound : SoundMove)
-        (took : TookTurn (meaning (HeldFor disk vaults) actor_of start) g (called_as f s f')
-        (addition v (done_by s f' ∷ []) w))
-        → CalledBy f' s took.called.shown.now took.called.left.now said_call said_what said_sound
-        → Turned (origin disk vaults (core start)) (asked said_call (said_what s) said_sound) s.at (views v w)
-    turned_by s f' w said_call said_what said_sound took at =
-        let does = does_at took.value took.value' took.called.shown.now took.called.left.now (done_by s f') at.does
-        took.called.shows took.called.leaves in
-        subst (λ (z : Call × Result Reply Refusal × SoundMove).
-        Turned (origin disk vaults (core start)) (asked z.0 z.1 z.2) s.at (views v w))
-        (λ i. (at.call_is i, at.what_is i, at.sound_is i)) record {
-          between = took.between;
-          by_others = took.by_others;
-          few = took.few;
-          unspent = took.unspent;
-          view = took.view;
-          before = core took.value;
-          after = core took.value';
-          stood = took.stood;
-          does = does;
-          stands = extends (origin disk vaults (core start)) (core took.value) (core took.value')
-              (v.seen ++ took.between) took.stood (done_by s f') does;
-          number = at.number ∙ ap (λ (z : Held D V disk). (core z).commit_number) took.called.leaves;
-        }
+      turned : (s : Said A) (f' : F) (w : View (Held D V disk) Deed) (said_call : Call)
+          (said_what : Said A → Result Reply Refusal) (said_sound : SoundMove)
+          (took : TookTurn (meaning (HeldFor disk vaults) actor_of start) g (called_as f s f')
+          (addition v (done s f' ∷ []) w))
+          → Called f' s took.called.shown.now took.called.left.now said_call said_what said_sound
+          → Turned (origin disk vaults (core start)) (asked said_call (said_what s) said_sound) s.at (views v w)
+      turned s f' w said_call said_what said_sound took at =
+          let does = does_at took.value took.value' took.called.shown.now took.called.left.now (done s f') at.does
+          took.called.shows took.called.leaves in
+          subst (λ (z : Call × Result Reply Refusal × SoundMove).
+          Turned (origin disk vaults (core start)) (asked z.0 z.1 z.2) s.at (views v w))
+          (λ i. (at.call_is i, at.what_is i, at.sound_is i)) record {
+            between = took.between;
+            by_others = took.by_others;
+            few = took.few;
+            unspent = took.unspent;
+            view = took.view;
+            before = core took.value;
+            after = core took.value';
+            stood = took.stood;
+            does = does;
+            stands = extends (origin disk vaults (core start)) (core took.value) (core took.value')
+                (v.seen ++ took.between) took.stood (done s f') does;
+            number = at.number ∙ ap (λ (z : Held D V disk). (core z).commit_number) took.called.leaves;
+          }
 
-    pub says_by : (f' : F) (said_call : Call) (said_what : Said A → Result Reply Refusal) (said_sound : SoundMove)
-        (w : View (Held D V disk) Deed) (result : Result (Said A) Spent) (said : Said A)
-        → MatchResult result (λ s. TookTurn (meaning (HeldFor disk vaults) actor_of start) g (called_as f s f')
-        (addition v (done_by s f' ∷ []) w))
-        (λ _. (w ≡ record v { used_up = true }) × (f' ≡ f))
-        → MatchResult result (λ s. said ≡ s) (λ _. (said.at ≡ 0) × (said.what ≡ Err spent))
-        → ((s : Said A) (x x' : Held D V disk) (called : CalledAtMut g f x s f' x')
-        → CalledBy f' s called.shown.now called.left.now said_call said_what said_sound)
-        → Says (origin disk vaults (core start)) (asked said_call (said_what said) said_sound) said (views v w)
-    says_by f' said_call said_what said_sound w (Ok s) said took same at =
-        inl (subst (λ (z : Said A).
-        Turned (origin disk vaults (core start)) (asked said_call (said_what z) said_sound) z.at (views v w)) (sym same)
-        (turned_by s f' w said_call said_what said_sound took (at s took.value took.value' took.called)))
-    says_by f' said_call said_what said_sound w (Err y) said h none at =
-        inr record { at = none.0; what = none.1; view = h.0 }
+      -- what the seat then says
+      pub says : (f' : F) (said_call : Call) (said_what : Said A → Result Reply Refusal) (said_sound : SoundMove)
+          (w : View (Held D V disk) Deed) (result : Result (Said A) Spent) (said : Said A)
+          → Taken (λ s. done s f' ∷ []) f' w result → SaidBy result said
+          → ((s : Said A) (x x' : Held D V disk) (called : CalledAtMut g f x s f' x')
+          → Called f' s called.shown.now called.left.now said_call said_what said_sound)
+          → Says (origin disk vaults (core start)) (asked said_call (said_what said) said_sound) said (views v w)
+      says f' said_call said_what said_sound w (Ok s) said took same at =
+          inl (subst (λ (z : Said A).
+          Turned (origin disk vaults (core start)) (asked said_call (said_what z) said_sound) z.at (views v w))
+          (sym same) (turned s f' w said_call said_what said_sound took (at s took.value took.value' took.called)))
+      says f' said_call said_what said_sound w (Err y) said h none at =
+          inr record { at = none.0; what = none.1; view = h.0 }
 
-    -- taken or not
-    pub either_by : (f' : F) (w : View (Held D V disk) Deed) (result : Result (Said A) Spent) (P : Type 0)
-        → MatchResult result (λ s. TookTurn (meaning (HeldFor disk vaults) actor_of start) g (called_as f s f')
-        (addition v (done_by s f' ∷ []) w))
-        (λ _. (w ≡ record v { used_up = true }) × (f' ≡ f))
-        → (f' ≡ f → P) → ((s : Said A) (x x' : Held D V disk) (called : CalledAtMut g f x s f' x') → P) → P
-    either_by f' w (Ok s) P took still met = met s took.value took.value' took.called
-    either_by f' w (Err y) P h still met = still h.1
+    -- a call that names no sound, and whose answer does not look at what the closure left
+    module _ (call : Call) (what : Said A → Result Reply Refusal) (none : name_in call ≡ None) where
+      -- the call was made, by which these files went
+      abbrev Made : Said A → Held D V disk → Held D V disk → Type 0
+      Made s x x' = (removed : List ℕ) × Took disk (core x) (freeing call (what s) removed) (core x')
+
+      pub fits_quiet : ((y : MutBor (Held D V disk)) → IsStudio disk (core y.now) → Takes g f (y, tt))
+          → ((s : Said A) (f' : F) (x x' : Held D V disk) (called : CalledAtMut g f x s f' x')
+          → Made s called.shown.now called.left.now)
+          → FitsTurn (meaning (HeldFor disk vaults) actor_of start) v g f (λ s f'. quiet v call (what s))
+      fits_quiet may made = fits (λ f'. call) (λ s f'. what s) (λ f'. silent)
+          (λ more x others stood y is. may y (is_studio start x y.now (v.seen ++ more) stood is))
+          (λ s f' x x' called.
+          let h = made s f' x x' called in
+          does_silent disk _ _ call (what s) h.0 _ none h.1)
+
+      pub says_quiet : (f' : F) (w : View (Held D V disk) Deed) (result : Result (Said A) Spent) (said : Said A)
+          → Taken (λ s. quiet v call (what s)) f' w result → SaidBy result said
+          → ((s : Said A) (x x' : Held D V disk) (called : CalledAtMut g f x s f' x')
+          → Made s called.shown.now called.left.now × (s.at ≡ (core called.left.now).commit_number))
+          → Says (origin disk vaults (core start)) (asked call (what said) silent) said (views v w)
+      says_quiet f' w result said took same met =
+          says (λ f'. call) (λ s f'. what s) (λ f'. silent) f' call what silent w result said took same
+          (λ s x x' called.
+          let h = met s x x' called in record {
+            does = does_silent disk _ _ call (what s) h.0.0 _ none h.0.1;
+            number = h.1;
+            call_is = refl;
+            what_is = refl;
+            sound_is = refl;
+          })
 
 -- ---- the commit number to which deeds lead
 

@@ -1,11 +1,7 @@
 -- The own deeds of a seat that goes on, and how they end.
-use Rattle.std.proofs.Common.{◌≡◌, inl, inr, ℕ, Bool, true, List, [], ◌∷◌, ◌++◌, Option, Some, None, sym, ◌∙◌, ap}
-use Rattle.std.proofs.Common.{subst, append_assoc}
-use Rattle.pcm_base.specs.{declared.command.Call.Call, declared.refusal.Refusal.Refusal}
-use Rattle.disk_model.specs.declared.store.Store.{Ghosts}
-use Rattle.pin_turn.specs.{declared.view.View.View, Rule.ByOthers}
-use Rattle.studio_seats.specs.{declared.held.Held.Held, declared.deed.Deed.Deed, Deeds.actor_of, Merge.by_seat}
-use Rattle.studio_seats.specs.{Merge.deeds_of, Onward.Asks, Onward.EndsBy, Onward.Onward}
+use Rattle.studio_seats.proofs.Common.{◌≡◌, inl, inr, ℕ, Bool, true, List, [], ◌∷◌, ◌++◌, Option, Some, None, sym, ◌∙◌}
+use Rattle.studio_seats.proofs.Common.{ap, subst, append_assoc, Call, Refusal, Ghosts, View, ByOthers, Held, Deed}
+use Rattle.studio_seats.proofs.Common.{actor_of, by_seat, deeds_of, Asks, EndsBy, Onward}
 use Rattle.studio_seats.proofs.MergeLemmas.{own_order}
 
 -- after one turn more

@@ -8,12 +8,10 @@ use disk_model::Store;
 use edit_ports::Vault;
 use pin_turn::Turn;
 
-mod compacts;
 mod lines;
 mod moves;
 mod pieces;
 mod pins;
-mod reclaims;
 mod said;
 mod seats;
 

@@ -5,7 +5,7 @@ use edit_ports::{MemVault, Vault};
 use pcm_base::{Frame, NoMemory, Numbers, Refusal, WavFault};
 use std::alloc::{AllocError, Global};
 use std::test::*;
-use wav_pcm::{Wav, WavHead, append_frames, channel, head, read, start_wav, write};
+use wav_pcm::{ChannelOf, Wav, WavHead, append_frames, channel, head, read, start_wav, write};
 
 /// One channel of the samples 1 and -1, at 8,000 frames in a second.
 static MONO: [u8; 48] = [
@@ -81,7 +81,15 @@ fn has_samples<V: Vault>(
         return Ok(false);
     }
     let mut out = vec![in alloc; 7i16; samples.len()]?;
-    let is_read = channel(vault, "a.wav", head, c, 0, buf, &mut out).is_ok();
+    let is_read = channel(
+        vault,
+        "a.wav",
+        ChannelOf { head: *head, c },
+        0,
+        buf,
+        &mut out,
+    )
+    .is_ok();
     Ok(is_read && out.as_slice() == samples)
 }
 
@@ -220,7 +228,8 @@ fn cut_with<V: Vault>(alloc: Global, vault: &mut V, room: usize) -> Result<[u64;
     };
     let mut buf = vec![in alloc; 7u8; room]?;
     let mut out = [0i16; 100];
-    match channel(vault, "a.wav", &head, 0, 0, &mut buf, &mut out) {
+    let of = ChannelOf { head, c: 0 };
+    match channel(vault, "a.wav", of, 0, &mut buf, &mut out) {
         Ok(()) => Ok([0; 3]),
         Err(reason) => Ok(numbers_of(reason)),
     }

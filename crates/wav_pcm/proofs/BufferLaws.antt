@@ -1,14 +1,13 @@
 -- The samples of a channel are those in the frames of a buffer, and then those in the frames after it.
-use Rattle.std.proofs.Common.{◌≡◌, ◌≤◌, ◌<◌, ℕ, ◌+◌, ◌-◌, ◌*◌, ◌/◌, ◌%◌, ℤ, List, [], ◌∷◌, ◌++◌, length, take, drop}
-use Rattle.std.proofs.Common.{map, get_or, Vec, Global, inl, inr, sym, ap, ◌∙◌, arith}
-use Rattle.std.proofs.lemmas.Nat.{div-add-mod', div-mul-add, mod_below, mul-add-lt}
-use Rattle.std.proofs.lemmas.List.{get_or-take, get_or-drop, get_or_append_left, get_or-append_right, get_or-map}
-use Rattle.std.proofs.lemmas.List.{append_assoc, take_all, length-append, length-map, length-take-le, length-drop}
-use Rattle.std.proofs.lemmas.List.FromFn.{fill_by_all, get_or-map-range_with_len, length-map-range_with_len}
-use Rattle.std.proofs.{lemmas.Bool.cases_lt, lemmas.List.Elements.All-get_or}
-use Rattle.std.specs.{Prelude.slice_index, Prelude.All, List.range_with_len, Int.w16, Int.cast_signed}
-use Rattle.pcm_base.specs.Wave.{u16_at, i16_at, channel_of}
-use Rattle.wav_pcm.specs.Wavs.{HaveGrown}
+use Rattle.wav_pcm.proofs.Common.{◌≡◌, ◌≤◌, ◌<◌, ℕ, ◌+◌, ◌-◌, ◌*◌, ◌/◌, ◌%◌, ℤ, List, [], ◌∷◌, ◌++◌, length, take, drop}
+use Rattle.wav_pcm.proofs.Common.{map, get_or, Vec, Global, inl, inr, sym, ap, ◌∙◌, arith, div-add-mod', mod_below}
+use Rattle.wav_pcm.proofs.Common.{get_or-take, get_or-drop, get_or-map, take_all, length-map, length-take-le}
+use Rattle.wav_pcm.proofs.Common.{length-drop, fill_by_all, get_or-map-range_with_len, length-map-range_with_len}
+use Rattle.wav_pcm.proofs.Common.{cases_lt, slice_index, All, range_with_len, w16, cast_signed, u16_at, i16_at}
+use Rattle.wav_pcm.proofs.Common.{channel_of, HaveGrown}
+use Rattle.std.proofs.lemmas.Nat.{div-mul-add, mul-add-lt}
+use Rattle.std.proofs.lemmas.List.{get_or_append_left, get_or-append_right, append_assoc, length-append}
+use Rattle.std.proofs.{lemmas.List.Elements.All-get_or}
 
 whole_and_more : (w m r : ℕ) → 0 < w → (m * w + r) / w ≡ m + r / w
 whole_and_more w m r some =

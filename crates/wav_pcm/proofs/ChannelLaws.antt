@@ -1,19 +1,15 @@
 -- The samples of a channel, a buffer at a time.
-use Rattle.std.proofs.Common.{◌≡◌, ◌≤◌, ◌<◌, ℕ, ◌+◌, ◌-◌, ◌*◌, ◌/◌, List, [], ◌++◌, length, take, drop, Option, None}
-use Rattle.std.proofs.Common.{Some, min, Result, sym, ap, ◌∙◌, arith, subst, length-append}
-use Rattle.std.proofs.lemmas.List.{length-drop, length-take-le, take-take, drop-take, drop-drop}
-use Rattle.std.proofs.lemmas.List.FromFn.{get_or-map-range_with_len, length-map-range_with_len}
-use Rattle.std.proofs.Math.Nat.{mul-add, mul_comm, mul-div_cancel_left}
-use Rattle.std.proofs.Math.Seq.{take-append_seam, drop-append_seam}
-use Rattle.std.specs.Prelude.{ℤ, slice_index_or}
-use Rattle.pcm_base.specs.Wave.{Sound, channel_of, i16_at, wav_of}
-use Rattle.pcm_base.specs.{declared.wav.WavFault.WavFault, declared.wav.WavFault.TheVariants.Truncated}
-use Rattle.edit_ports.specs.Sounds.{sound_bytes}
-use Rattle.wav_pcm.specs.declared.fault.SoundFault.TheVariants.{NoFile, Vault, BadWav, TooLong}
+use Rattle.wav_pcm.proofs.Common.{◌≡◌, ◌≤◌, ◌<◌, ℕ, ◌+◌, ◌-◌, ◌*◌, ◌/◌, List, [], ◌++◌, length, take, drop, Option}
+use Rattle.wav_pcm.proofs.Common.{None, Some, min, Result, sym, ap, ◌∙◌, arith, subst, length-append, length-drop}
+use Rattle.wav_pcm.proofs.Common.{length-take, length-take-le, take-take, drop-take, drop-drop}
+use Rattle.wav_pcm.proofs.Common.{get_or-map-range_with_len, length-map-range_with_len, mul_comm, mul-div_cancel_left}
+use Rattle.wav_pcm.proofs.Common.{take-append_seam, drop-append_seam, slice_index_or, Sounds, Sound, channel_of, i16_at}
+use Rattle.wav_pcm.proofs.Common.{wav_of, WavFault, Truncated, sound_bytes, NoFile, Vault, BadWav, TooLong, bytes_of}
+use Rattle.wav_pcm.proofs.Common.{Finds, IsChannelOf, WavHead, SoundFault}
+use Rattle.std.proofs.Math.Nat.{mul-add}
+use Rattle.std.specs.Prelude.{ℤ}
 use Rattle.wav_pcm.specs.Parts.{part, IsVaultAlone}
-use Rattle.wav_pcm.specs.Heads.{bytes_of, place_of, frames_in, sound_at, Finds, IsHeadOf, IsChannelOf, IsCut, SaysPart}
-use Rattle.wav_pcm.specs.Heads.{SaysChannel}
-use Rattle.wav_pcm.specs.{declared.heads.WavHead.WavHead, declared.fault.SoundFault.SoundFault}
+use Rattle.wav_pcm.specs.Heads.{place_of, frames_in, sound_at, IsHeadOf, IsCut, SaysPart, SaysChannel}
 use Rattle.wav_pcm.proofs.BufferLaws.{channel_parts}
 
 bytes_more : (head : WavHead) (a b : ℕ) → bytes_of head (a + b) ≡ bytes_of head a + bytes_of head b
@@ -73,7 +69,7 @@ channel_joined head from c done count bytes xs ys within long more is next =
     )
 
 -- the buffer that is not whole
-pub cut_found : (head : WavHead) (from done count all have : ℕ) (bytes : List ℕ) (xs : List ℤ) (c : ℕ)
+cut_found : (head : WavHead) (from done count all have : ℕ) (bytes : List ℕ) (xs : List ℤ) (c : ℕ)
     (why : SoundFault)
     → done + count ≤ all → length xs ≡ done → IsChannelOf head from bytes c xs
     → have ≡ min (bytes_of head count) (length bytes - place_of head (from + done)) → have < bytes_of head count
@@ -86,6 +82,29 @@ cut_found head from done count all have bytes xs c why le long is few lt named =
     let whole = bytes_le head done count all le in
     subst (IsCut head from all bytes) (sym named)
     (ap (Truncated (bytes_of head all)) there, omega (arith, there, whole, lt))
+
+-- the length of the part that a buffer fills
+pub part_size : (done count : ℕ) (xs : List ℤ) → done + count ≤ length xs
+    → length (take (done + count - done) (drop done xs)) ≡ count
+part_size done count xs le = omega (arith, length-take (done + count - done) (drop done xs), length-drop done xs, le)
+
+-- the same of a vault that holds what it held before
+pub cut_here : (head : WavHead) (from done count all have c : ℕ) (old now : Sounds) (name : List ℕ) (out : List ℤ)
+    (why : SoundFault)
+    → now ≡ old → all ≡ length out → done + count ≤ all → IsChannelOf head from (sound_bytes (old name)) c (take done out)
+    → have ≡ min (bytes_of head (length (take (done + count - done) (drop done out))))
+    (length (sound_bytes (now name)) - place_of head (from + done))
+    → have < bytes_of head count → why ≡ BadWav (Truncated (bytes_of head all) (bytes_of head done + have))
+    → IsCut head from all (sound_bytes (old name)) why
+cut_here head from done count all have c old now name out why same long le is few lt named =
+    let size = part_size done count out (omega (arith, long, le)) in
+    let front : length (take done out) ≡ done = length-take-le done out (omega (arith, long, le)) in
+    let C : Sounds → Type 0 = λ s. have ≡ min (bytes_of head count) (length (sound_bytes (s name))
+    - place_of head (from + done)) in
+    let there = few ∙ ap (λ (n : ℕ). min (bytes_of head n) (length (sound_bytes (now name))
+    - place_of head (from + done))) size in
+    cut_found head from done count all have (sound_bytes (old name)) (take done out) c why le front is
+    (subst C same there) lt named
 
 -- ---- what the whole sound says
 

@@ -1,11 +1,10 @@
 -- Texts that are written a part at a time.
-use Rattle.std.proofs.Common.{◌≡◌, inl, inr, ℕ, ◌+◌, List, [], ◌++◌, length, take, drop, Option, Some, sym, ap, subst}
-use Rattle.std.proofs.Common.{◌∙◌, arith, length-append, append_assoc}
-use Rattle.std.proofs.Math.Seq.{take-add, take-append_seam, drop-append_seam}
-use Rattle.std.proofs.{lemmas.List.take-append-drop, lemmas.List.take-append-le, lemmas.Grind.flat_map-append}
-use Rattle.pcm_base.specs.{declared.sound.Frame.Frame, Recordings.bytes_of_frame, Recordings.frame_bytes}
-use Rattle.edit_ports.specs.Sounds.{sound_bytes, MayHaveGrown}
-use Rattle.wav_pcm.specs.Written.{MayBegin}
+use Rattle.wav_pcm.proofs.Common.{◌≡◌, inl, inr, ℕ, ◌+◌, List, [], ◌++◌, length, take, drop, Option, Some, sym, ap}
+use Rattle.wav_pcm.proofs.Common.{subst, ◌∙◌, arith, length-append, take-append_seam, drop-append_seam, flat_map-append}
+use Rattle.wav_pcm.proofs.Common.{Frame, bytes_of_frame, frame_bytes, sound_bytes, MayHaveGrown, MayBegin}
+use Rattle.std.proofs.Common.{append_assoc}
+use Rattle.std.proofs.Math.Seq.{take-add}
+use Rattle.std.proofs.{lemmas.List.take-append-drop, lemmas.List.take-append-le}
 
 pub frames_split : (n : ℕ) (fs : List Frame) → frame_bytes fs ≡ frame_bytes (take n fs) ++ frame_bytes (drop n fs)
 frames_split n fs =

@@ -1,12 +1,14 @@
 -- What a head needs of the bytes of a sound: the front of a `fmt ` chunk, and whole frames.
-use Rattle.std.proofs.Common.{◌≡◌, ◌≤◌, ◌<◌, ℕ, ◌+◌, ◌*◌, ◌/◌, ◌%◌, List, [], ◌++◌, length, take, drop, map, min, Ok}
-use Rattle.std.proofs.Common.{Some, ◌≢◌, refl, sym, ap, ◌∙◌, arith, inl, inr, append-nil}
-use Rattle.std.proofs.lemmas.Bool.{le-ltb, cases_lt, ne_eqb}
-use Rattle.std.proofs.lemmas.List.{get_or-take, take_all, length-take-le, length-drop, take-take, drop-take, take_min}
-use Rattle.std.proofs.lemmas.List.FromFn.{fill_by_all, get_or-map-range_with_len, length-map-range_with_len}
-use Rattle.std.proofs.{lemmas.Nat.div-add-mod', lemmas.Nat.mod_below, Math.Nat.div-eq_of_lt, Math.Nat.mul_comm}
-use Rattle.std.specs.{Prelude.ℤ, Prelude.slice_index, List.range_with_len}
-use Rattle.pcm_base.specs.Wave.{Format, Sound, format_of, u32_at, i16_at, channel_of, sound_of, data_of}
+use Rattle.wav_pcm.proofs.Common.{◌≡◌, ◌≤◌, ◌<◌, ℕ, ◌+◌, ◌*◌, ◌/◌, ◌%◌, List, [], ◌++◌, length, take, drop, map, min}
+use Rattle.wav_pcm.proofs.Common.{Ok, Some, ◌≢◌, refl, sym, ap, ◌∙◌, arith, inl, inr, le-ltb, cases_lt, ne_eqb}
+use Rattle.wav_pcm.proofs.Common.{get_or-take, take_all, length-take-le, length-drop, take-take, drop-take, fill_by_all}
+use Rattle.wav_pcm.proofs.Common.{get_or-map-range_with_len, length-map-range_with_len, div-add-mod', mod_below}
+use Rattle.wav_pcm.proofs.Common.{mul_comm, slice_index, range_with_len, Format, Sound, format_of, u32_at, i16_at}
+use Rattle.wav_pcm.proofs.Common.{channel_of, sound_of, data_of}
+use Rattle.std.proofs.Common.{append-nil}
+use Rattle.std.proofs.lemmas.List.{take_min}
+use Rattle.std.proofs.{Math.Nat.div-eq_of_lt}
+use Rattle.std.specs.{Prelude.ℤ}
 use Rattle.wav_pcm.proofs.BufferLaws.{channel_parts}
 
 byte_in_front : (n : ℕ) (xs : List ℕ) (k : ℕ) → k < n → slice_index (take n xs) k ≡ slice_index xs k

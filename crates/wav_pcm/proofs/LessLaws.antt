@@ -1,14 +1,12 @@
 -- What says of a sound that it is cut short names more bytes than there are.
-use Rattle.std.proofs.Common.{◌≡◌, ◌<◌, ◌+◌, ◌*◌, ℕ, zero, suc, List, [], ◌∷◌, length, take, drop, true, false, Bool}
-use Rattle.std.proofs.Common.{Option, Some, None, Result, Ok, Err, inl, inr, subst}
-use Rattle.std.proofs.lemmas.Bool.{cases_lt, lt-ltb, le-ltb}
-use Rattle.std.specs.{Prelude.codes, Prelude.nat_lt, Prelude.◌==◌, Prelude.not, Prelude.if◌then◌else◌, Str.bytes_eq}
-use Rattle.pcm_base.specs.declared.wav.WavFault.{WavFault}
-use Rattle.pcm_base.specs.declared.wav.WavFault.TheVariants.{BadAlign, BadBits, BadChannels, BadRate, BadTag, FmtShort}
-use Rattle.pcm_base.specs.declared.wav.WavFault.TheVariants.{NotRiff, Truncated}
-use Rattle.pcm_base.specs.Wave.{Format, Sound, and_then, chunk_then, chunks_from, data_of, ended, fields_of, format_of}
-use Rattle.pcm_base.specs.Wave.{is_channels, is_pcm, is_riff, is_short, padded, seen_after, some_format, sound_of}
-use Rattle.pcm_base.specs.Wave.{u16_at, u32_at, wav_of}
+use Rattle.wav_pcm.proofs.Common.{◌≡◌, ◌<◌, ◌+◌, ◌*◌, ℕ, zero, suc, List, [], ◌∷◌, length, take, drop, true, false}
+use Rattle.wav_pcm.proofs.Common.{Bool, Option, Some, None, Result, Ok, Err, inl, inr, subst, cases_lt, lt-ltb, le-ltb}
+use Rattle.wav_pcm.proofs.Common.{codes, if◌then◌else◌, bytes_eq, WavFault, BadRate, Truncated, Format, Sound}
+use Rattle.wav_pcm.proofs.Common.{chunks_from, data_of, ended, format_of, padded, seen_after, some_format, sound_of}
+use Rattle.wav_pcm.proofs.Common.{u16_at, u32_at, wav_of}
+use Rattle.std.specs.{Prelude.nat_lt, Prelude.◌==◌, Prelude.not}
+use Rattle.pcm_base.specs.declared.wav.WavFault.TheVariants.{BadAlign, BadBits, BadChannels, BadTag, FmtShort, NotRiff}
+use Rattle.pcm_base.specs.Wave.{and_then, chunk_then, fields_of, is_channels, is_pcm, is_riff, is_short}
 
 abbrev HasLess : WavFault → Type 0
 HasLess (Truncated want have) = have < want

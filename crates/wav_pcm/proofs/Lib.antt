@@ -1,3 +1,4 @@
+mod Common
 pub mod ChunkLaws
 pub mod BufferLaws
 pub mod WrittenLaws

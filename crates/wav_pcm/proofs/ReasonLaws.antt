@@ -1,13 +1,9 @@
 -- Each reason that a reader of a sound meets, whatever its vault tells, is that of some bytes.
-use Rattle.std.proofs.Common.{◌≡◌, ◌∙◌, ℕ, List, [], ◌∷◌, ◌++◌, length, take, drop, Option, Some, None, Err, ap, arith}
-use Rattle.std.proofs.Common.{inr, refl, subst, sym}
-use Rattle.std.proofs.lemmas.List.{take_all}
-use Rattle.std.specs.Prelude.{codes}
-use Rattle.pcm_base.specs.declared.wav.WavFault.{WavFault}
-use Rattle.pcm_base.specs.Wave.{Format, ended, format_of, some_format, seen_after, u32_at, riff_header, format_head}
-use Rattle.pcm_base.specs.Wave.{format_tail}
+use Rattle.wav_pcm.proofs.Common.{◌≡◌, ◌∙◌, ℕ, List, [], ◌∷◌, ◌++◌, length, take, drop, Option, Some, None, Err, ap}
+use Rattle.wav_pcm.proofs.Common.{arith, inr, refl, subst, sym, take_all, codes, WavFault, Format, ended, format_of}
+use Rattle.wav_pcm.proofs.Common.{some_format, seen_after, u32_at, riff_header, format_head, format_tail, SoundFault}
+use Rattle.wav_pcm.proofs.Common.{BadWav}
 use Rattle.wav_pcm.specs.Parts.{IsOfSome, IsSomeReason}
-use Rattle.wav_pcm.specs.{declared.fault.SoundFault.SoundFault, declared.fault.SoundFault.TheVariants.BadWav}
 use Rattle.wav_pcm.proofs.{ChunkLaws.refuses, WrittenLaws.riff_read, WrittenLaws.format_read}
 use Rattle.pcm_base.specs.declared.wav.WavFault.TheVariants as wav
 

@@ -1,11 +1,10 @@
 -- One sample more of those that are taken out of frames, and what 16 bits hold.
-use Rattle.std.proofs.Common.{◌≡◌, ◌<◌, ◌+◌, ◌*◌, ◌++◌, ◌∷◌, [], map, take, length, arith, sym, ap, ◌∙◌, ℕ, List, ℤ}
+use Rattle.wav_pcm.proofs.Common.{◌≡◌, ◌<◌, ◌+◌, ◌*◌, ◌++◌, ◌∷◌, [], map, take, length, arith, sym, ap, ◌∙◌, ℕ, List, ℤ}
+use Rattle.wav_pcm.proofs.Common.{to_z-of_z, take_more_set, map-range_with_len_more, range_with_len, w16, slice_index}
+use Rattle.wav_pcm.proofs.Common.{channel_of, i16_at, u16_at, FitSamples}
 use Rattle.std.proofs.Common.{to_z, of_z, FitsSigned}
-use Rattle.std.proofs.{lemmas.Int.to_z-of_z, lemmas.List.take_more_set, lemmas.List.FromFn.map-range_with_len_more}
 use Rattle.std.proofs.{lemmas.List.Elements.All-map, Math.Facts.sfits_to_z}
-use Rattle.std.specs.{List.range_with_len, Int.w16, Prelude.slice_index, Prelude.◌/◌}
-use Rattle.pcm_base.specs.Wave.{channel_of, i16_at, u16_at}
-use Rattle.wav_pcm.specs.Heads.{FitSamples}
+use Rattle.std.specs.{Prelude.◌/◌}
 use lib.ListN.{set}
 use mir.Val.{Fits, SFits}
 use mir.Syntax.{w8}

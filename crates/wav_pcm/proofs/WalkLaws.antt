@@ -1,14 +1,10 @@
 -- The chunks of a sound, of which a number of bytes is left.
-use Rattle.std.proofs.Common.{◌≡◌, ◌≤◌, ◌<◌, ℕ, ◌+◌, ◌-◌, List, length, take, drop, true, false, Option, Result, Ok}
-use Rattle.std.proofs.Common.{Err, sym, ap, ◌∙◌, arith, inl, inr, subst}
-use Rattle.std.proofs.lemmas.List.{length-drop, drop-drop}
-use Rattle.std.proofs.{lemmas.Bool.cases_lt, Math.ListN.drop_of_length-le}
-use Rattle.pcm_base.specs.declared.wav.WavFault.{WavFault}
-use Rattle.pcm_base.specs.Wave.{Format, Sound, chunks_from, data_of, ended, seen_after, padded, sound_of}
-use Rattle.wav_pcm.specs.declared.fault.SoundFault.TheVariants.{NoFile, Vault, BadWav, TooLong}
-use Rattle.wav_pcm.specs.Heads.{Finds, IsDataFound, bytes_of}
-use Rattle.wav_pcm.specs.{declared.heads.WavHead.WavHead, declared.parts.Chunk.Chunk}
-use Rattle.wav_pcm.specs.{declared.fault.SoundFault.SoundFault, Parts.IsChunk, Parts.IsFault}
+use Rattle.wav_pcm.proofs.Common.{◌≡◌, ◌≤◌, ◌<◌, ℕ, ◌+◌, ◌-◌, List, length, take, drop, true, false, Option, Result, Ok}
+use Rattle.wav_pcm.proofs.Common.{Err, sym, ap, ◌∙◌, arith, inl, inr, subst, length-drop, drop-drop, cases_lt, WavFault}
+use Rattle.wav_pcm.proofs.Common.{Format, Sound, chunks_from, data_of, ended, seen_after, padded, sound_of, NoFile}
+use Rattle.wav_pcm.proofs.Common.{Vault, BadWav, TooLong, Finds, bytes_of, WavHead, Chunk, SoundFault, IsChunk, IsFault}
+use Rattle.std.proofs.{Math.ListN.drop_of_length-le}
+use Rattle.wav_pcm.specs.Heads.{IsDataFound}
 use Rattle.wav_pcm.proofs.ChunkLaws.{data_found, passed, refusal_found, refusal_end}
 
 rest_long : (bytes : List ℕ) (size left : ℕ) → length bytes ≡ size → left ≤ size

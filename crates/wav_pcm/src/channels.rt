@@ -165,31 +165,30 @@ pub fn read_channel<V: Vault>(
 }
 
 /// Reads samples of a channel of a WAV file of a vault into `out`, from frame `from` on, as many as it has places for.
-/// `c` counts from 0, and `buf` has at least 64 bytes. The head says where the samples are. The bytes are read into
-/// `buf` a buffer at a time, and where the sound has fewer of the bytes asked for, it is Truncated, for every length of
-/// `buf` with the same two numbers. It takes no memory. Errors: BadWav with Truncated, and VaultFault. After an error
+/// `buf` has at least 64 bytes. The head says where the samples are. The bytes are read into `buf` a buffer at a time,
+/// and where the sound has fewer of the bytes asked for, it is Truncated, for every length of `buf` with the same two
+/// numbers. It takes no memory. Errors: BadWav with Truncated, and VaultFault. After an error
 /// `out` may hold anything.
 pub fn channel<V: Vault>(
     vault: &mut V,
     name: &str,
-    head: &WavHead,
-    c: u16,
+    of: ChannelOf,
     from: u64,
     buf: &mut [u8],
     out: &mut [i16],
 ) -> Result<(), Refusal>
     requires room { 64 ≤ length buf.old }
-    requires shape { HasShape head.now }
-    requires channel { c < head.now.channels }
-    requires within { from + length out.old ≤ head.now.frames }
-    ensures read { IsTrue (V.tells vault.old) → OnOk result (IsChannelOf head.now from
-        (sound_bytes (V.holds vault.old name.now)) c out.new) }
-    ensures refused { IsTrue (V.tells vault.old) → IfErr result (IsFor (IsCut head.now from (length out.old)
+    requires shape { HasShape of.head }
+    requires channel { of.c < of.head.channels }
+    requires within { from + length out.old ≤ of.head.frames }
+    ensures read { IsTrue (V.tells vault.old) → OnOk result (IsChannelOf of.head from
+        (sound_bytes (V.holds vault.old name.now)) of.c out.new) }
+    ensures refused { IsTrue (V.tells vault.old) → IfErr result (IsFor (IsCut of.head from (length out.old)
         (sound_bytes (V.holds vault.old name.now)))) }
     // Where the head is that of the sound, no byte is lacking, and these are the samples that its bytes say.
-    ensures valid { IsTrue (V.tells vault.old) → IsHeadOf (V.holds vault.old name.now) head.now
-        → OnOk result (SaysChannel (V.holds vault.old name.now) c from out.new) }
-    ensures whole { IsTrue (V.tells vault.old) → IsHeadOf (V.holds vault.old name.now) head.now
+    ensures valid { IsTrue (V.tells vault.old) → IsHeadOf (V.holds vault.old name.now) of.head
+        → OnOk result (SaysChannel (V.holds vault.old name.now) of.c from out.new) }
+    ensures whole { IsTrue (V.tells vault.old) → IsHeadOf (V.holds vault.old name.now) of.head
         → IfErr result (IsFor IsVaultAlone) }
     // Whatever the vault tells: fewer bytes came than were asked for.
     ensures short { IfErr result (IsFor IsShort) }
@@ -197,7 +196,6 @@ pub fn channel<V: Vault>(
     ensures tells { V.tells vault.new ≡ V.tells vault.old }
     ensures faults { RefusalCounted result (V.fault_count vault.old) (V.fault_count vault.new) }
 {
-    let of = ChannelOf { head: *head, c };
     match read_channel(vault, name, of, from, buf, out) {
         Ok(()) => Ok(()),
         Err(why) => Err(Refusal::from(why)),

@@ -1,17 +1,16 @@
 -- Damage that is told is that of a block that the studio names.
-use Rattle.std.proofs.Common.{◌≡◌, inl, inr, subst, ap, ℕ, zero, suc, ◌<◌, Option, List, [], ◌∷◌, length, get_or}
-use Rattle.std.proofs.Common.{Contains, Result, Ok, Err, arith}
+use Rattle.editor_state.proofs.Common.{◌≡◌, inl, inr, subst, ap, ℕ, zero, suc, ◌<◌, Option, List, [], ◌∷◌, length}
+use Rattle.editor_state.proofs.Common.{Contains, Result, Ok, Err, arith, Old, Scaled, Zero, Given, BlockRef, Refusal}
+use Rattle.editor_state.proofs.Common.{Files, BlockFault, IsDamagedIn, AreAmong}
+use Rattle.std.proofs.Common.{get_or}
 use Rattle.std.specs.Prelude.{IfErr}
-use Rattle.pcm_base.specs.declared.piece.Piece.TheVariants.{Old, Scaled, Zero, Given}
-use Rattle.pcm_base.specs.{declared.block.BlockRef.BlockRef, declared.piece.Piece.Piece}
-use Rattle.pcm_base.specs.{declared.refusal.Refusal.Refusal}
-use Rattle.disk_model.specs.Disk.{Files, bytes_of}
+use Rattle.pcm_base.specs.{declared.piece.Piece.Piece}
+use Rattle.disk_model.specs.Disk.{bytes_of}
 use Rattle.block_sequence.specs.Origins.{AllFrom}
-use Rattle.block_store.specs.{declared.fault.BlockFault.BlockFault, Reads.IsFault, Reads.IsFaultIn}
+use Rattle.block_store.specs.{Reads.IsFault, Reads.IsFaultIn}
 use Rattle.edit_ops.specs.{declared.types.NewBlock.NewBlock, Plans.AllNewFrom}
-use Rattle.envelope_view.specs.Answers.{IsDamagedIn}
 use Rattle.block_writer.specs.Reading.{IsFaultAmong}
-use Rattle.editor_state.specs.{Edits.AreAmong, Makes.IsDamageAmong}
+use Rattle.editor_state.specs.{Makes.IsDamageAmong}
 use Rattle.editor_state.proofs.Blocks.BlockLists.{contained}
 use Rattle.pcm_base.specs.declared.refusal.Refusal.TheVariants as refusal
 use Rattle.block_store.specs.declared.fault.BlockFault.TheVariants as fault

@@ -1,11 +1,8 @@
 -- The blocks of sound tracks are no longer than the block size.
-use Rattle.std.proofs.Common.{ℕ, ◌≤◌, List, [], ◌∷◌}
-use Rattle.std.specs.List.{AllByRecursion}
-use Rattle.pcm_base.specs.{declared.block.BlockRef.BlockRef, Blocks.AllFull, Blocks.IsHalfFull, Blocks.block_lens}
-use Rattle.clip_track.specs.{declared.clips.Clip.Clip, Clips.AllHalfFull, Clips.layout_blocks}
-use Rattle.project_state.specs.{declared.track.Track.Track, Meaning.point_blocks}
-use Rattle.record_body.specs.Valid.{AllValidTracks}
-use Rattle.record_body.proofs.SavedBounds.{all_append}
+use Rattle.editor_state.proofs.Common.{ℕ, ◌≤◌, List, [], ◌∷◌, AllByRecursion, BlockRef, Clip, layout_blocks, Track}
+use Rattle.editor_state.proofs.Common.{point_blocks, AllValidTracks, all_append}
+use Rattle.pcm_base.specs.{Blocks.AllFull, Blocks.IsHalfFull, Blocks.block_lens}
+use Rattle.clip_track.specs.{Clips.AllHalfFull}
 
 full_short : (m : ℕ) (bs : List BlockRef) → AllFull m (block_lens bs) → AllByRecursion (λ (b : BlockRef). b.len ≤ m) bs
 full_short m [] full = tt

@@ -1,9 +1,6 @@
 -- What holds of each of some blocks holds of one of them.
-use Rattle.std.proofs.Common.{List, Contains}
-use Rattle.std.proofs.lemmas.List.Elements.{All-from_recursion, All-contains, All-contains_itself, recursion_from_All}
-use Rattle.std.specs.List.{AllByRecursion}
-use Rattle.pcm_base.specs.declared.block.BlockRef.{BlockRef}
-use Rattle.editor_state.specs.Edits.{AreAmong}
+use Rattle.editor_state.proofs.Common.{List, Contains, All-from_recursion, AllByRecursion, BlockRef, AreAmong}
+use Rattle.std.proofs.lemmas.List.Elements.{All-contains, All-contains_itself, recursion_from_All}
 use Rattle.editor_state.proofs.Lists.{all_so}
 
 pub contained : (P : BlockRef → Type 0) (xs : List BlockRef) (x : BlockRef) → AllByRecursion P xs → Contains xs x → P x

@@ -1,17 +1,11 @@
 -- How many blocks there may be.
-use Rattle.std.proofs.Common.{◌≡◌, ⊎_elim, refl, ap, ℕ, zero, suc, ◌+◌, ◌*◌, ◌^◌, ◌≤◌, ◌<◌, eqb, List, [], ◌∷◌, ◌++◌}
-use Rattle.std.proofs.Common.{length, flat_map, length-append, IsSome, if◌then◌else◌, false, arith, Option, None, Some}
-use Rattle.std.proofs.lemmas.Bool.Decides.{eqb_tells}
-use Rattle.std.specs.List.{AllByRecursion}
-use Rattle.pcm_base.specs.declared.block.BlockRef.{BlockRef}
-use Rattle.clip_track.specs.declared.clips.Clip.{Clip}
-use Rattle.clip_track.specs.Clips.{AreClips, IsLayout, end_of, clip_end, layout_blocks}
-use Rattle.project_state.specs.{declared.track.Track.Track, Meaning.point_blocks, Meaning.history_blocks}
-use Rattle.record_body.specs.{Valid.AllValidTracks, SavedValid.IsValidPoint, SavedValid.IsValidTagged}
-use Rattle.disk_model.specs.declared.store.Store.{Ghosts}
-use Rattle.block_ledger.specs.Counts.{occurrences}
-use Rattle.editor_state.specs.Studios.{IsStudio, named_blocks, pin_blocks, clip_blocks}
-use Rattle.editor_state.specs.{Core.Core, declared.pin.Pin.Pin, Occurrences.times_named}
+use Rattle.editor_state.proofs.Common.{rules, ◌≡◌, ⊎_elim, refl, ap, ℕ, zero, suc, ◌+◌, ◌*◌, ◌^◌, ◌≤◌, ◌<◌, eqb, List}
+use Rattle.editor_state.proofs.Common.{[], ◌∷◌, length, flat_map, length-append, IsSome, if◌then◌else◌, false, arith}
+use Rattle.editor_state.proofs.Common.{Option, None, Some, eqb_tells, AllByRecursion, BlockRef, Clip, AreClips}
+use Rattle.editor_state.proofs.Common.{clip_end, layout_blocks, Track, point_blocks, history_blocks, AllValidTracks}
+use Rattle.editor_state.proofs.Common.{IsValidPoint, Ghosts, occurrences, IsStudio, named_blocks, pin_blocks, Core}
+use Rattle.editor_state.proofs.Common.{times_named}
+use Rattle.clip_track.specs.Clips.{IsLayout, end_of}
 use Rattle.editor_state.proofs.Blocks.NamedBlocks.{counted_most, named_counted, numbers_few}
 use Rattle.editor_state.proofs.Lists.{all_so}
 use Rattle.record_body.proofs.Parts.{blocks_few}
@@ -64,34 +58,13 @@ parts_few f (x ∷ xs) h = omega (arith, h.0, parts_few f xs h.1, length-append 
 
 module _ {D : Type 0} (disk : Ghosts D) (s : Core D) (is : IsStudio disk s) where
   history_few : length (history_blocks s.history) ≤ 2 ^ 54
-  history_few =
-      let each = all_so (IsValidTagged s.block_size s.next_block s.next_track s.commit_number)
-      (λ p. length (point_blocks p.0) ≤ 2 ^ 38)
-      (λ p h. point_few s.block_size s.next_block s.next_track p.0 h.0) s.history.points is.points in
-      omega (arith, parts_few (λ p. point_blocks p.0) s.history.points each, is.few_points, is.format.depth_most)
+  history_few = search (rules, all_so, point_few, parts_few)
 
   pins_few : length (pin_blocks s.pins) ≤ 2 ^ 100
-  pins_few =
-      let each = all_so (λ (p : Pin). IsValidPoint s.block_size s.next_block s.next_track p.point)
-      (λ (p : Pin). length (point_blocks p.point) ≤ 2 ^ 38)
-      (λ p h. point_few s.block_size s.next_block s.next_track p.point h) s.pins is.pins in
-      omega (
-        arith,
-        parts_few (λ (p : Pin). point_blocks p.point) s.pins each,
-        numbers_few 1 s.next_pin s.pins is.numbers,
-        is.counters.pin_least,
-        is.counters.pin_most,
-      )
+  pins_few = search (rules, all_so, point_few, parts_few, numbers_few)
 
   pub named_few : length (named_blocks s) < 2 ^ 101
-  named_few = omega (
-    arith,
-    history_few,
-    pins_few,
-    is.few_clips,
-    length-append (history_blocks s.history) (pin_blocks s.pins ++ clip_blocks s.clipboard),
-    length-append (pin_blocks s.pins) (clip_blocks s.clipboard),
-  )
+  named_few = search (rules, history_few, pins_few, length-append)
 
   -- the counts have room for a point more
   pub few_more : (ts : List Track) (next_track : ℕ) → IsValidPoint s.block_size s.next_block next_track ts → (id : ℕ)

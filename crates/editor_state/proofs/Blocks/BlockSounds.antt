@@ -1,16 +1,15 @@
 -- What blocks mean where their files are the same.
-use Rattle.std.proofs.Common.{◌≡◌, ◌∙◌, refl, ap, ℕ, zero, suc, ◌≤◌, ◌^◌, nat_le, nat_lt, ◌&&◌, if◌then◌else◌, pos}
-use Rattle.std.proofs.Common.{List, [], None, slice_index_or, arith}
-use Rattle.std.specs.{Prelude.unwrap_or, Option.option_and_then, List.AllByRecursion}
-use Rattle.pcm_base.specs.History.{History, history_of_one}
-use Rattle.pcm_base.specs.{declared.block.BlockRef.BlockRef, Cells.Project, Pieces.Sources, State.first_point}
-use Rattle.disk_model.specs.Disk.{Files, SameElsewhere}
-use Rattle.sample_block.specs.{Blocks.blocks, Blocks.block_in, Sources.sources_of, Sources.IsWhole, Sources.AllWhole}
-use Rattle.project_state.specs.declared.track.Track.{Track}
-use Rattle.project_state.specs.Meaning.{meant, meant_history, point_blocks, history_blocks}
-use Rattle.record_body.proofs.SavedBounds.{all_append}
+use Rattle.editor_state.proofs.Common.{◌≡◌, ◌∙◌, refl, ap, ℕ, zero, suc, ◌≤◌, ◌^◌, nat_le, nat_lt, ◌&&◌, if◌then◌else◌}
+use Rattle.editor_state.proofs.Common.{pos, List, [], None, arith, unwrap_or, AllByRecursion, History, BlockRef}
+use Rattle.editor_state.proofs.Common.{Project, Sources, Files, SameElsewhere, sources_of, IsWhole, AllWhole, Track}
+use Rattle.editor_state.proofs.Common.{meant, meant_history, point_blocks, history_blocks, all_append, IsGiven}
+use Rattle.editor_state.proofs.Common.{SameBlocks}
+use Rattle.std.proofs.Common.{slice_index_or}
+use Rattle.std.specs.{Option.option_and_then}
+use Rattle.pcm_base.specs.History.{history_of_one}
+use Rattle.pcm_base.specs.{State.first_point}
+use Rattle.sample_block.specs.{Blocks.blocks, Blocks.block_in}
 use Rattle.project_state.proofs.Meanings.{IsSame, same_meaning}
-use Rattle.editor_state.specs.Studios.{IsGiven, SameBlocks}
 use Rattle.editor_state.proofs.Lists.{all_so, all_both}
 
 -- the sources have the same samples of the block

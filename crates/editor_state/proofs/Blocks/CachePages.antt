@@ -1,14 +1,13 @@
 -- The pages that a studio keeps are of blocks that were given, and stay right of its disk.
-use Rattle.std.proofs.Common.{ℕ, ◌+◌, ◌≤◌, List, Contains, IsTrue, arith}
+use Rattle.editor_state.proofs.Common.{ℕ, ◌+◌, ◌≤◌, List, Contains, IsTrue, arith, SameElsewhere, Changed, Room, Ghosts}
+use Rattle.editor_state.proofs.Common.{BlockRef, AllPass, Entries, IsGiven, IsStudio, is_given, named_blocks, Core}
+use Rattle.editor_state.proofs.Common.{AreAmong}
 use Rattle.std.proofs.lemmas.Bool.Decides.{nat_tests}
-use Rattle.disk_model.specs.{Disk.SameElsewhere, Frames.Changed, Room.Room, declared.store.Store.Ghosts}
-use Rattle.pcm_base.specs.declared.block.BlockRef.{BlockRef}
-use Rattle.block_cache.specs.Caches.{AllPass, Entries, IsCacheOf, KeepsCache}
+use Rattle.block_cache.specs.Caches.{IsCacheOf, KeepsCache}
 use Rattle.block_cache.proofs.CacheLaws.{keeps_more, keeps_same, same_none}
 use Rattle.block_cache.proofs.CarriedLaws.{pass_more, right_on}
 use Rattle.project_journal.specs.Packing.{OnlyJournals}
-use Rattle.editor_state.specs.Studios.{IsGiven, IsStudio, is_block, is_given, named_blocks}
-use Rattle.editor_state.specs.{Core.Core, Edits.AreAmong}
+use Rattle.editor_state.specs.Studios.{is_block}
 use Rattle.editor_state.proofs.Blocks.BlockLists.{contained}
 
 given_is : (next id : ℕ) → IsTrue (is_given next id) → IsGiven next id

@@ -1,22 +1,18 @@
 -- The tracks of a studio's points and pins, the blocks that they name, and what is counted of them.
-use Rattle.std.proofs.Common.{◌≡◌, refl, sym, ap, ap₂, ◌∙◌, subst, ℕ, ◌≤◌, ◌<◌, List, [], ◌∷◌, ◌++◌, map, drop}
-use Rattle.std.proofs.Common.{append_assoc, length, length-append, ◌*◌, ◌^◌, ◌+◌, Some, zero, suc, inl, inr, arith}
+use Rattle.editor_state.proofs.Common.{rules, ◌≡◌, refl, sym, ap, ◌∙◌, subst, ℕ, ◌≤◌, ◌<◌, List, [], ◌∷◌, ◌++◌, map}
+use Rattle.editor_state.proofs.Common.{drop, append_assoc, length, length-append, ◌*◌, ◌^◌, ◌+◌, Some, zero, suc, inl}
+use Rattle.editor_state.proofs.Common.{inr, arith, AllByRecursion, BlockRef, History, layout_blocks, Ghosts, Counts}
+use Rattle.editor_state.proofs.Common.{occurrences, Track, history_blocks, point_blocks, history_tracks, AreCounts}
+use Rattle.editor_state.proofs.Common.{Core, times_named, IsStudio, PinsRise, clip_blocks, named_blocks, pin_blocks}
+use Rattle.editor_state.proofs.Common.{pin_tracks, studio_tracks, Pin}
 use Rattle.std.proofs.{lemmas.List.append-nil, lemmas.Grind.flat_map-append}
-use Rattle.std.specs.List.{AllByRecursion, flat_map}
-use Rattle.pcm_base.specs.{declared.block.BlockRef.BlockRef, History.History}
-use Rattle.clip_track.specs.Clips.{layout_blocks}
-use Rattle.disk_model.specs.declared.store.Store.{Ghosts}
-use Rattle.block_ledger.specs.Counts.{Counts, occurrences}
-use Rattle.project_state.specs.{declared.track.Track.Track, Meaning.history_blocks, Meaning.point_blocks}
+use Rattle.std.specs.List.{flat_map}
 use Rattle.record_body.specs.Saved.{current_tracks, first_tracks}
-use Rattle.record_body.specs.SavedValid.{IsValidPoint, IsValidTagged}
-use Rattle.layout_uses.specs.Layouts.{history_tracks, points_tracks, track_blocks}
-use Rattle.layout_uses.specs.{Laws.AreAmong, Laws.IsAmong, Tallies.AreCounts}
+use Rattle.layout_uses.specs.Layouts.{points_tracks, track_blocks}
+use Rattle.layout_uses.specs.{Laws.AreAmong, Laws.IsAmong}
 use Rattle.layout_uses.proofs.Naming.{counted_is_named, counts_most, free_is_unnamed, named_is_counted}
 use Rattle.layout_uses.proofs.{Putting.among_self, Tracks.times_counted}
-use Rattle.editor_state.specs.{Core.Core, Occurrences.HasAll, Occurrences.Moves, Occurrences.times_named}
-use Rattle.editor_state.specs.{Studios.IsStudio, Studios.PinsRise, Studios.clip_blocks, Studios.named_blocks}
-use Rattle.editor_state.specs.{Studios.pin_blocks, Studios.pin_tracks, Studios.studio_tracks, declared.pin.Pin.Pin}
+use Rattle.editor_state.specs.{Occurrences.HasAll, Occurrences.Moves}
 use Rattle.editor_state.proofs.Lists.{all_so}
 
 -- ---- the blocks that they name
@@ -42,11 +38,7 @@ pins_named (p ∷ ps) = tracks_blocks p.point (pin_tracks ps)
 -- of points, pins, and other blocks
 pub tracks_named : (h : History (List Track)) (pins : List Pin) (bs : List BlockRef)
     → track_blocks (history_tracks h ++ pin_tracks pins) ++ bs ≡ history_blocks h ++ (pin_blocks pins ++ bs)
-tracks_named h pins bs =
-    ap (λ (xs : List BlockRef). xs ++ bs)
-    (tracks_blocks (history_tracks h) (pin_tracks pins)
-    ∙ ap₂ (λ (xs ys : List BlockRef). xs ++ ys) (history_named h) (pins_named pins))
-    ∙ append_assoc (history_blocks h) (pin_blocks pins) bs
+tracks_named h pins bs = search (rules, tracks_blocks, history_named, pins_named, append_assoc)
 
 pub studio_named : {D : Type 0} (s : Core D)
     → track_blocks (studio_tracks s) ++ clip_blocks s.clipboard ≡ named_blocks s
@@ -122,17 +114,7 @@ others_counted ts blocks uses counts is id = omega (arith, is.fresh_counts id, t
 -- other blocks in the place of the clipboard's
 pub others_moved : (ts : List Track) (before after : List BlockRef) (uses counts new : Counts)
     → AreCounts ts before uses counts → Moves counts new before after → AreCounts ts after uses new
-others_moved ts before after uses counts new is moves = record {
-  fresh_uses = is.fresh_uses;
-  none_free = is.none_free;
-  fresh_counts = λ id. omega (
-    arith,
-    is.fresh_counts id,
-    moves.counts id,
-    times_counted id ts before,
-    times_counted id ts after,
-  );
-}
+others_moved ts before after uses counts new is moves = search (rules, times_counted)
 
 -- ---- how many there are
 
@@ -169,15 +151,4 @@ numbers_few least next (p ∷ ps) rise le =
 module _ {D : Type 0} (disk : Ghosts D) (s : Core D) (is : IsStudio disk s) where
   -- no more than 2^80 tracks use layouts
   pub tracks_few : length (studio_tracks s) ≤ 2 ^ 80
-  tracks_few = omega (
-    arith,
-    points_few s.history.points (all_so (IsValidTagged s.block_size s.next_block s.next_track s.commit_number)
-        (λ (p : List Track × ℕ). length p.0 ≤ 64) (λ p h. h.0.few) s.history.points is.points),
-    pins_few s.pins (all_so (λ (p : Pin). IsValidPoint s.block_size s.next_block s.next_track p.point)
-        (λ (p : Pin). length p.point ≤ 64) (λ p h. h.few) s.pins is.pins),
-    is.few_points,
-    is.format.depth_most,
-    numbers_few 1 s.next_pin s.pins is.numbers is.counters.pin_least,
-    is.counters.pin_most,
-    length-append (history_tracks s.history) (pin_tracks s.pins),
-  )
+  tracks_few = search (rules, points_few, all_so, pins_few, numbers_few, length-append)

@@ -1,17 +1,13 @@
 -- What one call does, by another premise than that the disk holds the studio: where blocks are made before the call's
 -- record, that the disk held it before the first of them.
-use Rattle.std.proofs.Common.{◌≡◌, ℕ, ◌-◌, [], None, IsSome, Result, IfErr, OnErr, arith}
-use Rattle.std.specs.Prelude.{IfOk}
-use Rattle.pcm_base.specs.{declared.answer.Reply.Reply, declared.command.Call.Call, declared.entry.SoundMove.SoundMove}
-use Rattle.pcm_base.specs.{declared.refusal.Refusal.Refusal, Counters.Needs, Run.outside, Run.Answers}
-use Rattle.disk_model.specs.{Frames.Changed, declared.store.Store.Ghosts}
+use Rattle.editor_state.proofs.Common.{rules, ◌≡◌, ℕ, ◌-◌, [], None, IsSome, Result, IfErr, IfOk, Reply, Call}
+use Rattle.editor_state.proofs.Common.{SoundMove, Refusal, Needs, outside, Answers, Changed, Ghosts, EachNow, EachSince}
+use Rattle.editor_state.proofs.Common.{Keeps, CountsIds, Left, Stops, Untouched, KeepsOneOf, Took, asks, number_behind}
+use Rattle.editor_state.proofs.Common.{with_sound, Core, Records, NamesGiven, Needed, Purges, IsHeld, IsStudio, shown}
+use Rattle.editor_state.proofs.Common.{studio_of}
+use Rattle.std.proofs.Common.{OnErr}
 use Rattle.disk_model.proofs.Frames.{changed_wider}
-use Rattle.project_journal.specs.Gate.{EachNow, EachSince}
-use Rattle.record_body.specs.Saved.{Keeps}
-use Rattle.editor_state.specs.Left.{CountsIds, Left, MayRemove, Stops, Untouched}
-use Rattle.editor_state.specs.Took.{KeepsOneOf, Took, asks, number_behind, with_sound}
-use Rattle.editor_state.specs.{Core.Core, Records.Records, Spent.NamesGiven, Spent.Needed, Packing.packed_by}
-use Rattle.editor_state.specs.{Purges.Purges, Studios.IsHeld, Studios.IsStudio, Studios.shown, Studios.studio_of}
+use Rattle.editor_state.specs.{Packing.packed_by}
 use Rattle.editor_state.proofs.Calls.OtherFiles.{Leaving, others_more}
 use Rattle.editor_state.proofs.Calls.FileRemovals.{PacksNone, RemovesNone, frees_none}
 
@@ -44,27 +40,5 @@ pub took_so : {D : Type 0} (disk : Ghosts D) (old : Core D) (call : Call) (sound
     → IfErr told (Needed disk old call sound) → Untouched disk old call told new
     → Stops disk old told new → IfErr told (Left disk old new)
     → Took disk old (with_sound call sound told) new
-took_so disk old call sound told new took none plain ids given needed untouched stops left = record {
-  studio = took.studio;
-  held = took.held;
-  step = took.step;
-  any_moment = took.any_moment;
-  refused = took.refused;
-  now = took.now;
-  number = took.number;
-  rests = took.rests;
-  len = took.len;
-  needs = took.needs;
-  records = took.records;
-  given = given;
-  needed = needed;
-  changed =
-      changed_wider (others_more old.next_block new.next_block (MayRemove call old.counts))
-      (record { files = omega arith; bytes = omega arith; calls = omega arith }) took.changed;
-  frees = frees_none disk old call told new none plain;
-  ids = ids;
-  purges = took.purges;
-  untouched = untouched;
-  stops = stops;
-  left = left;
-}
+took_so disk old call sound told new took none plain ids given needed untouched stops left =
+    search (rules, changed_wider, others_more, frees_none)

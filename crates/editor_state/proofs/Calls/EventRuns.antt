@@ -1,18 +1,15 @@
 -- Events that are carried out one after another are a run.
-use Rattle.std.proofs.Common.{◌≡◌, inl, refl, sym, ap, ◌∙◌, subst, ℕ, ◌+◌, ◌≤◌, Bool, IsSome, Option, Some, None, List}
-use Rattle.std.proofs.Common.{[], ◌∷◌, ◌++◌, take, slice_get, zero, suc, Result, Ok, Err, arith}
-use Rattle.std.proofs.lemmas.Option.{none-some, same_Some}
-use Rattle.pcm_base.specs.{declared.answer.Answer.Answer, declared.answer.Reply.Reply, declared.command.Call.Call}
-use Rattle.pcm_base.specs.{declared.command.Command.Command, declared.entry.Entry.Entry, declared.entry.Event.Event}
-use Rattle.pcm_base.specs.{declared.refusal.Refusal.Refusal, Outside.Sounds, Run.Follows, Run.Heard, Run.name_in}
-use Rattle.disk_model.specs.{declared.store.Store.Ghosts, Frames.Changed, Room.Room}
-use Rattle.disk_model.proofs.Frames.{Fewer, changed_none, changed_turn}
+use Rattle.editor_state.proofs.Common.{rules, ◌≡◌, inl, refl, sym, ap, ◌∙◌, subst, ℕ, ◌+◌, ◌≤◌, Bool, Option, Some}
+use Rattle.editor_state.proofs.Common.{None, List, [], ◌∷◌, ◌++◌, take, zero, suc, Result, Ok, Err, arith, none-some}
+use Rattle.editor_state.proofs.Common.{same_Some, Reply, Call, Command, Entry, Refusal, Sounds, Heard, name_in, Ghosts}
+use Rattle.editor_state.proofs.Common.{Changed, Room, Fewer, changed_none, EachSince, Span, TookOver, reply_of}
+use Rattle.editor_state.proofs.Common.{KeepsPrefix, IsHeld, IsStudio, studio_of, Core, LeavesForeign, number_behind}
+use Rattle.std.proofs.Common.{slice_get}
+use Rattle.pcm_base.specs.{declared.answer.Answer.Answer, declared.entry.Event.Event, Run.Follows}
+use Rattle.disk_model.proofs.Frames.{changed_turn}
 use Rattle.disk_model.proofs.{Moments.each_on, Rooms.within_refl}
-use Rattle.project_journal.specs.Gate.{EachSince}
-use Rattle.editor_state.specs.Applied.{Applies, EndsAlike, IsTold, Span, TookOver, exchange_over, move_of, reply_of}
-use Rattle.editor_state.specs.Events.{AreEntries, AreTold, EventChain, IsOther, KeepsPrefix, RanOver, events_ask}
-use Rattle.editor_state.specs.Studios.{IsHeld, IsStudio, studio_of}
-use Rattle.editor_state.specs.{Core.Core, Left.LeavesForeign, Took.number_behind}
+use Rattle.editor_state.specs.Applied.{Applies, EndsAlike, IsTold, exchange_over, move_of}
+use Rattle.editor_state.specs.Events.{AreEntries, AreTold, EventChain, IsOther, RanOver, events_ask}
 use Rattle.editor_state.proofs.Calls.RunEntries.{flies, prefix_more, run_more, step_of}
 use Rattle.editor_state.proofs.Lists.{all_left, all_right}
 use Rattle.editor_state.proofs.Calls.OtherFiles.{foreign_of, foreign_same, foreign_then}
@@ -163,10 +160,7 @@ module _ {D : Type 0} (disk : Ghosts D) (fewer : (store : D) → Fewer disk stor
       let images = (over.took (last tell)).changed.images in
       each_on (KeepsPrefix t all) (disk.clock old.store) images was.changed.images.later (first tell going held)
       (second tell still held)
-  stays (Some faults) stopped tell going held =
-      let same = over.lasts.rests (subst IsSome (sym stopped) refl) in
-      subst (λ (z : D). EachSince disk old.store z (KeepsPrefix t all)) (sym (ap (λ (z : Core D). z.store) same))
-      (first tell going held)
+  stays (Some faults) stopped tell going held = search (rules, first)
 
   raised : (r : Result Reply Refusal) → s.commit_number ≤ number_behind r e.call s.commit_number
   raised (Ok r) = omega arith

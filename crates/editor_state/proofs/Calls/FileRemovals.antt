@@ -1,18 +1,14 @@
 -- Calls that remove no file, and the ids that are counted after them.
-use Rattle.std.proofs.Common.{◌≡◌, ◌↔◌, ◌⊎◌, ◌∙◌, inl, inr, ⊎_elim, refl, sym, subst, ℕ, suc, ◌+◌, ◌≤◌, ◌<◌, IsSome}
-use Rattle.std.proofs.Common.{List, [], true, Option, Some, None, Result, Ok, Err, Bool, false, if◌then◌else◌, ap}
-use Rattle.std.proofs.Common.{arith}
-use Rattle.std.proofs.lemmas.Bool.{true≢false}
-use Rattle.std.specs.Prelude.{Contains, IfOk}
-use Rattle.pcm_base.specs.declared.command.Command.TheVariants.{Compact, Import, Reclaim}
-use Rattle.pcm_base.specs.{declared.answer.Reply.Reply, declared.command.Call.Call}
-use Rattle.pcm_base.specs.{declared.command.Call.TheVariants.Line, declared.refusal.Refusal.Refusal}
-use Rattle.pcm_base.specs.{Counters.commits_of, Run.name_in}
-use Rattle.disk_model.specs.{Frames.Kept, declared.store.Store.Ghosts}
-use Rattle.block_ledger.specs.Counts.{Counts}
-use Rattle.editor_state.specs.Exchanges.{is_broken_off, is_cut_off, may_begin, may_have_begun, reads_sound}
-use Rattle.editor_state.specs.Removals.{Forgets, Frees, PacksJournal}
-use Rattle.editor_state.specs.{Core.Core, Left.CountsIds, Makes.AddsFree, Records.Records, Spent.NamesGiven}
+use Rattle.editor_state.proofs.Common.{rules, ◌≡◌, ◌↔◌, ◌∙◌, inl, ⊎_elim, refl, sym, subst, ℕ, suc, ◌+◌, IsSome, List}
+use Rattle.editor_state.proofs.Common.{[], true, Option, Some, None, Result, Ok, Err, Bool, false, if◌then◌else◌, ap}
+use Rattle.editor_state.proofs.Common.{arith, true≢false, IfOk, Reclaim, Reply, Call, Line, Refusal, commits_of}
+use Rattle.editor_state.proofs.Common.{name_in, Kept, Ghosts, Counts, is_broken_off, may_begin, may_have_begun}
+use Rattle.editor_state.proofs.Common.{reads_sound, Frees, Core, CountsIds, Records, NamesGiven}
+use Rattle.std.specs.Prelude.{Contains}
+use Rattle.pcm_base.specs.declared.command.Command.TheVariants.{Compact, Import}
+use Rattle.editor_state.specs.Exchanges.{is_cut_off}
+use Rattle.editor_state.specs.Removals.{Forgets, PacksJournal}
+use Rattle.editor_state.specs.{Makes.AddsFree}
 
 -- ---- the files
 
@@ -43,13 +39,7 @@ frees_none disk old c told new none plain = refl
 -- a compact that was refused says nothing of the journal
 pub packs_refused : {D : Type 0} (disk : Ghosts D) (old : Core D) (why : Refusal) (new : Core D)
     → PacksJournal disk old (Err why) new
-packs_refused disk old why new = record {
-  size = tt;
-  alone = λ told. tt;
-  settled = λ keeps. tt;
-  gone = λ told. tt;
-  fields = tt;
-}
+packs_refused disk old why new = search rules
 
 pub frees_refused : {D : Type 0} (disk : Ghosts D) (old : Core D) (c : Call) (why : Refusal) (new : Core D)
     → RemovesNone c → Frees disk old c (Err why) [] new
@@ -119,28 +109,12 @@ module _ {D : Type 0} (old new : Core D) where
   pub ids_made : (counts : Counts) (n : ℕ) → AddsFree old.next_block n old.counts counts
       → ((id : ℕ) → IsSome (new.counts id) ↔ IsSome (counts id)) → new.next_block ≡ old.next_block + n
       → CountsIds old [] new
-  ids_made counts n adds same next id = (
-    λ some. (to ((adds.ids id).0 ((same id).0 some)), none_in id),
-    λ has. (same id).1 ((adds.ids id).1 (from has.0)),
-  )
-    where
-      to : IsSome (old.counts id) ⊎ ((old.next_block ≤ id) × (id < old.next_block + n))
-          → IsSome (old.counts id) ⊎ ((old.next_block ≤ id) × (id < new.next_block))
-      to (inl some) = inl some
-      to (inr at) = inr (at.0, omega (arith, at.1, next))
-
-      from : IsSome (old.counts id) ⊎ ((old.next_block ≤ id) × (id < new.next_block))
-          → IsSome (old.counts id) ⊎ ((old.next_block ≤ id) × (id < old.next_block + n))
-      from (inl some) = inl some
-      from (inr at) = inr (at.0, omega (arith, at.1, next))
+  ids_made counts n adds same next id = search (rules, none_in)
 
   -- no file was removed, and no block was made
   pub ids_still : ((id : ℕ) → IsSome (new.counts id) ↔ IsSome (old.counts id)) → new.next_block ≡ old.next_block
       → CountsIds old [] new
-  ids_still same next id = (
-    λ some. (inl ((same id).0 some), none_in id),
-    λ has. ⊎_elim (λ some. (same id).1 some) (λ at. absurd (omega (arith, at.0, at.1, next))) has.0,
-  )
+  ids_still same next id = search (rules, none_in)
 
   -- these files were removed, and no block was made
   pub ids_freed : (counts : Counts) (ids : List ℕ) → Forgets old.counts counts ids → new.counts ≡ counts
@@ -161,9 +135,4 @@ module _ {D : Type 0} (old new : Core D) where
 -- nothing of the counts and of the next block changed
 pub ids_same : {D : Type 0} (s new : Core D) → new.counts ≡ s.counts → new.next_block ≡ s.next_block
     → CountsIds s [] new
-ids_same s new counts next = ids_still s new
-    (λ id. (
-      λ some. subst (λ (k : Counts). IsSome (k id)) counts some,
-      λ some. subst (λ (k : Counts). IsSome (k id)) (sym counts) some,
-    ))
-    next
+ids_same s new counts next = search (rules, ids_still)

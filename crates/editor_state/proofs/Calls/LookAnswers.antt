@@ -1,13 +1,9 @@
 -- What a call that only looks leaves, and why it does not answer.
-use Rattle.std.proofs.Common.{◌≡◌, refl, sym, subst, ℕ, ◌≤◌, List, length, take, Ok, Err, Result}
-use Rattle.pcm_base.specs.{declared.answer.Reply.Reply, declared.command.Call.Call, declared.refusal.Refusal.Refusal}
-use Rattle.disk_model.specs.{Frames.Kept, declared.store.Store.Ghosts}
-use Rattle.disk_model.proofs.Frames.{Fewer, kept_none}
-use Rattle.block_store.specs.{declared.fault.BlockFault.BlockFault, Reasons.reason_of}
-use Rattle.envelope_view.specs.Answers.{IsUndamaged}
+use Rattle.editor_state.proofs.Common.{rules, ◌≡◌, refl, sym, subst, ℕ, ◌≤◌, List, length, take, Ok, Err, Result, Reply}
+use Rattle.editor_state.proofs.Common.{Call, Refusal, Kept, Ghosts, Fewer, kept_none, BlockFault, reason_of}
+use Rattle.editor_state.proofs.Common.{IsUndamaged, Core, IsHeld, Took, quietly, Entries}
 use Rattle.editor_state.specs.Reads.{Looks, Sees, Seen}
-use Rattle.editor_state.specs.{Adding.IsNoWant, Core.Core, Studios.IsHeld, Took.Took, Took.quietly}
-use Rattle.block_cache.specs.Caches.{Entries}
+use Rattle.editor_state.specs.{Adding.IsNoWant}
 use Rattle.block_store.specs.declared.fault.BlockFault.TheVariants as fault
 
 -- a fault of a block is no want of memory
@@ -54,8 +50,4 @@ module _ {D : Type 0} (disk : Ghosts D) (s : Core D) (c : Call) where
         → (IsHeld disk s → why ≡ fault.DiskFault)
         → Took disk s (quietly c (Err (reason_of why))) (record s { store = store; cache = cache })
         → Sees disk s (seen c reply out (Err (reason_of why))) (record s { store = store; cache = cache })
-    unread_sees reply out why valid took = record {
-      looks = unread_looks (reason_of why) (λ held. undamaged why (valid held)) took;
-      count = tt;
-      memory = no_want why;
-    }
+    unread_sees reply out why valid took = search (rules, unread_looks, undamaged, no_want)

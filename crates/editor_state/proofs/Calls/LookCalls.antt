@@ -1,21 +1,16 @@
 -- A call that only reads the disk leaves the studio as it was, but for the count of failed reads and its pages.
-use Rattle.std.proofs.Common.{◌≡◌, ◌↔◌, inl, inr, refl, sym, ap, ◌∙◌, subst, ◌+◌, IsTrue, IsSome, Some, None, Ok, Err}
-use Rattle.std.proofs.Common.{ℕ, arith}
-use Rattle.pcm_base.specs.Run.{Leaves, CarriesOut, Answers, outside, refusal_of}
-use Rattle.pcm_base.specs.{declared.answer.Reply.Reply, declared.command.Call.Call, declared.refusal.Refusal.Refusal}
-use Rattle.disk_model.specs.{Disk.Files, Frames.Kept, MomentLaws.upto_refl, declared.store.Store.Ghosts}
-use Rattle.disk_model.proofs.Frames.{tells_on, changed_kept}
-use Rattle.sample_block.specs.Sources.{sources_of, AllWhole}
-use Rattle.block_store.specs.{declared.fault.BlockFault.BlockFault, Reads.CountedBy, Reasons.reason_of}
-use Rattle.project_journal.specs.{Gate.EachNow, Gate.EachSince, Choice.other_file}
+use Rattle.editor_state.proofs.Common.{rules, ◌≡◌, ◌↔◌, inl, inr, refl, sym, ap, ◌∙◌, subst, ◌+◌, IsTrue, IsSome, Some}
+use Rattle.editor_state.proofs.Common.{None, Ok, Err, ℕ, arith, CarriesOut, Answers, outside, refusal_of, Reply, Call}
+use Rattle.editor_state.proofs.Common.{Refusal, Files, Kept, Ghosts, changed_kept, AllWhole, BlockFault, reason_of}
+use Rattle.editor_state.proofs.Common.{EachNow, EachSince, Keeps, IsDamagedIn, Entries, SameBlocks, IsDurable, IsHeld}
+use Rattle.editor_state.proofs.Common.{IsStudio, shown, studio_of, named_blocks, Took, quietly, silent, Core, form_at}
+use Rattle.editor_state.proofs.Common.{IsSoOf, MayRemove, Needed}
+use Rattle.pcm_base.specs.Run.{Leaves}
+use Rattle.disk_model.specs.{MomentLaws.upto_refl}
+use Rattle.disk_model.proofs.Frames.{tells_on}
+use Rattle.block_store.specs.{Reads.CountedBy}
+use Rattle.project_journal.specs.{Choice.other_file}
 use Rattle.project_journal.proofs.Kept.{SameJournals, is_at_still}
-use Rattle.record_body.specs.Saved.{Keeps}
-use Rattle.envelope_view.specs.Answers.{IsDamagedIn}
-use Rattle.block_cache.specs.Caches.{Entries}
-use Rattle.editor_state.specs.Studios.{SameBlocks, IsDurable, IsHeld, IsStudio, shown, studio_by, studio_of}
-use Rattle.editor_state.specs.Studios.{named_blocks}
-use Rattle.editor_state.specs.Took.{Took, quietly, silent}
-use Rattle.editor_state.specs.{Core.Core, Core.form_at, Left.IsSoOf, Left.MayRemove, Spent.Needed}
 use Rattle.editor_state.proofs.Refusals.RefusalEffects.{IsOwn, left_read, own_plain, plain_so}
 use Rattle.editor_state.proofs.Calls.FileRemovals.{PacksNone, RemovesNone, frees_none, frees_refused, ids_same}
 use Rattle.editor_state.proofs.Calls.FileRemovals.{no_record, none_given}
@@ -23,7 +18,7 @@ use Rattle.editor_state.proofs.Blocks.CachePages.{ReadsNamed, pages_by_reads}
 use Rattle.editor_state.proofs.{Images.ImageProjects.keeps_now, Calls.OtherFiles.others_none}
 use Rattle.editor_state.proofs.{Refusals.PurgeNumbers.quiet_purges, Calls.QuietCalls.IsQuiet}
 use Rattle.editor_state.proofs.{Refusals.EarlyRefusals.stopped_not, Refusals.CounterNumbers.own_needed}
-use Rattle.editor_state.proofs.{SameStudios.studio_with}
+use Rattle.editor_state.proofs.{SameStudios.durable_so, SameStudios.studio_with}
 use Rattle.pcm_base.specs.declared.refusal.Refusal.TheVariants as refusal
 use Rattle.pcm_base.specs.Studio as model
 use Rattle.block_store.specs.declared.fault.BlockFault.TheVariants as fault
@@ -38,30 +33,19 @@ module _ {D : Type 0} (disk : Ghosts D) (s : Core D) (is : IsStudio disk s) (sto
   looked = record s { store = store; cache = cache }
 
   looked_durable : IsDurable disk s → IsDurable disk looked
-  looked_durable d = record {
-    log = d.log;
-    base = d.base;
-    kept = d.kept;
-    there = is_at_still {form = form_at s} (λ x y same. same_journals s.file x y same)
-        (same_journals s.file (disk.reads s.store) (disk.reads store) kept.same_reads) kept.same_images d.there;
-    generation = d.generation;
-    begins = d.begins;
-    told = d.told;
-    rate = d.rate;
-    block_size = d.block_size;
-    history = d.history;
-    next_block = d.next_block;
-    next_track = d.next_track;
-    commit = d.commit;
-    blocks = λ c now.
-        let images = kept.same_images in
-        let from = images.from c
-        (images.fewer (disk.clock s.store) (disk.clock store) c images.later (upto_refl (disk.clock store)) now) in
-        subst (λ (f : Files). SameBlocks (named_blocks s) f c) (sym kept.same_reads)
-        (subst (SameBlocks (named_blocks s) (disk.reads s.store)) (sym from.2) (d.blocks from.0 from.1));
-    files = λ id least most. subst (λ (f : Files). IsSome (s.counts id) ↔ IsSome (f id)) (sym kept.same_reads)
-        (d.files id least most);
-  }
+  looked_durable d =
+      durable_so disk s store cache s.stopped s.next_block s.clipboard s.pins s.next_pin s.uses s.counts d
+      (is_at_still {form = form_at s} (λ x y same. same_journals s.file x y same)
+      (same_journals s.file (disk.reads s.store) (disk.reads store) kept.same_reads) kept.same_images d.there)
+      (omega arith)
+      (λ c now.
+      let images = kept.same_images in
+      let from = images.from c
+      (images.fewer (disk.clock s.store) (disk.clock store) c images.later (upto_refl (disk.clock store)) now) in
+      subst (λ (f : Files). SameBlocks (named_blocks s) f c) (sym kept.same_reads)
+      (subst (SameBlocks (named_blocks s) (disk.reads s.store)) (sym from.2) (d.blocks from.0 from.1)))
+      (λ id least most. subst (λ (f : Files). IsSome (s.counts id) ↔ IsSome (f id)) (sym kept.same_reads)
+      (d.files id least most))
 
   pub looked_studio : IsStudio disk looked
   looked_studio =
@@ -75,18 +59,11 @@ module _ {D : Type 0} (disk : Ghosts D) (s : Core D) (is : IsStudio disk s) (sto
   }
 
   looked_state : studio_of disk looked ≡ record (studio_of disk s) { read_faults = disk.read_fault_count store }
-  looked_state =
-      λ i. record (studio_by (sources_of (kept.same_reads i)) disk s) {
-        read_faults = disk.read_fault_count store;
-        change_faults = kept.same_faults i;
-      }
+  looked_state = search rules
 
   pub keeps_still : s.stopped ≡ None → IsHeld disk s
       → EachSince disk s.store store (λ c. Keeps c (shown (studio_of disk s)))
-  keeps_still going held c since =
-      let from = kept.same_images.from c since in
-      subst (λ (f : Files). Keeps f (shown (studio_of disk s))) (sym from.2)
-      (keeps_now disk s is.journal.among going held from.0 from.1)
+  keeps_still going held c since = search (rules, keeps_now)
 
   keeps_after : s.stopped ≡ None → IsHeld disk s → EachNow disk store (λ c. Keeps c (shown (studio_of disk looked)))
   keeps_after going held = keeps_now disk looked is.journal.among going (looked_held held)

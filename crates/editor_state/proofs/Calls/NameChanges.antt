@@ -1,18 +1,11 @@
 -- The studio names other blocks, and nothing is asked of the disk.
-use Rattle.std.proofs.Common.{◌≡◌, ◌↔◌, inl, refl, ℕ, ◌^◌, ◌≤◌, IsSome, List, ◌++◌, length, Option, Ok, arith}
-use Rattle.std.specs.List.{AllByRecursion}
-use Rattle.pcm_base.specs.{declared.answer.Reply.Reply, declared.block.BlockRef.BlockRef, declared.command.Call.Call}
-use Rattle.pcm_base.specs.{Run.CarriesOut}
-use Rattle.disk_model.specs.declared.store.Store.{Ghosts}
-use Rattle.disk_model.proofs.Frames.{Fewer, changed_none}
-use Rattle.sample_block.specs.Sources.{IsWhole}
-use Rattle.block_ledger.specs.Counts.{Counts}
-use Rattle.clip_track.specs.declared.items.Item.{Item}
-use Rattle.record_body.specs.SavedValid.{IsValidPoint}
-use Rattle.editor_state.specs.Studios.{IsGiven, PinsRise, MayPaste, IsHeld, IsStudio, studio_of, named_blocks}
-use Rattle.editor_state.specs.Studios.{clip_blocks, pin_tracks}
-use Rattle.editor_state.specs.{Core.Core, declared.pin.Pin.Pin, Left.MayRemove, Took.Took, Took.quietly, Took.silent}
-use Rattle.layout_uses.specs.{Layouts.AreDrawn, Layouts.AreNumbered, Layouts.history_tracks, Tallies.AreCounts}
+use Rattle.editor_state.proofs.Common.{◌≡◌, ◌↔◌, inl, refl, ℕ, ◌^◌, ◌≤◌, IsSome, List, ◌++◌, length, Option, Ok, arith}
+use Rattle.editor_state.proofs.Common.{AllByRecursion, Reply, BlockRef, Call, CarriesOut, Ghosts, Fewer, changed_none}
+use Rattle.editor_state.proofs.Common.{IsWhole, Counts, Item, IsValidPoint, IsGiven, PinsRise, MayPaste, IsHeld}
+use Rattle.editor_state.proofs.Common.{IsStudio, studio_of, named_blocks, clip_blocks, pin_tracks, Core, Pin, MayRemove}
+use Rattle.editor_state.proofs.Common.{Took, quietly, silent, history_tracks, AreCounts}
+use Rattle.layout_uses.specs.{Layouts.AreDrawn, Layouts.AreNumbered}
+use Rattle.editor_state.proofs.SameStudios.{durable_so}
 use Rattle.editor_state.proofs.Calls.FileRemovals.{PacksNone, RemovesNone, frees_none, ids_still, no_record, none_given}
 use Rattle.editor_state.proofs.{Images.ImageProjects.keeps_now, Calls.OtherFiles.others_none}
 use Rattle.editor_state.proofs.{Refusals.PurgeNumbers.quiet_purges, Calls.QuietCalls.IsQuiet}
@@ -78,25 +71,11 @@ module _ {D : Type 0} (disk : Ghosts D) (s : Core D) (is : IsStudio disk s) (cli
     tells = held.tells;
     whole = names.covers (IsWhole (disk.reads s.store)) held.whole;
     durable = λ going.
-        let d = held.durable going in record {
-          log = d.log;
-          base = d.base;
-          kept = d.kept;
-          there = d.there;
-          generation = d.generation;
-          begins = d.begins;
-          told = d.told;
-          rate = d.rate;
-          block_size = d.block_size;
-          history = d.history;
-          next_block = d.next_block;
-          next_track = d.next_track;
-          commit = d.commit;
-          blocks = λ c now. names.covers (λ b. c b.id ≡ disk.reads s.store b.id) (d.blocks c now);
-          files = λ id least most.
-              let was = d.files id least most in
-              (λ have. was.0 ((names.ids id).0 have), λ there. (names.ids id).1 (was.1 there));
-        };
+        let d = held.durable going in
+        durable_so disk s s.store s.cache s.stopped s.next_block clip pins next_pin uses counts d d.there (omega arith)
+        (λ c now. names.covers (λ b. c b.id ≡ disk.reads s.store b.id) (d.blocks c now)) (λ id least most.
+        let was = d.files id least most in
+        (λ have. was.0 ((names.ids id).0 have), λ there. (names.ids id).1 (was.1 there)));
   }
 
   -- `rests` where the studio had stopped

@@ -1,11 +1,10 @@
 -- What a call leaves of other files, by what each of its parts leaves.
-use Rattle.std.proofs.Common.{◌⊎◌, inl, inr, ⊎_elim, refl, sym, ◌∙◌, subst, ℕ, ◌+◌, ◌^◌, ◌≤◌, ◌<◌, IsSome, arith}
+use Rattle.editor_state.proofs.Common.{rules, inl, refl, sym, ◌∙◌, subst, ℕ, ◌+◌, ◌^◌, ◌≤◌, ◌<◌, IsSome, arith, Call}
+use Rattle.editor_state.proofs.Common.{Line, Reclaim, Files, SameElsewhere, Ghosts, LeavesForeign, MayRemove, Core}
+use Rattle.editor_state.proofs.Common.{IsStudio}
 use Rattle.std.proofs.lemmas.Bool.{cases_lt}
-use Rattle.pcm_base.specs.{declared.command.Call.Call, declared.command.Call.TheVariants.Line}
-use Rattle.pcm_base.specs.{declared.command.Command.TheVariants.Reclaim}
-use Rattle.disk_model.specs.{Disk.Files, Disk.SameElsewhere, declared.store.Store.Ghosts}
-use Rattle.editor_state.specs.Left.{IsBegun, LeavesForeign, LeavesOthers, MayRemove}
-use Rattle.editor_state.specs.{Core.Core, Made.SameOutside, Studios.IsStudio}
+use Rattle.editor_state.specs.Left.{LeavesOthers}
+use Rattle.editor_state.specs.{Made.SameOutside}
 
 -- no file may go
 abbrev pub NoneGoes : ℕ → Type 0
@@ -21,28 +20,12 @@ others_none first last MayGo c = record { others = λ file other apart. inl refl
 -- calls in turn
 pub others_then : (first last : ℕ) (MayGo : ℕ → Type 0) (d e c : Files) → LeavesOthers first last MayGo d e
     → LeavesOthers first last MayGo e c → LeavesOthers first last MayGo d c
-others_then first last MayGo d e c one two = record {
-  others = λ file other apart. ⊎_elim
-      (λ same. ⊎_elim (λ before. inl (same ∙ before)) (λ gone. inr (gone.0, same ∙ gone.1))
-      (one.others file other apart))
-      (λ gone. inr gone)
-      (two.others file other apart);
-}
+others_then first last MayGo d e c one two = search rules
 
 -- the same of more blocks, and where more may go
 pub others_wider : (first last low high : ℕ) (Goes MayGo : ℕ → Type 0) (d c : Files) → low ≤ first → last ≤ high
     → ((file : ℕ) → Goes file → MayGo file) → LeavesOthers first last Goes d c → LeavesOthers low high MayGo d c
-others_wider first last low high Goes MayGo d c below above goes step = record {
-  others = λ file other apart. ⊎_elim
-      (λ same. inl same)
-      (λ gone. inr (goes file gone.0, gone.1))
-      (step.others file other
-      (λ begun. apart (record {
-        least = omega (arith, begun.least, below);
-        most = omega (arith, begun.most, above);
-        block = begun.block;
-      })));
-}
+others_wider first last low high Goes MayGo d c below above goes step = search rules
 
 -- where more may go
 pub others_more : (first last : ℕ) (MayGo : ℕ → Type 0) (d c : Files) → Leaving first last d c
@@ -59,18 +42,7 @@ others_record at first last MayGo few d c same =
 -- blocks that were made, and that may be
 pub others_made : (first n last : ℕ) (MayGo : ℕ → Type 0) (d c : Files) → first + n ≤ last + 1 → first + n ≤ 2 ^ 62
     → SameOutside first n d c → LeavesOthers first last MayGo d c
-others_made first n last MayGo d c few most same = record {
-  others = λ file other apart. inl (same file (outside file apart (cases_lt file first) (cases_lt file (first + n))));
-}
-  where
-    outside : (file : ℕ) → (IsBegun first last file → ⊥) → (file < first) ⊎ (first ≤ file)
-        → (file < first + n) ⊎ (first + n ≤ file)
-        → (file < first) ⊎ (first + n ≤ file)
-    outside file apart (inl below) cases = inl below
-    outside file apart (inr least) (inl within) =
-        absurd
-        (apart (record { least = least; most = omega (arith, within, few); block = omega (arith, within, most) }))
-    outside file apart (inr least) (inr above) = inr above
+others_made first n last MayGo d c few most same = search (rules, cases_lt)
 
 -- ---- many calls
 
@@ -86,12 +58,7 @@ removed_block disk s is call file free = absurd free
 pub foreign_left : (first last : ℕ) (MayGo : ℕ → Type 0) (d c : Files) → 16 ≤ first
     → ((file : ℕ) → MayGo file → (16 ≤ file) × (file < 2 ^ 62))
     → LeavesOthers first last MayGo d c → LeavesForeign d c
-foreign_left first last MayGo d c least goes step = record {
-  foreign = λ file other apart. ⊎_elim
-      (λ same. same)
-      (λ gone. absurd (apart (goes file gone.0)))
-      (step.others file other (λ begun. apart (omega (arith, least, begun.least), begun.block)));
-}
+foreign_left first last MayGo d c least goes step = search rules
 
 pub foreign_then : (d e c : Files) → LeavesForeign d e → LeavesForeign e c → LeavesForeign d c
 foreign_then d e c one two =

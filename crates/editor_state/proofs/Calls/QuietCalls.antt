@@ -1,16 +1,13 @@
 -- Calls without a commit, which make no blocks: what refuses them, and what they leave where they leave the studio.
-use Rattle.std.proofs.Common.{◌≡◌, inl, refl, sym, ap, ◌∙◌, ℕ, ◌+◌, ◌^◌, ◌≤◌, ◌==◌, if◌then◌else◌, Option, Some, None}
-use Rattle.std.proofs.Common.{Ok, Err, arith}
-use Rattle.pcm_base.specs.Counters.{Needs, commits_of, generations_of, tracks_of, pins_of, record_bytes, places_of}
-use Rattle.pcm_base.specs.Counters.{layouts_of, no_room, record_test}
-use Rattle.pcm_base.specs.Run.{outside, stop_of, stop_test, refusal_of, followed, CarriesOut}
-use Rattle.pcm_base.specs.Step.{after, sound_after, MayAnswer}
-use Rattle.pcm_base.specs.{declared.answer.Reply.Reply, declared.command.Call.Call, declared.refusal.Refusal.Refusal}
-use Rattle.pcm_base.specs.{Outside.Outside, Refusals.◌otherwise◌, Refusals.call_tests}
-use Rattle.disk_model.specs.declared.store.Store.{Ghosts}
-use Rattle.disk_model.proofs.Frames.{Fewer, changed_none}
-use Rattle.editor_state.specs.{Core.Core, Left.MayRemove, Studios.IsHeld, Studios.IsStudio, Studios.studio_of}
-use Rattle.editor_state.specs.{Took.Took, Took.quietly, Took.silent, Spent.Needed}
+use Rattle.editor_state.proofs.Common.{rules, ◌≡◌, inl, refl, sym, ap, ◌∙◌, ℕ, ◌^◌, ◌≤◌, ◌==◌, if◌then◌else◌, Option}
+use Rattle.editor_state.proofs.Common.{Some, None, Ok, Err, arith, Needs, commits_of, generations_of, pins_of}
+use Rattle.editor_state.proofs.Common.{places_of, layouts_of, no_room, outside, stop_of, stop_test, refusal_of}
+use Rattle.editor_state.proofs.Common.{CarriesOut, MayAnswer, Reply, Call, Refusal, Outside, ◌otherwise◌, call_tests}
+use Rattle.editor_state.proofs.Common.{Ghosts, Fewer, changed_none, Core, MayRemove, IsHeld, IsStudio, studio_of, Took}
+use Rattle.editor_state.proofs.Common.{quietly, silent, Needed}
+use Rattle.pcm_base.specs.Counters.{tracks_of}
+use Rattle.pcm_base.specs.Run.{followed}
+use Rattle.pcm_base.specs.Step.{after, sound_after}
 use Rattle.model_laws.proofs.Answered.{answered_same, moves_of, no_generation}
 use Rattle.editor_state.proofs.Calls.FileRemovals.{PacksNone, RemovesNone, frees_none, frees_refused, ids_same}
 use Rattle.editor_state.proofs.Calls.FileRemovals.{no_record, none_given}
@@ -38,26 +35,12 @@ module _ (t : model.Studio) (c : Call) where
 
   pub stopped_first : (blocks len faults : ℕ) → stop_test t.stopped c ≡ stop_of t.stopped → t.stopped ≡ Some faults
       → refusal_of out t c blocks len ≡ Some (refusal.Stopped faults)
-  stopped_first blocks len faults is at =
-      let rest : Option Refusal = (call_tests out t.state c) otherwise
-      ((no_room t.next_block blocks) otherwise (no_room t.state.next_track (tracks_of out c))
-      otherwise (no_room t.state.commit (commits_of c)) otherwise (no_room t.state.next_pin (pins_of c)) otherwise
-      (no_room t.journal_end (places_of c len)) otherwise (no_room t.generation (generations_of c))
-      otherwise (no_room t.next_layout (layouts_of out t.state c)))
-      otherwise (record_test len) in
-      ap (λ (z : Option Refusal). z otherwise rest) (is ∙ ap stop_of at)
+  stopped_first blocks len faults is at = search rules
 
   -- its own tests
   pub own_first : (blocks len : ℕ) (why : Refusal) → stop_test t.stopped c ≡ None → call_tests out t.state c ≡ Some why
       → refusal_of out t c blocks len ≡ Some why
-  own_first blocks len why going own =
-      let rest : Option Refusal =
-      ((no_room t.next_block blocks) otherwise (no_room t.state.next_track (tracks_of out c))
-      otherwise (no_room t.state.commit (commits_of c)) otherwise (no_room t.state.next_pin (pins_of c)) otherwise
-      (no_room t.journal_end (places_of c len)) otherwise (no_room t.generation (generations_of c))
-      otherwise (no_room t.next_layout (layouts_of out t.state c)))
-      otherwise (record_test len) in
-      λ i. (going i) otherwise (own i) otherwise rest
+  own_first blocks len why going own = search rules
 
   -- the counters are within their bounds
   pub record HasRoom : Type 0 where
@@ -92,18 +75,11 @@ module _ (t : model.Studio) (c : Call) where
         → stop_test t.stopped c ≡ None → call_tests out t.state c ≡ None
         → no_room t.state.next_pin (pins_of c) ≡ None
         → refusal_of out t c 0 0 ≡ ((last otherwise None) otherwise None)
-    tests_then last later going own pin =
-        λ i. (going i) otherwise (own i) otherwise ((block_fits i) otherwise (track_fits i) otherwise
-        (commit_fits i) otherwise (pin i) otherwise (end_fits i) otherwise (later i) otherwise (layout_fits i))
-        otherwise None
+    tests_then last later going own pin = search (rules, block_fits, track_fits, commit_fits, end_fits, layout_fits)
 
     -- what it leaves of the model
     pub quiet_follows : followed out t c 0 0 t.next_layout ≡ record t { state = after out t.state c }
-    quiet_follows =
-        let none : record_bytes c 0 ≡ 0 = ap (λ (k : ℕ). if k == 0 then 0 else 5) is.no_commit in
-        let block : t.next_block + 0 ≡ t.next_block = omega arith in
-        let end : t.journal_end + record_bytes c 0 ≡ t.journal_end = omega (arith, none) in
-        λ i. record t { state = after out t.state c; next_block = block i; journal_end = end i }
+    quiet_follows = search rules
 
     -- it needs no generation of the journal either
     module _ (stays : moves_of c ≡ 0) where
@@ -123,9 +99,7 @@ module _ (t : model.Studio) (c : Call) where
           → no_room t.state.next_pin (pins_of c) ≡ Some why
           → refusal_of out t c 0 0 ≡ Some why
       pins_spent why going own pin =
-          λ i. (going i) otherwise (own i) otherwise ((block_fits i) otherwise (track_fits i) otherwise
-          (commit_fits i) otherwise (pin i) otherwise (end_fits i) otherwise (later_fits i) otherwise (layout_fits i))
-          otherwise None
+          search (rules, block_fits, track_fits, commit_fits, end_fits, later_fits, layout_fits)
 
       -- carried out
       pub carried : (r : Reply) (u : model.Studio) → refusal_of out t c 0 0 ≡ None → MayAnswer out t.state c r
@@ -147,14 +121,7 @@ module _ (t : model.Studio) (c : Call) where
 -- ---- the studio as it was
 
 pub room_of : {D : Type 0} (disk : Ghosts D) (s : Core D) → (c : Call) → IsStudio disk s → HasRoom (studio_of disk s) c
-room_of disk s c is = record {
-  block = is.counters.block_most;
-  track = is.counters.track_most;
-  commit = is.counters.commit_most;
-  end = is.counters.end_most;
-  generation = is.journal.generation_most;
-  layout = is.layouts;
-}
+room_of disk s c is = search rules
 
 module _ {D : Type 0} (disk : Ghosts D) (s : Core D) (c : Call) (quiet : IsQuiet c) (none : RemovesNone c)
     (is : IsStudio disk s) (fewer : Fewer disk s.store) where

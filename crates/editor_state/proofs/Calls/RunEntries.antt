@@ -1,19 +1,15 @@
 -- One entry more of a run.
-use Rattle.std.proofs.Common.{◌≡◌, ◌⊎◌, inl, inr, ⊎_elim, refl, sym, ap, ◌∙◌, subst, None, List, [], ◌∷◌, ◌++◌}
-use Rattle.std.proofs.Common.{append_assoc, Result, Ok, Err}
+use Rattle.editor_state.proofs.Common.{◌≡◌, ◌⊎◌, inl, inr, ⊎_elim, refl, sym, ap, ◌∙◌, subst, None, List, [], ◌∷◌, ◌++◌}
+use Rattle.editor_state.proofs.Common.{append_assoc, Result, Ok, Err, Answers, outside, Shape, Look, Compact, View}
+use Rattle.editor_state.proofs.Common.{Cells, Frames, Columns, Tracks, shape_of, Reply, Call, Entry, SoundMove, Refusal}
+use Rattle.editor_state.proofs.Common.{Outside, State, MayAnswer, Files, Ghosts, EachSince, Keeps, Exchange, KeepsOneOf}
+use Rattle.editor_state.proofs.Common.{Took, reply_of, Core, KeepsPrefix, Stops, IsHeld, shown, studio_of}
 use Rattle.std.specs.Prelude.{OnErr}
-use Rattle.pcm_base.specs.Run.{Answers, Run, Step, outside, result_of}
-use Rattle.pcm_base.specs.Shape.{Shape, PurgeTo, Look, Reclaim, Compact, Bounce, View, Cells, Frames, Columns, Tracks}
-use Rattle.pcm_base.specs.Shape.{shape_of}
-use Rattle.pcm_base.specs.{declared.answer.Reply.Reply, declared.command.Call.Call, declared.entry.Entry.Entry}
-use Rattle.pcm_base.specs.{declared.entry.SoundMove.SoundMove, declared.refusal.Refusal.Refusal, Outside.Outside}
-use Rattle.pcm_base.specs.{State.State, Step.MayAnswer, Step.MayReplyBy, Step.seen}
-use Rattle.disk_model.specs.{Disk.Files, declared.store.Store.Ghosts}
-use Rattle.project_journal.specs.Gate.{EachSince}
-use Rattle.record_body.specs.Saved.{Keeps}
-use Rattle.editor_state.specs.Took.{Exchange, InFlight, KeepsOneOf, Took}
-use Rattle.editor_state.specs.{Applied.reply_of, Core.Core, Events.KeepsPrefix, Events.MayFly, Events.NextInFlight}
-use Rattle.editor_state.specs.{Left.Stops, Studios.IsHeld, Studios.shown, Studios.studio_of}
+use Rattle.pcm_base.specs.Run.{Run, Step, result_of}
+use Rattle.pcm_base.specs.Shape.{PurgeTo, Reclaim, Bounce}
+use Rattle.pcm_base.specs.{Step.MayReplyBy, Step.seen}
+use Rattle.editor_state.specs.Took.{InFlight}
+use Rattle.editor_state.specs.{Events.MayFly, Events.NextInFlight}
 use Rattle.pcm_base.specs.declared.answer.Reply.TheVariants as reply
 use Rattle.pcm_base.specs.declared.command.Call.TheVariants as call
 use Rattle.pcm_base.specs.declared.refusal.Refusal.TheVariants as refusal

@@ -1,9 +1,6 @@
 -- What holds of a studio over a store of which nothing was changed, for the crates above.
-use Rattle.std.proofs.Common.{◌≡◌, None}
-use Rattle.disk_model.specs.{Frames.Kept, declared.store.Store.Ghosts}
-use Rattle.project_journal.specs.Gate.{EachSince}
-use Rattle.record_body.specs.Saved.{Keeps}
-use Rattle.editor_state.specs.{Core.Core, Studios.IsHeld, Studios.IsStudio, Studios.shown, Studios.studio_of}
+use Rattle.editor_state.proofs.Common.{◌≡◌, None, Kept, Ghosts, EachSince, Keeps, Core, IsHeld, IsStudio, shown}
+use Rattle.editor_state.proofs.Common.{studio_of}
 use Rattle.editor_state.proofs.Calls.LookCalls.{keeps_still, looked_held, looked_studio}
 use Rattle.editor_state.proofs.Blocks.CachePages.{reads_none}
 

@@ -1,28 +1,20 @@
 -- What a call does over a vault, from what it does by itself.
-use Rattle.std.proofs.Common.{◌≡◌, ◌⊎◌, ◌<◌, ◌∙◌, inl, IfErr, IfOk, refl, sym, ap, subst, ℕ, Bool, IsTrue, Option, Some}
-use Rattle.std.proofs.Common.{None, is_some, List, [], Result, Ok, Err}
-use Rattle.std.proofs.{lemmas.Bool.true≢false, lemmas.Option.none-some, lemmas.Option.same_Some}
-use Rattle.pcm_base.specs.Run.{Heard, name_in, name_in_line}
-use Rattle.pcm_base.specs.{declared.answer.Reply.Reply, declared.command.Call.Call}
-use Rattle.pcm_base.specs.{declared.command.Call.TheVariants.Line, declared.entry.SoundMove.SoundMove}
-use Rattle.pcm_base.specs.{declared.refusal.Refusal.Refusal, declared.wav.WavFault.TheVariants.Truncated}
-use Rattle.pcm_base.specs.{Outside.SameElsewhere, Outside.Sounds, declared.command.Command.Command}
-use Rattle.disk_model.specs.{Frames.Kept, declared.store.Store.Ghosts}
-use Rattle.disk_model.proofs.Frames.{Fewer, changed_kept, changed_none, kept_none}
-use Rattle.block_cache.specs.Caches.{Entries}
+use Rattle.editor_state.proofs.Common.{rules, ◌≡◌, ◌⊎◌, ◌<◌, inl, IfErr, refl, sym, ap, subst, ℕ, Bool, IsTrue, Option}
+use Rattle.editor_state.proofs.Common.{Some, None, List, [], Result, Ok, Err, true≢false, none-some, same_Some, Heard}
+use Rattle.editor_state.proofs.Common.{name_in, Reply, Call, Line, SoundMove, Refusal, Sounds, Command, Kept, Ghosts}
+use Rattle.editor_state.proofs.Common.{Fewer, changed_kept, changed_none, kept_none, Entries, TookOver, Span, Core}
+use Rattle.editor_state.proofs.Common.{reads_sound, Left, MayRemove, Untouched, Purges, IsStudio, Exchange, Took}
+use Rattle.editor_state.proofs.Common.{number_behind, with_sound}
+use Rattle.std.proofs.Common.{IfOk, is_some}
+use Rattle.pcm_base.specs.Run.{name_in_line}
+use Rattle.pcm_base.specs.{declared.wav.WavFault.TheVariants.Truncated, Outside.SameElsewhere}
 use Rattle.pcm_base.specs.declared.answer.Reply.TheVariants as reply
 use Rattle.pcm_base.specs.declared.refusal.Refusal.TheVariants as refusal
 use Rattle.pcm_base.specs.declared.command.Command.TheVariants as command
-pub use Rattle.editor_state.specs.Applied.{spanned}
-use Rattle.editor_state.specs.Applied.{Imported, Lasts, TookOver, move_of, Span, sound_moved}
-use Rattle.editor_state.specs.Core.{Core}
+use Rattle.editor_state.specs.Applied.{Imported, Lasts, sound_moved}
 use Rattle.editor_state.specs.Exports.{moved_from}
-use Rattle.editor_state.specs.Exchanges.{reads_sound}
 use Rattle.editor_state.specs.Vaults.{IsCutShort, VaultCounted, left_as}
-use Rattle.editor_state.specs.Left.{Left, MayRemove, Untouched}
-use Rattle.editor_state.specs.Purges.{Purges}
-use Rattle.editor_state.specs.Studios.{IsStudio}
-use Rattle.editor_state.specs.Took.{Exchange, Took, exchange_of, freeing, number_behind, as_reply, with_sound}
+use Rattle.editor_state.specs.Took.{freeing, as_reply}
 use Rattle.editor_state.proofs.Refusals.RefusalEffects.{IsPlain, left_plain}
 use Rattle.editor_state.proofs.Calls.LookCalls.{looked_studio}
 use Rattle.editor_state.proofs.Calls.OtherFiles.{others_none}
@@ -30,6 +22,7 @@ use Rattle.editor_state.proofs.Calls.FileRemovals.{PacksNone, RemovesNone, frees
 use Rattle.editor_state.proofs.Calls.FileRemovals.{no_record, none_given}
 use Rattle.editor_state.proofs.Refusals.EarlyRefusals.{stopped_not}
 use Rattle.editor_state.proofs.Blocks.CachePages.{ReadsNamed}
+pub use Rattle.editor_state.specs.Applied.{spanned}
 
 kept_untouched : {D : Type 0} (disk : Ghosts D) (s new : Core D) (call : Call) (told : Result Reply Refusal)
     → Kept disk s.store new.store → Untouched disk s call told new
@@ -39,21 +32,7 @@ kept_untouched disk s new call (Err why) kept = λ device. kept
 module _ {D : Type 0} (disk : Ghosts D) (s : Core D) where
   -- a step lasts
   pub lasts_took : (exchange : Exchange) (new : Core D) → Took disk s exchange new → Lasts disk s exchange new
-  lasts_took exchange new took = record {
-    studio = took.studio;
-    number = took.number;
-    rests = took.rests;
-    len = took.len;
-    records = took.records;
-    given = took.given;
-    changed = took.changed;
-    frees = took.frees;
-    ids = took.ids;
-    purges = took.purges;
-    untouched = took.untouched;
-    stops = took.stops;
-    left = took.left;
-  }
+  lasts_took exchange new took = search rules
 
   -- nothing was done
   pub lasts_idle : IsStudio disk s → Fewer disk s.store → (call : Call) → RemovesNone call → (sound : SoundMove)
@@ -104,16 +83,7 @@ module _ {D : Type 0} (disk : Ghosts D) (s : Core D) where
       (new : Core D) → name_in call ≡ None
       → Took disk s (freeing call told removed) new
       → TookOver disk (spanned tells s new sounds sounds) call told
-  over_silent tells sounds call told removed new none took =
-      let all : Took disk s (exchange_of call (move_of (name_in call) sounds sounds) told removed) new =
-      subst (λ (o : Option (List ℕ)). Took disk s (exchange_of call (move_of o sounds sounds) told removed) new)
-      (sym none) took in record {
-        removed = removed;
-        took = λ is. all;
-        heard = λ is. subst (λ (o : Option (List ℕ)). Heard o (move_of o sounds sounds) sounds sounds) (sym none) refl;
-        lasts = lasts_took (exchange_of call (move_of (name_in call) sounds sounds) told removed) new all;
-        imported = λ name is. absurd (none-some name (sym none ∙ ap name_in is));
-      }
+  over_silent tells sounds call told removed new none took = search (rules, lasts_took, none-some)
 
 -- one that names a sound
 pub over_sound : {D : Type 0} (disk : Ghosts D) (span : Span D) (call : Call) (name : List ℕ)

@@ -1,18 +1,16 @@
 -- The project that each image keeps.
-use Rattle.std.proofs.Common.{◌≡◌, ◌⊎◌, inl, inr, ⊎_elim, ap, ◌∙◌, sym, subst, ℕ, ◌≤◌, List, ◌++◌, None}
-use Rattle.std.specs.List.{AllByRecursion}
-use Rattle.pcm_base.specs.{declared.block.BlockRef.BlockRef, History.History, Pieces.Sources}
-use Rattle.disk_model.specs.{Disk.Files, Disk.Follows, Disk.SameElsewhere, declared.store.Store.Ghosts}
-use Rattle.sample_block.specs.Sources.{sources_of, IsWhole, AllWhole}
-use Rattle.project_journal.specs.Journal.{Log, HasLog, HasOneOf, with_bodies}
-use Rattle.project_journal.specs.{Gate.EachNow, Gate.EachSince, Header.Form, Header.IsForm}
+use Rattle.editor_state.proofs.Common.{rules, ◌≡◌, ◌⊎◌, inl, inr, ⊎_elim, ap, ◌∙◌, sym, subst, ℕ, ◌≤◌, List, ◌++◌, None}
+use Rattle.editor_state.proofs.Common.{AllByRecursion, BlockRef, History, Sources, Files, SameElsewhere, Ghosts}
+use Rattle.editor_state.proofs.Common.{sources_of, IsWhole, AllWhole, Log, with_bodies, EachNow, EachSince, Track}
+use Rattle.editor_state.proofs.Common.{meant_history, history_blocks, Begins, Saved, LeadIn, Keeps, Core, form_at}
+use Rattle.editor_state.proofs.Common.{IsGiven, SameBlocks, IsDurable, IsHeld, shown, studio_of, named_blocks}
+use Rattle.editor_state.proofs.Common.{pin_blocks, clip_blocks}
+use Rattle.disk_model.specs.{Disk.Follows}
+use Rattle.project_journal.specs.Journal.{HasLog, HasOneOf}
+use Rattle.project_journal.specs.{Header.Form, Header.IsForm}
 use Rattle.project_journal.proofs.{Kept.each_has, Parses.form_known}
-use Rattle.project_state.specs.{declared.track.Track.Track, Meaning.meant_history, Meaning.history_blocks}
-use Rattle.record_body.specs.Saved.{Begins, Saved, LeadIn, Opened, Keeps, version_of}
+use Rattle.record_body.specs.Saved.{Opened, version_of}
 use Rattle.record_body.proofs.Unnumbered.{history_blocks_alike, history_meant_alike}
-use Rattle.editor_state.specs.Core.{Core, form_at}
-use Rattle.editor_state.specs.Studios.{IsGiven, SameBlocks, IsDurable, IsHeld, shown, studio_of, named_blocks}
-use Rattle.editor_state.specs.Studios.{pin_blocks, clip_blocks}
 use Rattle.editor_state.proofs.Blocks.BlockSounds.{same_history, all_sound, all_whole, blocks_same, trans_same}
 use Rattle.editor_state.proofs.{Images.JournalLeads.begins_more, Images.JournalLeads.lead_all, Lists.all_left}
 
@@ -35,30 +33,7 @@ pub keeps_by : (form : Form) (log : Log) (base k : Saved) (files c : Files) → 
     → Begins log base → LeadIn (version_of form) log.block_size base log.bodies k
     → SameBlocks (history_blocks k.history) files c → AllWhole files (history_blocks k.history)
     → Keeps c (opened_by (sources_of files) log k)
-keeps_by form log base k files c of has begins led same whole =
-    let means = sym (same_history (sources_of files) (sources_of c) k.history
-    (all_sound files c (history_blocks k.history) same)) in
-    record {
-      form = form;
-      known = of.known;
-      few = of.few;
-      keeps = record {
-        log = log;
-        base = base;
-        kept = k;
-        there = has;
-        begins = begins;
-        told = led;
-        whole = all_whole files c (history_blocks k.history) same whole;
-        is = λ i. record {
-          rate = log.rate;
-          block_size = log.block_size;
-          history = means i;
-          next_track = k.next_track;
-          commit = k.commit;
-        };
-      };
-    }
+keeps_by form log base k files c of has begins led same whole = search (rules, same_history, all_sound, all_whole)
 
 -- all that holds of some blocks holds of those that a history names
 abbrev pub Covers : List BlockRef → History (List Track) → Type 1
@@ -103,14 +78,7 @@ form_few s few = record { known = form_known s.version s.file; few = few }
 module _ {D : Type 0} (disk : Ghosts D) (s : Core D) where
   pub shown_is : (d : IsDurable disk s)
       → opened_by (sources_of (disk.reads s.store)) d.log d.kept ≡ shown (studio_of disk s)
-  shown_is d = λ i. record {
-    rate = d.rate i;
-    block_size = d.block_size i;
-    history = (ap (meant_history (sources_of (disk.reads s.store))) d.history
-        ∙ history_meant_alike (sources_of (disk.reads s.store)) s.history) i;
-    next_track = d.next_track i;
-    commit = d.commit i;
-  }
+  shown_is d = search (rules, history_meant_alike)
 
   pub covers_kept : (d : IsDurable disk s) → Covers (named_blocks s) d.kept.history
   covers_kept d P all =

@@ -1,7 +1,6 @@
 -- Records that lead to a project, and more; the journal begins as before.
-use Rattle.std.proofs.Common.{subst, ℕ, List, [], ◌∷◌, ◌++◌}
-use Rattle.project_journal.specs.Journal.{Log, with_bodies}
-use Rattle.record_body.specs.Saved.{Begins, BeginsBy, Saved, after_body, LeadIn}
+use Rattle.editor_state.proofs.Common.{rules, subst, ℕ, List, [], ◌∷◌, ◌++◌, Log, with_bodies, Begins, Saved, LeadIn}
+use Rattle.record_body.specs.Saved.{BeginsBy, after_body}
 
 pub lead_all : (version m : ℕ) (k mid end : Saved) (bodies more : List (List ℕ)) → LeadIn version m k bodies mid
     → LeadIn version m mid more end → LeadIn version m k (bodies ++ more) end
@@ -12,16 +11,7 @@ lead_all version m k mid end (b ∷ bs) more h led =
 begins_by : (points : List (List ℕ)) (log : Log) (bodies : List (List ℕ)) (base : Saved) → BeginsBy points log base
     → BeginsBy points (with_bodies log bodies) base
 begins_by [] log bodies base is = is
-begins_by (p ∷ ps) log bodies base is = record {
-  points = is.points;
-  cursor = is.cursor;
-  depth = is.depth;
-  next_block = is.next_block;
-  next_track = is.next_track;
-  commit = is.commit;
-  valid = is.valid;
-  unnumbered = is.unnumbered;
-}
+begins_by (p ∷ ps) log bodies base is = search rules
 
 pub begins_more : (log : Log) (bodies : List (List ℕ)) (base : Saved) → Begins log base
     → Begins (with_bodies log bodies) base

@@ -1,34 +1,31 @@
 -- What a studio stands for is within the bounds of the model.
-use Rattle.std.proofs.Common.{◌≡◌, ◌∙◌, ⊎_elim, refl, sym, ap, subst, ℕ, ◌+◌, ◌-◌, ◌^◌, ◌≤◌, ◌<◌, ℤ, if◌then◌else◌}
-use Rattle.std.proofs.Common.{Option, Some, None, List, [], ◌∷◌, ◌++◌, append_assoc, length, map, replicate, arith}
-use Rattle.std.proofs.lemmas.Option.{none-some, same_Some}
-use Rattle.std.proofs.{lemmas.Bool.Decides.eqb_tells, lemmas.List.length-map, lemmas.List.Elements.All-from_recursion}
-use Rattle.std.specs.{Prelude.unwrap_or, List.AllByRecursion}
+use Rattle.editor_state.proofs.Common.{rules, ◌≡◌, ◌∙◌, ⊎_elim, refl, sym, ap, subst, ℕ, ◌+◌, ◌-◌, ◌^◌, ◌≤◌, ◌<◌, ℤ}
+use Rattle.editor_state.proofs.Common.{if◌then◌else◌, Option, Some, None, List, [], ◌∷◌, ◌++◌, append_assoc, length}
+use Rattle.editor_state.proofs.Common.{map, arith, none-some, same_Some, eqb_tells, All-from_recursion, unwrap_or}
+use Rattle.editor_state.proofs.Common.{AllByRecursion, Project, Sources, Ghosts, AreClips, clip_end, Clip, Item}
+use Rattle.editor_state.proofs.Common.{strip_cells, Track, meant, IsValidPoint, AllValidTracks, IsStudio, MayPaste}
+use Rattle.editor_state.proofs.Common.{PinsRise, clip_cells, pin_at, Core, Pin}
+use Rattle.std.proofs.Common.{replicate}
+use Rattle.std.proofs.{lemmas.List.length-map}
 use Rattle.pcm_base.specs.declared.sound.Cell.TheVariants.{Gap, Sample}
-use Rattle.pcm_base.specs.Cells.{Project, trimmed}
-use Rattle.pcm_base.specs.{declared.sound.Cell.Cell, Blocks.block_samples, History.IsHistory, Pieces.Sources}
-use Rattle.disk_model.specs.declared.store.Store.{Ghosts}
+use Rattle.pcm_base.specs.Cells.{trimmed}
+use Rattle.pcm_base.specs.{declared.sound.Cell.Cell, Blocks.block_samples, History.IsHistory}
 use Rattle.block_sequence.proofs.Whole.{length-blocks}
-use Rattle.clip_track.specs.Clips.{AreClips, cells_from, clip_end}
-use Rattle.clip_track.specs.{declared.clips.Clip.Clip, declared.items.Item.Item, Items.strip_cells, Items.strip_len}
+use Rattle.clip_track.specs.Clips.{cells_from}
+use Rattle.clip_track.specs.{Items.strip_len}
 use Rattle.clip_track.proofs.{Layouts.length-layout, Strips.length-strip_cells}
 use Rattle.model_laws.specs.Bounds.{AreRising, IsClipboard, IsPin, IsPoint, IsProject, IsShort, IsTrack, ids_of}
 use Rattle.model_laws.proofs.Trimming.{trimmed-sample, trimmed-samples}
-use Rattle.project_state.specs.{declared.track.Track.Track, Meaning.meant, Meaning.meant_track, Tracks.AreAbove}
-use Rattle.record_body.specs.{SavedValid.IsValidPoint, SavedValid.IsValidTagged, Valid.AllValidTracks}
-use Rattle.editor_state.specs.Studios.{IsStudio, MayPaste, PinsRise, clip_cells, pin_at}
-use Rattle.editor_state.specs.{Bounded.IsBounded, Core.Core, declared.pin.Pin.Pin}
+use Rattle.project_state.specs.{Meaning.meant_track, Tracks.AreAbove}
+use Rattle.record_body.specs.{SavedValid.IsValidTagged}
+use Rattle.editor_state.specs.{Bounded.IsBounded}
 
 -- ---- the cells of a layout end with a sample
 
 clip_ends : (gap : ℕ) (ss : List ℤ) (rest : List Cell) → 0 < length ss → trimmed rest ≡ rest
     → trimmed (replicate gap Gap ++ map Sample ss ++ rest) ≡ replicate gap Gap ++ map Sample ss ++ rest
 clip_ends gap [] rest some ended = absurd (omega (arith, some))
-clip_ends gap (s ∷ ss) rest some ended =
-    let same = append_assoc (replicate gap Gap) (map Sample (s ∷ ss)) rest in
-    ap trimmed same
-    ∙ trimmed-sample (replicate gap Gap) s (map Sample ss ++ rest) (trimmed-samples (s ∷ ss) rest ended)
-    ∙ sym same
+clip_ends gap (s ∷ ss) rest some ended = search (rules, append_assoc, trimmed-sample, trimmed-samples)
 
 module _ (src : Sources) where
   layout_ends : (at from : ℕ) (cs : List Clip) → AreClips from cs → trimmed (cells_from src at cs) ≡ cells_from src at cs

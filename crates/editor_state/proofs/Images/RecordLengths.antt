@@ -1,9 +1,9 @@
 -- A record of a valid point is as short as its project asks.
-use Rattle.std.proofs.Common.{ℕ, ◌≤◌, ◌<◌, List, [], ◌∷◌, length, arith}
-use Rattle.pcm_base.specs.{Pieces.Sources, Sizes.project_body_most}
-use Rattle.record_body.specs.{declared.body.Body.TheVariants.Edit, SavedValid.IsValidPoint, Lengths.AreHalfFull}
-use Rattle.record_body.specs.{Lengths.AreLayouts, Valid.AllValidTracks, Spelling.spelling, Changes.delta_spelling}
-use Rattle.project_state.specs.{declared.track.Track.Track, Meaning.meant}
+use Rattle.editor_state.proofs.Common.{ℕ, ◌≤◌, ◌<◌, List, [], ◌∷◌, length, arith, Sources, IsValidPoint, AllValidTracks}
+use Rattle.editor_state.proofs.Common.{Track, meant}
+use Rattle.pcm_base.specs.{Sizes.project_body_most}
+use Rattle.record_body.specs.{declared.body.Body.TheVariants.Edit, Lengths.AreHalfFull, Lengths.AreLayouts}
+use Rattle.record_body.specs.{Spelling.spelling, Changes.delta_spelling}
 use Rattle.record_body.proofs.{DeltaLengths.diff_short, Lengths.tracks_short}
 
 module _ (m next_block next_track : ℕ) where

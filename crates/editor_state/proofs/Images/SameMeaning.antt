@@ -1,18 +1,13 @@
 -- What a studio stands for is the same while the files of the blocks that it names are.
-use Rattle.std.proofs.Common.{◌≡◌, refl, ap, ℕ, ◌-◌, ℤ, pos, List, [], ◌∷◌, ◌++◌, map, flat_map, Option, Some, None}
-use Rattle.std.proofs.Common.{eqb, if◌then◌else◌}
-use Rattle.std.specs.List.{AllByRecursion}
-use Rattle.pcm_base.specs.declared.piece.Piece.TheVariants.{Old, Scaled, Zero, Given}
-use Rattle.pcm_base.specs.{declared.block.BlockRef.BlockRef, Arithmetic.scaled, Arithmetic.clamped, Pieces.Sources}
-use Rattle.pcm_base.specs.{Pieces.stretch}
-use Rattle.disk_model.specs.{Disk.Files, declared.store.Store.Ghosts}
-use Rattle.sample_block.specs.Sources.{samples_on, sources_of}
-use Rattle.clip_track.specs.declared.items.Item.{Item}
+use Rattle.editor_state.proofs.Common.{rules, ◌≡◌, refl, ap, ℕ, ◌-◌, ℤ, pos, List, [], ◌∷◌, ◌++◌, map, flat_map, Option}
+use Rattle.editor_state.proofs.Common.{Some, None, eqb, if◌then◌else◌, AllByRecursion, Old, Scaled, Zero, Given}
+use Rattle.editor_state.proofs.Common.{BlockRef, Sources, Files, Ghosts, sources_of, Item, strip_cells, point_blocks}
+use Rattle.editor_state.proofs.Common.{SameBlocks, pin_at, clip_cells, clip_blocks, pin_blocks, named_blocks, Core, Pin}
+use Rattle.pcm_base.specs.{Arithmetic.scaled, Arithmetic.clamped, Pieces.stretch}
+use Rattle.sample_block.specs.Sources.{samples_on}
 use Rattle.clip_track.specs.declared.items.Item.TheVariants.{Gap, Sound}
-use Rattle.clip_track.specs.Items.{item_blocks, item_cells, strip_blocks, strip_cells}
-use Rattle.project_state.specs.Meaning.{point_blocks, history_blocks}
-use Rattle.editor_state.specs.Studios.{SameBlocks, studio_by, pin_at, clip_cells, clip_blocks, pin_blocks, named_blocks}
-use Rattle.editor_state.specs.{Core.Core, declared.pin.Pin.Pin}
+use Rattle.clip_track.specs.Items.{item_blocks, item_cells, strip_blocks}
+use Rattle.editor_state.specs.Studios.{studio_by}
 use Rattle.editor_state.proofs.Lists.{all_left, all_right}
 use Rattle.editor_state.proofs.Blocks.BlockSounds.{SameSound, same_point, same_history, all_sound}
 use Rattle.pcm_base.specs.declared.sound.Cell.TheVariants as cell
@@ -65,15 +60,7 @@ module _ (f g : ℕ → ℕ → ℤ) where
   -- the blocks that it names have the same samples
   pub same_by : {D : Type 0} (disk : Ghosts D) (s : Core D) → AllByRecursion Same (named_blocks s)
       → studio_by now disk s ≡ studio_by was disk s
-  same_by disk s all =
-      let rest = all_right Same (history_blocks s.history) (pin_blocks s.pins ++ clip_blocks s.clipboard) all in
-      let points = same_history was now s.history
-      (all_left Same (history_blocks s.history) (pin_blocks s.pins ++ clip_blocks s.clipboard) all) in
-      let pins = same_pin s.pins (all_left Same (pin_blocks s.pins) (clip_blocks s.clipboard) rest) in
-      let clip = same_clip s.clipboard (all_right Same (pin_blocks s.pins) (clip_blocks s.clipboard) rest) in
-      λ i. record (studio_by was disk s) {
-        state = record (studio_by was disk s).state { history = points i; clipboard = clip i; pins = λ n. pins n i };
-      }
+  same_by disk s all = search (rules, all_right, same_history, all_left, same_pin, same_clip)
 
 -- their files are the same
 pub same_studio : (files other : Files) {D : Type 0} (disk : Ghosts D) (s : Core D)

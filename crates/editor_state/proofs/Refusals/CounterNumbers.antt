@@ -1,15 +1,13 @@
 -- The numbers of a refusal: what a counter had no room for.
-use Rattle.std.proofs.Common.{◌≡◌, ◌∙◌, ◌⊎◌, inl, inr, ⊎_elim, refl, sym, ap, subst, ℕ, suc, ◌+◌, ◌<◌, Bool, true}
-use Rattle.std.proofs.Common.{false, Option, Some, None, arith}
-use Rattle.std.proofs.{lemmas.Bool.ltb-true, lemmas.Option.none-some, lemmas.Option.same_Some}
+use Rattle.editor_state.proofs.Common.{rules, ◌≡◌, ◌∙◌, ◌⊎◌, inl, inr, ⊎_elim, refl, sym, ap, subst, ℕ, suc, ◌+◌, ◌<◌}
+use Rattle.editor_state.proofs.Common.{Bool, true, false, Option, Some, None, arith, none-some, same_Some, commits_of}
+use Rattle.editor_state.proofs.Common.{layouts_of, no_room, record_test, Call, SoundMove, Refusal, LONGEST_BODY}
+use Rattle.editor_state.proofs.Common.{Outside, ◌otherwise◌, call_tests, refused_if, outside, stop_of, Ghosts, Needed}
+use Rattle.editor_state.proofs.Common.{Outgrows, Core, studio_of}
+use Rattle.std.proofs.{lemmas.Bool.ltb-true}
 use Rattle.std.specs.Prelude.{nat_lt}
-use Rattle.pcm_base.specs.Counters.{commits_of, layouts_of, no_room, record_test}
-use Rattle.pcm_base.specs.{declared.command.Call.Call, declared.entry.SoundMove.SoundMove}
-use Rattle.pcm_base.specs.{declared.refusal.Refusal.Refusal, declared.limits.TheConstants.LONGEST_BODY, Outside.Outside}
-use Rattle.pcm_base.specs.{Refusals.◌otherwise◌, Refusals.call_tests, Refusals.refused_if, Run.outside, Run.stop_of}
-use Rattle.disk_model.specs.declared.store.Store.{Ghosts}
-use Rattle.editor_state.specs.Spent.{IsNumberSpent, IsSpent, Needed, WouldMake}
-use Rattle.editor_state.specs.{Adding.Outgrows, Bodies.IsLength, Core.Core, Studios.studio_of}
+use Rattle.editor_state.specs.Spent.{IsNumberSpent, IsSpent, WouldMake}
+use Rattle.editor_state.specs.{Bodies.IsLength}
 use Rattle.editor_state.proofs.Refusals.CallTests.{own, own_by, stop}
 use Rattle.editor_state.proofs.{Refusals.RefusalEffects.IsOwn, Refusals.CommitTests.IsCommitCall}
 use Rattle.pcm_base.specs.declared.refusal.Refusal.TheVariants as refusal
@@ -68,25 +66,13 @@ module _ {D : Type 0} (disk : Ghosts D) (s : Core D) (c : Call) (sound : SoundMo
   module _ (tracks : ℕ) {more : ℕ} (call : IsCommitCall c sound tracks more) where
     numbers_needed : (why : Refusal)
         → (no_room s.next_track tracks) otherwise (no_room s.commit_number (suc more)) ≡ Some why → Needed disk s c sound why
-    numbers_needed why h = ⊎_elim
-        (λ track. number_needed s.next_track tracks why track (λ is.
-        inl (subst (λ (k : ℕ). IsSpent s.next_track k (refusal.SpaceSpent s.next_track tracks))
-        (sym (call.tracks_is s.rate)) is)))
-        (λ number. number_needed s.commit_number (suc more) why number (λ is.
-        inr (inl (subst (λ (k : ℕ). IsSpent s.commit_number k (refusal.SpaceSpent s.commit_number (suc more)))
-        (sym call.many) is))))
-        (either_of (no_room s.next_track tracks) (no_room s.commit_number (suc more)) why h)
+    numbers_needed why h = search (rules, number_needed, either_of)
 
     -- a test before the record is made
     pub tested_needed : (own : Option Refusal) → own ≡ call_tests out t.state c → (why : Refusal)
         → (stop_of s.stopped) otherwise own otherwise (no_room s.next_track tracks)
         otherwise (no_room s.commit_number (suc more)) ≡ Some why → Needed disk s c sound why
-    tested_needed own is why h =
-        let rest = (no_room s.next_track tracks) otherwise (no_room s.commit_number (suc more)) in
-        ⊎_elim (stop_needed why)
-        (λ later. ⊎_elim (λ test. tests_needed why (sym is ∙ test)) (numbers_needed why)
-        (either_of own rest why later))
-        (either_of (stop_of s.stopped) (own otherwise rest) why h)
+    tested_needed own is why h = search (rules, stop_needed, tests_needed, numbers_needed, either_of, own)
 
     -- ---- by what it would have made
 

@@ -1,19 +1,12 @@
 -- A call that is refused before the disk is asked, and what a record asks of it.
-use Rattle.std.proofs.Common.{◌≡◌, inl, inr, refl, sym, ℕ, suc, ◌+◌, ◌≤◌, List, [], Option, Some, None, IsSome, Err}
-use Rattle.std.proofs.Common.{true, arith}
-use Rattle.std.proofs.{lemmas.Bool.true≢false, lemmas.Option.none-some}
-use Rattle.std.specs.List.{AllByRecursion}
-use Rattle.pcm_base.specs.{declared.block.BlockRef.BlockRef, declared.command.Call.Call}
-use Rattle.pcm_base.specs.{declared.entry.SoundMove.SoundMove, declared.refusal.Refusal.Refusal}
-use Rattle.pcm_base.specs.{declared.limits.TheConstants.LONGEST_BODY, Counters.Needs, Counters.commits_of}
-use Rattle.pcm_base.specs.{Counters.places_of, Run.Answers, Run.outside, Run.refusal_of}
-use Rattle.disk_model.specs.{Room.IsWithin, declared.store.Store.Ghosts}
-use Rattle.disk_model.proofs.Frames.{Fewer, changed_none, kept_none}
-use Rattle.sample_block.specs.Sources.{AllWhole}
-use Rattle.project_journal.specs.{Gate.EachNow, Rooms.append_room}
-use Rattle.editor_state.specs.Studios.{IsGiven, IsHeld, IsStudio, SameBlocks, studio_of}
-use Rattle.editor_state.specs.{Core.Core, Exchanges.may_begin, Left.MayRemove, Purges.Purges, Removals.Frees}
-use Rattle.editor_state.specs.{Spent.Needed, Took.Exchange, Took.Took, Took.asks, Took.with_sound}
+use Rattle.editor_state.proofs.Common.{◌≡◌, inl, inr, refl, sym, ℕ, suc, ◌+◌, ◌≤◌, List, [], Option, Some, None, IsSome}
+use Rattle.editor_state.proofs.Common.{Err, true, arith, true≢false, none-some, AllByRecursion, BlockRef, Call}
+use Rattle.editor_state.proofs.Common.{SoundMove, Refusal, LONGEST_BODY, Needs, commits_of, places_of, Answers, outside}
+use Rattle.editor_state.proofs.Common.{refusal_of, Ghosts, Fewer, changed_none, kept_none, AllWhole, EachNow, IsGiven}
+use Rattle.editor_state.proofs.Common.{IsHeld, IsStudio, SameBlocks, studio_of, Core, may_begin, MayRemove, Purges}
+use Rattle.editor_state.proofs.Common.{Frees, Needed, Exchange, Took, asks, with_sound}
+use Rattle.disk_model.specs.{Room.IsWithin}
+use Rattle.project_journal.specs.{Rooms.append_room}
 use Rattle.editor_state.proofs.Refusals.RefusalEffects.{IsPlain, left_plain}
 use Rattle.editor_state.proofs.Refusals.PurgeNumbers.{other_purges, tested_purges}
 use Rattle.editor_state.proofs.Calls.FileRemovals.{RemovesNone, frees_refused, ids_same}

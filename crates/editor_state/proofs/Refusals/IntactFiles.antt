@@ -1,9 +1,6 @@
 -- No file is told to be damaged, where the disk held the studio.
-use Rattle.pcm_base.specs.declared.refusal.Refusal.{Refusal}
-use Rattle.disk_model.specs.declared.store.Store.{Ghosts}
-use Rattle.envelope_view.specs.Answers.{IsUndamaged}
+use Rattle.editor_state.proofs.Common.{Refusal, Ghosts, IsUndamaged, Core, Left, IsHeld, named_blocks}
 use Rattle.envelope_view.proofs.AnswerLaws.{whole_undamaged}
-use Rattle.editor_state.specs.{Core.Core, Left.Left, Studios.IsHeld, Studios.named_blocks}
 use Rattle.pcm_base.specs.declared.refusal.Refusal.TheVariants as refusal
 
 -- what is told of the disk is so, and each block that the studio names is whole

@@ -1,9 +1,6 @@
 -- What a refusal leaves of a studio, by why it came.
-use Rattle.std.proofs.Common.{inr, refl}
-use Rattle.pcm_base.specs.declared.refusal.Refusal.{Refusal}
-use Rattle.disk_model.specs.declared.store.Store.{Ghosts}
-use Rattle.editor_state.specs.{Adding.HasFailed, Adding.stopped_by, Core.Core, Left.IsSoOf, Left.Left}
-use Rattle.block_cache.specs.Caches.{Entries}
+use Rattle.editor_state.proofs.Common.{inr, refl, Refusal, Ghosts, Core, IsSoOf, Left, Entries}
+use Rattle.editor_state.specs.{Adding.HasFailed, Adding.stopped_by}
 use Rattle.pcm_base.specs.declared.refusal.Refusal.TheVariants as refusal
 
 -- nothing is told of the disk

@@ -1,9 +1,7 @@
 -- The whole page is read and kept, and a part of it is answered.
-use Rattle.std.proofs.Common.{◌*◌, ◌/◌, ◌%◌, length, ◌∙◌, arith, inl, inr, ⊎_elim}
-use Rattle.std.proofs.lemmas.Grind.{common_steps}
+use Rattle.block_cache.proofs.Common.{◌*◌, ◌/◌, ◌%◌, length, ◌∙◌, arith, inl, inr, ⊎_elim, common_steps, tells_on}
 use Rattle.block_cache.proofs.CacheLaws.{keeps_frames, keeps_turn}
 use Rattle.block_cache.proofs.PageLaws.{frame_page_read, frame_part_read}
-use Rattle.disk_model.proofs.Frames.{tells_on}
 use Rattle.block_cache.proofs.frames.load_page.Goals as goal
 
 pub returns-clause-cache : goal.returns-clause-cache

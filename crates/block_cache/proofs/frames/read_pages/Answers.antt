@@ -1,25 +1,11 @@
 -- One page more is read.
-use Rattle.std.proofs.Common.{◌≡◌, ◌≤◌, ◌<◌, ◌+◌, ◌-◌, ◌*◌, ◌/◌, ◌%◌, ℕ, length, arith, ◌∙◌, sym, subst, refl, min}
-use Rattle.std.proofs.lemmas.Grind.{common_steps}
-use Rattle.disk_model.specs.Disk.{Files, bytes_of}
-use Rattle.disk_model.proofs.Frames.{tells_on, kept_turn, kept_none}
-use Rattle.peak_summary.specs.Peaks.{frame_count}
-use Rattle.block_store.specs.Reads.{HasHeader, frame_len, level_place}
-use Rattle.block_cache.specs.Pages.{page_end}
+use Rattle.block_cache.proofs.Common.{◌+◌, length, arith, ◌∙◌, subst, refl, common_steps, Files, bytes_of, tells_on}
+use Rattle.block_cache.proofs.Common.{kept_turn, kept_none, HasHeader}
 use Rattle.block_cache.proofs.CacheLaws.{keeps_before, keeps_same, keeps_turn, same_none, same_turn}
+use Rattle.block_cache.proofs.PageLaws.{ends_on}
 use Rattle.block_cache.proofs.HitLaws.{frames_next}
 use Rattle.block_store.proofs.PieceLaws.{frames_on}
 use Rattle.block_cache.proofs.frames.read_pages.Goals as goal
-
--- the page of the last item so far ends where it did
-whole_more : (was now : Files) (id place count from done n : ℕ) → now ≡ was → 0 < n → (from + done) % 256 + n ≤ 256
-    → place + 12 * page_end 256 count (from + done) ≤ length (bytes_of (now id))
-    → place + 12 * page_end 256 count (from + (done + n) - 1) ≤ length (bytes_of (was id))
-whole_more was now id place count from done n same some one got =
-    let there : place + 12 * page_end 256 count (from + done) ≤ length (bytes_of (was id)) =
-    subst (λ (f : Files). place + 12 * page_end 256 count (from + done) ≤ length (bytes_of (f id))) same got in
-    let page : (from + (done + n) - 1) / 256 ≡ (from + done) / 256 = omega arith in
-    subst (λ (p : ℕ). place + 12 * min count (256 * (p + 1)) ≤ length (bytes_of (was id))) (sym page) there
 
 pub pages-init : goal.pages-init
 pages-init g c = record {
@@ -39,8 +25,8 @@ returns-in-Err-clause-kept g c = kept_turn c.pages.invariant.kept c.read_page.en
 pub returns-in-Err-clause-hit : goal.returns-in-Err-clause-hit
 returns-in-Err-clause-hit g c = λ has.
     let before = c.pages.invariant.hit has in
-    let on = c.in-Err.ensures.hit (frames_next _ _ c.args.level c.args.block c.args.from (length c.args.out.now)
-    (c.args.from + c.pages.done) before.1 has (omega arith) (grind (arith, common_steps))) in
+    let on = c.in-Err.ensures.hit (frames_next _ _ c.args.part.level c.args.part.block c.args.part.from (length c.args.out.now)
+    (c.args.part.from + c.pages.done) before.1 has (omega arith) (grind (arith, common_steps))) in
     (on.0, on.1 ∙ before.0, same_turn _ _ _ before.1 on.2)
 
 pub pages-preserved : goal.pages-preserved
@@ -52,23 +38,22 @@ pages-preserved g c = record {
       (keeps_before c.args.store.now c.pages.store _ _ _ c.pages.invariant.kept c.read_page.ensures.cache);
   hit = λ has.
       let before = c.pages.invariant.hit has in
-      let on = c.read_page.ensures.hit (frames_next _ _ c.args.level c.args.block c.args.from (length c.args.out.now)
-      (c.args.from + c.pages.done) before.1 has (omega arith) (grind (arith, common_steps))) in
+      let on = c.read_page.ensures.hit (frames_next _ _ c.args.part.level c.args.part.block c.args.part.from (length c.args.out.now)
+      (c.args.part.from + c.pages.done) before.1 has (omega arith) (grind (arith, common_steps))) in
       (on.1 ∙ before.0, same_turn _ _ _ before.1 on.2);
   header = λ told some.
       let still = tells_on c.pages.invariant.kept told in
-      subst (λ (f : Files). HasHeader c.args.block.id c.args.block.len (bytes_of (f c.args.block.id)))
+      subst (λ (f : Files). HasHeader c.args.part.block.id c.args.part.block.len (bytes_of (f c.args.part.block.id)))
       c.pages.invariant.kept.same_reads (c.in_default.ensures.header still);
   whole = λ told some.
       let still = tells_on c.pages.invariant.kept told in
-      whole_more (g.S.Store.reads c.args.store.now) (g.S.Store.reads c.pages.store) c.args.block.id (level_place
-      c.args.level c.args.block.len) (frame_count (frame_len c.args.level) c.args.block.len)
-      c.args.from c.pages.done c.min.result c.pages.invariant.kept.same_reads (grind (arith, common_steps))
-      (grind (arith, common_steps)) (c.in_default.ensures.whole still);
+      ends_on (g.S.Store.reads c.args.store.now) (g.S.Store.reads c.pages.store) c.args.part.once c.args.part.level
+      c.args.part.block c.args.part.from c.pages.done c.min.result _ c.pages.invariant.kept.same_reads
+      (c.in_default.ensures.whole still) (grind (arith, common_steps));
   frames = λ told.
       let still = tells_on c.pages.invariant.kept told in
-      frames_on (g.S.Store.reads c.args.store.now) (g.S.Store.reads c.pages.store) c.args.block.id
-      c.args.level c.args.block.len c.args.from c.pages.done c.min.result _ _ c.pages.out c.read_page.new.out
+      frames_on (g.S.Store.reads c.args.store.now) (g.S.Store.reads c.pages.store) c.args.part.block.id
+      c.args.part.level c.args.part.block.len c.args.part.from c.pages.done c.min.result _ _ c.pages.out c.read_page.new.out
       c.pages.invariant.kept.same_reads c.pages.invariant.within (c.pages.invariant.frames told)
       (c.in_default.ensures.frames still) (grind (arith, common_steps));
 }

@@ -1,5 +1,5 @@
 -- What a look-up finds is an entry.
-use Rattle.std.proofs.Common.{arith, ◌+◌, ◌-◌, length, ◌≡◌, take, drop, ◌∙◌, sym, ap}
+use Rattle.block_cache.proofs.Common.{arith, ◌+◌, ◌-◌, length, ◌≡◌, take, drop, ◌∙◌, sym, ap}
 use Rattle.block_cache.proofs.KeyLaws.{found_there, missed_there, promoted_same}
 use Rattle.block_cache.proofs.pages.copy_page.Goals as goal
 

@@ -1,4 +1,4 @@
-use Rattle.std.proofs.Common.{Contains, length, subst, sym, ap, ◌∙◌, ◌<◌}
+use Rattle.block_cache.proofs.Common.{Contains, length, subst, sym, ap, ◌∙◌, ◌<◌}
 use Rattle.lru.proofs.CallerLemmas.{Contains-remove_entry}
 use Rattle.block_cache.proofs.KeyLaws.{same_key, one_fewer, others_stay}
 use Rattle.block_cache.proofs.pages.drop_pages.Goals as goal

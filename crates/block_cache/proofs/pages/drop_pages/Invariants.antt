@@ -1,4 +1,5 @@
-use Rattle.std.proofs.Common.{◌≡◌, ◌≢◌, length, Contains}
+use Rattle.block_cache.proofs.Common.{◌≡◌, length, Contains}
+use Rattle.std.proofs.Common.{◌≢◌}
 use Rattle.block_cache.specs.declared.keys.PageKey.{PageKey as key_of}
 use Rattle.block_cache.proofs.pages.drop_pages.Given as goal
 

@@ -1,5 +1,5 @@
-use Rattle.std.proofs.Common.{◌≡◌, ◌∙◌, ap, sym, inl, inr, ⊎_elim, List, [], ◌++◌}
-use Rattle.std.specs.Prelude.{Result, Ok, Err, false, is_ok, is_err, if◌then◌else◌}
+use Rattle.block_cache.proofs.Common.{◌≡◌, ◌∙◌, ap, sym, inl, inr, ⊎_elim, List, [], ◌++◌, Result, Ok, Err}
+use Rattle.std.specs.Prelude.{false, is_ok, is_err, if◌then◌else◌}
 use Rattle.block_cache.proofs.KeyLaws.{put_or_same}
 use Rattle.block_cache.proofs.pages.keep_page.Goals as goal
 

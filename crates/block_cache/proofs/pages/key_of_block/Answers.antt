@@ -1,5 +1,5 @@
-use Rattle.std.proofs.Common.{Contains, subst, sym, ⊎_elim, ap, ◌∙◌}
-use Rattle.lru.proofs.Splits.{Contains-head, Contains-tail, Contains-cons, Contains-nil}
+use Rattle.block_cache.proofs.Common.{Contains, subst, sym, ⊎_elim, ap, ◌∙◌, Contains-head, Contains-tail}
+use Rattle.block_cache.proofs.Common.{Contains-cons, Contains-nil}
 use Rattle.block_cache.proofs.KeyLaws.{has_key}
 use Rattle.block_cache.proofs.pages.key_of_block.Goals as goal
 

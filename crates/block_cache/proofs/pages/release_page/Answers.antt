@@ -1,5 +1,5 @@
 -- A page that goes to the end stays.
-use Rattle.std.proofs.Common.{ap}
+use Rattle.block_cache.proofs.Common.{ap}
 use Rattle.block_cache.proofs.KeyLaws.{demoted_same}
 use Rattle.block_cache.proofs.pages.release_page.Goals as goal
 

@@ -1,8 +1,6 @@
 -- The whole page is read and kept, and a part of it is answered.
-use Rattle.std.proofs.Common.{◌*◌, ◌/◌, ◌%◌, length, ◌∙◌, arith, inl, inr, ⊎_elim}
-use Rattle.std.proofs.lemmas.Grind.{common_steps}
+use Rattle.block_cache.proofs.Common.{◌*◌, ◌/◌, ◌%◌, length, ◌∙◌, arith, inl, inr, ⊎_elim, common_steps, tells_on}
 use Rattle.block_cache.proofs.{CacheLaws.keeps_samples, CacheLaws.keeps_turn, PageLaws.page_read, PageLaws.part_read}
-use Rattle.disk_model.proofs.Frames.{tells_on}
 use Rattle.block_cache.proofs.samples.load_page.Goals as goal
 
 pub returns-clause-cache : goal.returns-clause-cache

@@ -1,5 +1,5 @@
 -- A page that gives its place before others stays an entry.
-use Rattle.std.proofs.Common.{refl}
+use Rattle.block_cache.proofs.Common.{refl}
 use Rattle.block_cache.proofs.CacheLaws.{keeps_same, keeps_turn, same_turn}
 use Rattle.block_cache.proofs.samples.read_page.Goals as goal
 

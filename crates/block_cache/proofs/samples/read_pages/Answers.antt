@@ -1,13 +1,9 @@
 -- One page more is read.
-use Rattle.std.proofs.Common.{◌≡◌, ◌≤◌, ◌<◌, ◌+◌, ◌-◌, ◌*◌, ◌/◌, ◌%◌, ℕ, length, arith, ◌∙◌, sym, subst, refl, min}
-use Rattle.std.proofs.lemmas.Grind.{common_steps}
-use Rattle.disk_model.specs.Disk.{Files, bytes_of}
-use Rattle.disk_model.proofs.Frames.{tells_on, kept_turn, kept_none}
-use Rattle.block_store.specs.Reads.{HasHeader}
-use Rattle.block_cache.specs.Pages.{page_end}
+use Rattle.block_cache.proofs.Common.{◌≡◌, ◌≤◌, ◌<◌, ◌+◌, ◌-◌, ◌*◌, ◌/◌, ◌%◌, ℕ, length, arith, ◌∙◌, sym, subst, refl}
+use Rattle.block_cache.proofs.Common.{min, common_steps, Files, bytes_of, tells_on, kept_turn, kept_none, HasHeader}
+use Rattle.block_cache.proofs.Common.{page_end, samples_on}
 use Rattle.block_cache.proofs.CacheLaws.{keeps_before, keeps_same, keeps_turn, same_none, same_turn}
 use Rattle.block_cache.proofs.HitLaws.{samples_next}
-use Rattle.block_store.proofs.PieceLaws.{samples_on}
 use Rattle.block_cache.proofs.samples.read_pages.Goals as goal
 
 -- the page of the last item so far ends where it did

@@ -1,14 +1,6 @@
--- What stands in the file of a block of the disk are its samples.
-use Rattle.std.proofs.Common.{◌+◌, ◌-◌, ◌*◌, ◌≤◌, arith, length}
-use Rattle.sample_block.specs.Spelling.{size_of}
-use Rattle.block_store.proofs.FaultLaws.{valid_result, read_result}
-use Rattle.block_cache.specs.Pages.{page_end}
+-- What stands in the file of a block of the disk are its samples, and it has no fault.
+use Rattle.block_cache.proofs.Common.{◌+◌, ◌-◌, ◌*◌, ◌≤◌, arith, length, size_of, valid_result, page_end}
 use Rattle.block_cache.proofs.samples.read_samples_cached.Goals as goal
-
-pub returns-clause-read : goal.returns-clause-read
-returns-clause-read g c = λ xs told block len.
-    read_result c.read_pages.result (g.S.Store.reads c.args.store.now) c.args.block.id c.args.block.len c.args.from
-    (length c.args.out.now) xs c.read_pages.new.out block len c.requires.within (c.read_pages.ensures.samples told)
 
 pub returns-clause-valid : goal.returns-clause-valid
 returns-clause-valid g c = λ xs told block len.

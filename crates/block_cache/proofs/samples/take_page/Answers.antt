@@ -1,7 +1,5 @@
 -- A page that is kept is right, and otherwise it is read.
-use Rattle.std.proofs.Common.{◌≡◌, ◌/◌, length, ◌∙◌, arith, ap}
-use Rattle.block_cache.specs.Pages.{page_len, sample_key}
-use Rattle.disk_model.proofs.Frames.{kept_none}
+use Rattle.block_cache.proofs.Common.{◌≡◌, ◌/◌, length, ◌∙◌, arith, ap, page_len, sample_key, kept_none}
 use Rattle.block_cache.proofs.CacheLaws.{keeps_same, keeps_turn, right_same}
 use Rattle.block_cache.proofs.PageLaws.{page_header, page_samples}
 use Rattle.block_cache.proofs.samples.take_page.Goals as goal

@@ -1,7 +1,6 @@
 -- One page more is copied.
-use Rattle.std.proofs.Common.{◌+◌, length, arith, refl, sym, subst, List, ℤ}
-use Rattle.std.proofs.{lemmas.Grind.common_steps, lemmas.Slice.take-put_mid_below}
-use Rattle.block_cache.specs.Pages.{HasPart}
+use Rattle.block_cache.proofs.Common.{◌+◌, length, arith, refl, sym, subst, List, ℤ, common_steps, HasPart}
+use Rattle.std.proofs.{lemmas.Slice.take-put_mid_below}
 use Rattle.block_cache.proofs.CacheLaws.{right_same, same_none, same_turn}
 use Rattle.block_cache.proofs.{HitLaws.samples_next, PartLaws.part_more}
 use Rattle.block_cache.proofs.samples_once.copy_kept.Goals as goal

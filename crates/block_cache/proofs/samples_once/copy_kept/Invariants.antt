@@ -1,7 +1,5 @@
 -- The samples so far are those of the file, and no entry has come or gone.
-use Rattle.std.proofs.Common.{◌≤◌, ◌-◌, take, length}
-use Rattle.disk_model.specs.Disk.{Files}
-use Rattle.block_cache.specs.{Caches.IsCacheOf, Caches.SameCache, Pages.HasPart}
+use Rattle.block_cache.proofs.Common.{◌≤◌, ◌-◌, take, length, Files, IsCacheOf, SameCache, HasPart}
 use Rattle.block_cache.proofs.samples_once.copy_kept.Given as goal
 
 abbrev pub invariant-pages : goal.invariant-pages

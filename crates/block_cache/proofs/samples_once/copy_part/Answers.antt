@@ -1,6 +1,5 @@
 -- A page that is kept is right.
-use Rattle.std.proofs.Common.{◌≡◌, ◌/◌, length, ◌∙◌, arith, ap}
-use Rattle.block_cache.specs.Pages.{page_len, sample_key}
+use Rattle.block_cache.proofs.Common.{◌≡◌, ◌/◌, length, ◌∙◌, arith, ap, page_len, sample_key}
 use Rattle.block_cache.proofs.PageLaws.{page_header, page_samples, page_whole}
 use Rattle.block_cache.proofs.samples_once.copy_part.Goals as goal
 

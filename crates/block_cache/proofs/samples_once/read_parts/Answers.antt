@@ -1,7 +1,6 @@
 -- Those that are kept, and then the others.
-use Rattle.std.proofs.Common.{length, arith}
-use Rattle.std.proofs.{lemmas.Result.on_ok_weaker, lemmas.Grind.common_steps}
-use Rattle.disk_model.proofs.Frames.{kept_none}
+use Rattle.block_cache.proofs.Common.{length, arith, common_steps, kept_none}
+use Rattle.std.proofs.{lemmas.Result.on_ok_weaker}
 use Rattle.block_cache.proofs.{CacheLaws.keeps_same, CacheLaws.keeps_turn, CacheLaws.right_same, PartLaws.part_rest}
 use Rattle.block_cache.proofs.samples_once.read_parts.Goals as goal
 

@@ -1,13 +1,6 @@
--- What stands in the file of a block of the disk are its samples.
-use Rattle.std.proofs.Common.{◌+◌, ◌*◌, ◌≤◌, arith, length}
-use Rattle.sample_block.specs.Spelling.{size_of}
-use Rattle.block_store.proofs.FaultLaws.{valid_result, read_result}
+-- What stands in the file of a block of the disk are its samples, and it has no fault.
+use Rattle.block_cache.proofs.Common.{◌+◌, ◌*◌, ◌≤◌, arith, length, size_of, valid_result}
 use Rattle.block_cache.proofs.samples_once.read_samples_once.Goals as goal
-
-pub returns-clause-read : goal.returns-clause-read
-returns-clause-read g c = λ xs told block len.
-    read_result c.read_parts.result (g.S.Store.reads c.args.store.now) c.args.block.id c.args.block.len c.args.from
-    (length c.args.out.now) xs c.read_parts.new.out block len c.requires.within (c.read_parts.ensures.samples told)
 
 pub returns-clause-valid : goal.returns-clause-valid
 returns-clause-valid g c = λ xs told block len.

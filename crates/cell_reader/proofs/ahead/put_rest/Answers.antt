@@ -1,16 +1,11 @@
 -- The gap, the blocks, and the clips.
-use Rattle.std.proofs.Common.{◌≡◌, ℕ, ◌+◌, ◌-◌, List, ◌++◌, length, map, subst, arith, length-append}
-use Rattle.std.proofs.{lemmas.List.length-map, lemmas.List.length-replicate, lemmas.Result.on_ok_weaker}
-use Rattle.std.proofs.{lemmas.List.Elements.Contains-append_left, lemmas.List.Elements.Contains-append_right}
-use Rattle.std.specs.Prelude.{replicate, OnOk}
-use Rattle.pcm_base.proofs.Exits.{exit_err}
-use Rattle.disk_model.specs.Disk.{Files}
-use Rattle.pcm_base.specs.{declared.sound.Cell.Cell, Blocks.block_samples}
-use Rattle.block_sequence.proofs.Whole.{length-blocks}
-use Rattle.clip_track.specs.Clips.{cells_from, layout_blocks}
-use Rattle.block_cache.proofs.ReaderLaws.{reads_more, reads_then, told_on}
+use Rattle.cell_reader.proofs.Common.{◌≡◌, ℕ, ◌+◌, ◌-◌, List, ◌++◌, length, map, subst, arith, length-append}
+use Rattle.cell_reader.proofs.Common.{length-map, length-replicate, on_ok_weaker, Contains-append_left}
+use Rattle.cell_reader.proofs.Common.{Contains-append_right, replicate, exit_err, Files, Cell, block_samples}
+use Rattle.cell_reader.proofs.Common.{length-blocks, cells_from, layout_blocks, reads_more, reads_then, told_on, Puts}
+use Rattle.cell_reader.proofs.Common.{stored_of, rest_blocks}
+use Rattle.std.specs.Prelude.{OnOk}
 use Rattle.cell_reader.proofs.{KeptLaws.clips_on, KeptLaws.hits_then}
-use Rattle.cell_reader.specs.{Seen.Puts, Stored.stored_of, Rests.rest_blocks}
 use Rattle.cell_reader.proofs.SeenLaws.{puts_turn}
 use Rattle.pcm_base.specs.declared.sound.Cell.TheVariants as cell
 use Rattle.cell_reader.proofs.ahead.put_rest.Goals as goal
@@ -28,7 +23,7 @@ returns-clause-stored g c = λ told.
     let still = told_on first told in
     let two = c.in_ok-put_blocks.ensures.stored told in
     let U : Files → Type 0 = λ f. OnOk c.put_clips.result
-    (Puts a.view r.end (cells_from (stored_of f) r.end r.clips.now) c.put_blocks.new.out c.put_clips.new.out) in
+    (Puts g.T.FromCell.made a.view r.end (cells_from (stored_of f) r.end r.clips.now) c.put_blocks.new.out c.put_clips.new.out) in
     let three = subst U first.kept.same_reads (c.put_clips.ensures.stored still) in
     let size = length-replicate (r.start - r.at) cell.Gap in
     let place : r.start ≡ r.at + length gap = omega (arith, size, c.requires.rest.later) in
@@ -40,11 +35,11 @@ returns-clause-stored g c = λ told.
     ) in
     let end : r.end ≡ r.at + length (gap ++ sound) =
     omega (arith, length-append gap sound, size, long, c.requires.rest.later, c.requires.rest.whole) in
-    let Q : ℕ → Type 0 = λ n. Puts a.view n sound c.put_gap.new.out c.put_blocks.new.out in
-    let T : ℕ → Type 0 = λ n. Puts a.view n rest c.put_blocks.new.out c.put_clips.new.out in
+    let Q : ℕ → Type 0 = λ n. Puts g.T.FromCell.made a.view n sound c.put_gap.new.out c.put_blocks.new.out in
+    let T : ℕ → Type 0 = λ n. Puts g.T.FromCell.made a.view n rest c.put_blocks.new.out c.put_clips.new.out in
     on_ok_weaker c.put_clips.result
-    (λ last. puts_turn a.view r.at (gap ++ sound) rest a.out.now c.put_blocks.new.out c.put_clips.new.out
-    (puts_turn a.view r.at gap sound a.out.now c.put_gap.new.out c.put_blocks.new.out c.put_gap.ensures
+    (λ last. puts_turn g.T.FromCell.made a.view r.at (gap ++ sound) rest a.out.now c.put_blocks.new.out c.put_clips.new.out
+    (puts_turn g.T.FromCell.made a.view r.at gap sound a.out.now c.put_gap.new.out c.put_blocks.new.out c.put_gap.ensures
     (subst Q place two))
     (subst T end last))
     three

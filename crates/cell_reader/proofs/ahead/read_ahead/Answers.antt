@@ -1,12 +1,7 @@
 -- What is seen of the rest, and gaps after it.
-use Rattle.std.proofs.Common.{◌≡◌, ◌+◌, ◌-◌, List, ◌++◌, length, take, drop, get_or, arith, ◌∙◌, ap, length-drop}
-use Rattle.std.proofs.lemmas.List.{length-take}
-use Rattle.pcm_base.proofs.Exits.{exit_err}
-use Rattle.disk_model.specs.Disk.{Files}
-use Rattle.pcm_base.specs.{declared.sound.Cell.Cell, declared.sound.Cell.TheVariants.Gap}
-use Rattle.clip_track.specs.Clips.{layout_blocks, end_of}
-use Rattle.cell_reader.specs.{declared.places.View.View, Rests.rest_blocks, Seen.place_in, Stored.stored_of}
-use Rattle.block_cache.proofs.ReaderLaws.{reads_more}
+use Rattle.cell_reader.proofs.Common.{◌≡◌, ◌+◌, ◌-◌, List, ◌++◌, length, take, drop, get_or, arith, ◌∙◌, ap}
+use Rattle.cell_reader.proofs.Common.{length-drop, length-take, exit_err, Files, Cell, Gap, layout_blocks, end_of, View}
+use Rattle.cell_reader.proofs.Common.{rest_blocks, place_in, stored_of, reads_more}
 use Rattle.cell_reader.proofs.{SeenLaws.fault_among, SeenLaws.valid_in, RestLaws.seen, RestLaws.put_tail}
 use Rattle.cell_reader.proofs.{StoredLaws.stored_cells}
 use Rattle.cell_reader.proofs.ahead.read_ahead.Goals as goal
@@ -31,7 +26,7 @@ returns-clause-stored g c = λ told.
     let view : View = record { from = a.from; to = a.from + length a.out.now } in
     let place : count ≡ place_in view (end_of 0 a.layout.now) =
     c.place_in-count.ensures ∙ ap (place_in view) c.len.ensures.value in
-    seen (stored_of files) view a.layout.now a.rest.now count m a.out.now mid _ c.requires.rest (omega arith) place
+    seen g.T.FromCell.made (stored_of files) view a.layout.now a.rest.now count m a.out.now mid _ c.requires.rest (omega arith) place
     (c.in_ok-put_rest.ensures.stored told) many
     (put_tail count k mid c.fill_gaps.new.out (omega arith) ∙ ap (λ ys. take count mid ++ ys) c.fill_gaps.ensures)
 
@@ -39,7 +34,7 @@ pub returns-clause-read : goal.returns-clause-read
 returns-clause-read g c = λ told whole k lt.
     let files : Files = g.S.Store.reads c.args.reader.now.store in
     returns-clause-stored g c told k lt
-    ∙ ap (λ (cs : List Cell). get_or cs (c.args.from + k) Gap) (stored_cells files 0 c.args.layout.now whole)
+    ∙ ap (λ (cs : List Cell). g.T.FromCell.made (get_or cs (c.args.from + k) Gap)) (stored_cells files 0 c.args.layout.now whole)
 
 pub returns-in_err-put_rest-clause-reads : goal.returns-in_err-put_rest-clause-reads
 returns-in_err-put_rest-clause-reads g c =

@@ -1,14 +1,9 @@
 -- What is seen of the block is put.
-use Rattle.std.proofs.Common.{◌≡◌, ◌≤◌, ◌+◌, ◌-◌, ℕ, ℤ, List, map, length, take, drop, arith, ◌∙◌, length-drop}
-use Rattle.std.proofs.{lemmas.List.length-map, lemmas.List.length-take, lemmas.Result.on_ok_weaker}
-use Rattle.disk_model.specs.Disk.{Files}
-use Rattle.pcm_base.specs.{declared.sound.Cell.TheVariants.Sample, Pieces.stretch}
-use Rattle.pcm_base.proofs.Pieces.{length-stretch}
-use Rattle.block_cache.proofs.ReaderLaws.{reads_none}
-use Rattle.block_cache.proofs.CacheLaws.{same_none}
-use Rattle.cell_reader.proofs.{KeptLaws.samples_part, KeptLaws.hits_none}
-use Rattle.cell_reader.specs.{Seen.place_in, Stored.stored_on}
-use Rattle.cell_reader.proofs.{SeenLaws.puts_none, SeenLaws.puts_mid, StoredLaws.stored_part}
+use Rattle.cell_reader.proofs.Common.{◌≡◌, ◌≤◌, ◌+◌, ◌-◌, ℕ, ℤ, List, map, length, take, drop, arith, ◌∙◌, length-drop}
+use Rattle.cell_reader.proofs.Common.{length-map, length-take, on_ok_weaker, Files, Sample, stretch, length-stretch}
+use Rattle.cell_reader.proofs.Common.{reads_none, same_none, place_in, stored_on}
+use Rattle.cell_reader.proofs.{KeptLaws.samples_part, KeptLaws.hits_none, SeenLaws.puts_none, SeenLaws.puts_mid}
+use Rattle.cell_reader.proofs.{StoredLaws.stored_part}
 use Rattle.cell_reader.proofs.blocks.put_block.Goals as goal
 
 pub returns-then-start-end-clause-stored : goal.returns-then-start-end-clause-stored
@@ -17,7 +12,7 @@ returns-then-start-end-clause-stored g c = λ told.
     let samples = stretch f 0 c.args.block.len in
     let size : length (map Sample samples) ≡ c.args.block.len =
     length-map samples Sample ∙ length-stretch f 0 c.args.block.len in
-    puts_none c.args.view c.args.at c.args.block.len (map Sample samples) c.args.out.now
+    puts_none g.T.FromCell.made c.args.view c.args.at c.args.block.len (map Sample samples) c.args.out.now
     (omega (arith, c.requires.size)) size
     (omega (arith, c.place_in-start.ensures, c.if-start-end.true, c.place_in-end.ensures))
 
@@ -56,12 +51,12 @@ returns-clause-stored g c = λ told.
       c.place_in-start.ensures,
       c.place_in-end.ensures,
     ) in
-    on_ok_weaker c.read_samples.result
-    (λ got. puts_mid a.view a.at b.len k start (map Sample samples) c.read_samples.new.out a.out.now order size
+    on_ok_weaker c.read.result
+    (λ got. puts_mid g.T.FromCell.made a.view a.at b.len k start (map Sample samples) c.read.new.out a.out.now order size
     c.place_in-start.ensures fits
-    (stored_part files b a.view a.at m skip c.read_samples.new.out order seen c.saturating_sub-skip.ensures within
+    (stored_part g.T.FromCell.made files b a.view a.at m skip c.read.new.out order seen c.saturating_sub-skip.ensures within
     got))
-    (c.read_samples.ensures.stored told)
+    (c.read.ensures.stored told)
 
 pub returns-then-start-end-clause-hit : goal.returns-then-start-end-clause-hit
 returns-then-start-end-clause-hit g c = hits_none
@@ -83,6 +78,6 @@ returns-clause-hit g c =
       c.requires.size,
     ) in
     let skip : c.saturating_sub-skip.result ≡ a.view.from - a.at = omega (arith, c.saturating_sub-skip.ensures) in
-    λ has. c.read_samples.ensures.hit (samples_part a.reader.now.cache _ b (a.view.from - a.at)
+    λ has. c.read.ensures.hit (samples_part a.reader.now.cache _ b (a.view.from - a.at)
     (place_in a.view (a.at + b.len) - place_in a.view a.at) c.saturating_sub-skip.result m (same_none _)
     (omega (arith, skip)) (omega (arith, skip, seen)) has)

@@ -1,19 +1,11 @@
 -- One block more is put.
-use Rattle.std.proofs.Common.{◌≡◌, ℕ, ◌+◌, ℤ, List, [], ◌∷◌, ◌++◌, length, drop, map, get_or, refl, sym, ap, subst, ◌∙◌}
-use Rattle.std.proofs.Common.{arith}
-use Rattle.std.proofs.lemmas.List.{length-map, drop_more, drop_all, map-append}
-use Rattle.std.proofs.lemmas.List.Elements.{Contains-append_left, Contains-append_right}
-use Rattle.disk_model.specs.Disk.{Files}
-use Rattle.std.specs.Prelude.{Contains}
-use Rattle.block_cache.proofs.ReaderLaws.{reads_more, reads_none, reads_then, told_on}
-use Rattle.cell_reader.specs.Kept.{HasBlocks}
+use Rattle.cell_reader.proofs.Common.{◌≡◌, ℕ, ◌+◌, ℤ, List, [], ◌∷◌, ◌++◌, length, drop, map, get_or, refl, sym, ap}
+use Rattle.cell_reader.proofs.Common.{subst, ◌∙◌, arith, length-map, drop_more, drop_all, map-append}
+use Rattle.cell_reader.proofs.Common.{Contains-append_left, Contains-append_right, Files, Contains, reads_more}
+use Rattle.cell_reader.proofs.Common.{reads_none, reads_then, told_on, HasBlocks, blocks_len, block_samples, BlockRef}
+use Rattle.cell_reader.proofs.Common.{Cell, Sample, stretch, length-stretch, AllNamed, place_in, Puts, stored_on}
+use Rattle.cell_reader.proofs.Common.{stored_of}
 use Rattle.cell_reader.proofs.{KeptLaws.block_on, KeptLaws.hits_none, KeptLaws.hits_then}
-use Rattle.pcm_base.specs.Blocks.{blocks_len, block_samples}
-use Rattle.pcm_base.specs.{declared.block.BlockRef.BlockRef, declared.sound.Cell.Cell}
-use Rattle.pcm_base.specs.{declared.sound.Cell.TheVariants.Sample, Pieces.stretch}
-use Rattle.pcm_base.proofs.Pieces.{length-stretch}
-use Rattle.sample_block.specs.Sources.{AllNamed}
-use Rattle.cell_reader.specs.{Seen.place_in, Seen.Puts, Stored.stored_on, Stored.stored_of}
 use Rattle.cell_reader.proofs.SeenLaws.{puts_turn, puts_none}
 use Rattle.cell_reader.proofs.blocks.put_blocks.Goals as goal
 
@@ -78,18 +70,18 @@ rows-preserved g c =
       among = λ d has. inv.among d (subst (λ qs. Contains qs d) (sym e) (Contains-append_right (b ∷ []) rest d has));
       stored = λ told new puts.
           let still = told_on inv.reads told in
-          let P : Files → Type 0 = λ f. Puts c.args.view c.rows.place
+          let P : Files → Type 0 = λ f. Puts g.T.FromCell.made c.args.view c.rows.place
           (map Sample (stretch (stored_on f b.id) 0 b.len)) c.rows.out c.put_block.new.out in
           let one = subst P inv.reads.kept.same_reads (c.in_default.ensures.stored still) in
           let xs : List ℤ = stretch (stored_on files b.id) 0 b.len in
           let ys : List ℤ = block_samples (stored_of files) rest in
           let size : length (map Sample xs) ≡ b.len =
           length-map xs Sample ∙ length-stretch (stored_on files b.id) 0 b.len in
-          let Q : ℕ → Type 0 = λ n. Puts c.args.view n (map Sample ys) c.put_block.new.out new in
+          let Q : ℕ → Type 0 = λ n. Puts g.T.FromCell.made c.args.view n (map Sample ys) c.put_block.new.out new in
           let place : c.rows.place + b.len ≡ c.rows.place + length (map Sample xs) = omega (arith, size) in
-          let both = puts_turn c.args.view c.rows.place (map Sample xs)
+          let both = puts_turn g.T.FromCell.made c.args.view c.rows.place (map Sample xs)
           (map Sample ys) c.rows.out c.put_block.new.out new one (subst Q place puts) in
-          let R : List Cell → Type 0 = λ cs. Puts c.args.view c.rows.place cs c.rows.out new in
+          let R : List Cell → Type 0 = λ cs. Puts g.T.FromCell.made c.args.view c.rows.place cs c.rows.out new in
           let all : map Sample xs ++ map Sample ys ≡ map Sample (block_samples (stored_of files) (drop i bs)) =
           sym (map-append Sample xs ys) ∙ ap (λ qs. map Sample (block_samples (stored_of files) qs)) (sym e) in
           inv.stored told new (subst R all both);
@@ -102,10 +94,10 @@ returns-clause-stored g c = λ told.
     let none : drop i bs ≡ [] = drop_all i bs (omega arith) in
     let inv = c.rows.invariant in
     let files : Files = g.S.Store.reads c.args.reader.now.store in
-    let R : List BlockRef → Type 0 = λ qs. Puts c.args.view c.rows.place
+    let R : List BlockRef → Type 0 = λ qs. Puts g.T.FromCell.made c.args.view c.rows.place
     (map Sample (block_samples (stored_of files) qs)) c.rows.out c.rows.out in
     let stop : c.rows.place ≡ c.rows.place + 0 = omega arith in
-    inv.stored told c.rows.out (subst R (sym none) (puts_none c.args.view c.rows.place 0 [] c.rows.out
+    inv.stored told c.rows.out (subst R (sym none) (puts_none g.T.FromCell.made c.args.view c.rows.place 0 [] c.rows.out
     (omega (arith, c.requires.size)) refl (ap (place_in c.args.view) stop)))
 
 -- the blocks that are left stand after the view
@@ -113,7 +105,7 @@ pub returns-then-place-view-clause-stored : goal.returns-then-place-view-clause-
 returns-then-place-view-clause-stored g c = λ told.
     let files : Files = g.S.Store.reads c.args.reader.now.store in
     let left : List Cell = map Sample (block_samples (stored_of files) (drop c.rows.block-index c.args.blocks.now)) in
-    c.rows.invariant.stored told c.rows.out (puts_none c.args.view c.rows.place (length left) left c.rows.out
+    c.rows.invariant.stored told c.rows.out (puts_none g.T.FromCell.made c.args.view c.rows.place (length left) left c.rows.out
     (omega (arith, c.requires.size)) refl (omega arith))
 
 pub returns-in-Err-clause-reads : goal.returns-in-Err-clause-reads

@@ -1,12 +1,7 @@
 -- The cells that are seen from the place on are those of the layout.
-use Rattle.std.proofs.Common.{◌≡◌, ◌+◌, ◌-◌, min, List, length, take, drop, arith, ap, ◌∙◌}
-use Rattle.std.proofs.lemmas.List.{length-take}
-use Rattle.pcm_base.proofs.Exits.{exit_err}
-use Rattle.disk_model.specs.Disk.{Files}
-use Rattle.pcm_base.specs.declared.sound.Cell.{Cell}
-use Rattle.clip_track.specs.Clips.{layout_cells}
-use Rattle.block_cache.proofs.ReaderLaws.{reads_err, reads_ok}
-use Rattle.cell_reader.specs.Stored.{stored_of}
+use Rattle.cell_reader.proofs.Common.{◌≡◌, ◌+◌, ◌-◌, min, List, length, take, drop, arith, ap, ◌∙◌, length-take}
+use Rattle.cell_reader.proofs.Common.{exit_err, Files, Cell, layout_cells, reads_err, stored_of}
+use Rattle.block_cache.proofs.ReaderLaws.{reads_ok}
 use Rattle.cell_reader.proofs.KeptLaws.{seen_part}
 use Rattle.cell_reader.proofs.{PartLists.drop_front, RestLaws.seen_cells, StoredLaws.stored_cells}
 use Rattle.cell_reader.proofs.cells.read_cells.Goals as goal

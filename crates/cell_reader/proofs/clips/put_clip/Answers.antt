@@ -1,11 +1,6 @@
 -- The gap, and then the blocks.
-use Rattle.std.proofs.Common.{◌≡◌, ℕ, ◌+◌, ◌-◌, List, length, map, subst, arith}
-use Rattle.std.proofs.{lemmas.List.length-replicate, lemmas.Result.on_ok_weaker}
-use Rattle.std.specs.Prelude.{replicate}
-use Rattle.pcm_base.specs.{declared.block.BlockRef.BlockRef, declared.sound.Cell.Cell, Blocks.block_samples}
-use Rattle.cell_reader.specs.Kept.{HasBlocks}
-use Rattle.block_cache.specs.Readers.{Hits}
-use Rattle.cell_reader.specs.{Seen.Puts, Stored.stored_of}
+use Rattle.cell_reader.proofs.Common.{◌≡◌, ℕ, ◌+◌, ◌-◌, List, length, map, subst, arith, length-replicate, on_ok_weaker}
+use Rattle.cell_reader.proofs.Common.{replicate, BlockRef, Cell, block_samples, HasBlocks, Hits, Puts, stored_of}
 use Rattle.cell_reader.proofs.SeenLaws.{puts_turn}
 use Rattle.pcm_base.specs.declared.sound.Cell.TheVariants as cell
 use Rattle.cell_reader.proofs.clips.put_clip.Goals as goal
@@ -17,13 +12,13 @@ returns-clause-stored g c = λ told.
     let src = stored_of (g.S.Store.reads c.args.reader.now.store) in
     let gap : List Cell = replicate (clip.start - a.at) cell.Gap in
     let P : List BlockRef → Type 0 = λ bs.
-    Puts a.view clip.start (map cell.Sample (block_samples src bs)) c.put_gap.new.out c.put_blocks.new.out in
+    Puts g.T.FromCell.made a.view clip.start (map cell.Sample (block_samples src bs)) c.put_gap.new.out c.put_blocks.new.out in
     let place : clip.start ≡ a.at + length gap =
     omega (arith, length-replicate (clip.start - a.at) cell.Gap, c.requires.later) in
     let Q : ℕ → Type 0 = λ n.
-    Puts a.view n (map cell.Sample (block_samples src clip.blocks)) c.put_gap.new.out c.put_blocks.new.out in
+    Puts g.T.FromCell.made a.view n (map cell.Sample (block_samples src clip.blocks)) c.put_gap.new.out c.put_blocks.new.out in
     on_ok_weaker c.put_blocks.result
-    (λ two. puts_turn a.view a.at gap
+    (λ two. puts_turn g.T.FromCell.made a.view a.at gap
     (map cell.Sample (block_samples src clip.blocks)) a.out.now c.put_gap.new.out c.put_blocks.new.out
     c.put_gap.ensures (subst Q place (subst P c.as_slice.ensures.value two)))
     (c.put_blocks.ensures.stored told)

@@ -1,20 +1,12 @@
 -- One clip more is put.
-use Rattle.std.proofs.Common.{◌≡◌, ℕ, ◌+◌, ◌-◌, ◌≤◌, List, [], ◌∷◌, ◌++◌, length, drop, map, refl, sym, ap, subst, ◌∙◌}
-use Rattle.std.proofs.Common.{arith, length-append}
-use Rattle.std.proofs.lemmas.List.{drop_more, drop_all, length-map, length-replicate}
-use Rattle.std.proofs.lemmas.List.Elements.{Contains-append_left, Contains-append_right}
-use Rattle.std.specs.Prelude.{replicate, Contains}
-use Rattle.disk_model.specs.Disk.{Files}
-use Rattle.pcm_base.specs.{declared.sound.Cell.Cell, Blocks.blocks_len, Blocks.block_samples}
-use Rattle.block_sequence.proofs.Whole.{length-blocks}
-use Rattle.clip_track.specs.declared.clips.Clip.{Clip}
-use Rattle.clip_track.specs.Clips.{AreClips, end_of, clip_end, cells_from, layout_blocks}
-use Rattle.clip_track.proofs.Layouts.{AreClips-next, end_within}
-use Rattle.block_cache.proofs.ReaderLaws.{reads_more, reads_none, reads_then, told_on}
-use Rattle.sample_block.specs.Sources.{AllNamed}
-use Rattle.cell_reader.specs.Kept.{HasClips}
+use Rattle.cell_reader.proofs.Common.{◌≡◌, ℕ, ◌+◌, ◌-◌, ◌≤◌, List, [], ◌∷◌, ◌++◌, length, drop, map, refl, sym, ap}
+use Rattle.cell_reader.proofs.Common.{subst, ◌∙◌, arith, length-append, drop_more, drop_all, length-map}
+use Rattle.cell_reader.proofs.Common.{length-replicate, Contains-append_left, Contains-append_right, replicate}
+use Rattle.cell_reader.proofs.Common.{Contains, Files, Cell, blocks_len, block_samples, length-blocks, Clip, AreClips}
+use Rattle.cell_reader.proofs.Common.{end_of, clip_end, cells_from, layout_blocks, AreClips-next, end_within}
+use Rattle.cell_reader.proofs.Common.{reads_more, reads_none, reads_then, told_on, AllNamed, HasClips, place_in, Puts}
+use Rattle.cell_reader.proofs.Common.{stored_of}
 use Rattle.cell_reader.proofs.{KeptLaws.blocks_on, KeptLaws.hits_none, KeptLaws.hits_then}
-use Rattle.cell_reader.specs.{Seen.place_in, Seen.Puts, Stored.stored_of}
 use Rattle.cell_reader.proofs.SeenLaws.{puts_turn, puts_none, named_front, named_back}
 use Rattle.pcm_base.specs.declared.sound.Cell.TheVariants as cell
 use Rattle.cell_reader.proofs.clips.put_clips.Goals as goal
@@ -120,7 +112,7 @@ rows-preserved g c =
           (Contains-append_right x.blocks (layout_blocks rest) d has));
       stored = λ told new puts.
           let still = told_on inv.reads told in
-          let U : Files → Type 0 = λ f. Puts c.args.view at (replicate (x.start - at) cell.Gap
+          let U : Files → Type 0 = λ f. Puts g.T.FromCell.made c.args.view at (replicate (x.start - at) cell.Gap
           ++ map cell.Sample (block_samples (stored_of f) x.blocks)) c.rows.out c.put_clip.new.out in
           let one = subst U inv.reads.kept.same_reads (c.in_default.ensures.stored still) in
           let gap : List Cell = replicate (x.start - at) cell.Gap in
@@ -131,11 +123,11 @@ rows-preserved g c =
           let place : clip_end x ≡ at + length (gap ++ sound) =
           omega (arith, length-append gap sound, length-replicate (x.start - at) cell.Gap, size, later) in
           let Q : ℕ → Type 0 = λ n.
-          Puts c.args.view n (cells_from (stored_of files) (clip_end x) rest) c.put_clip.new.out new in
-          let both = puts_turn c.args.view at (gap ++ sound) (cells_from (stored_of files) (clip_end x) rest)
+          Puts g.T.FromCell.made c.args.view n (cells_from (stored_of files) (clip_end x) rest) c.put_clip.new.out new in
+          let both = puts_turn g.T.FromCell.made c.args.view at (gap ++ sound) (cells_from (stored_of files) (clip_end x) rest)
           c.rows.out c.put_clip.new.out new one (subst Q place puts) in
           let R : List Clip → Type 0 =
-          λ ds. Puts c.args.view at (cells_from (stored_of files) at ds) c.rows.out new in
+          λ ds. Puts g.T.FromCell.made c.args.view at (cells_from (stored_of files) at ds) c.rows.out new in
           inv.stored told new (subst R (sym e) both);
     })
 
@@ -147,9 +139,9 @@ returns-clause-stored g c = λ told.
     let inv = c.rows.invariant in
     let files : Files = g.S.Store.reads c.args.reader.now.store in
     let R : List Clip → Type 0 =
-    λ ds. Puts c.args.view c.rows.at (cells_from (stored_of files) c.rows.at ds) c.rows.out c.rows.out in
+    λ ds. Puts g.T.FromCell.made c.args.view c.rows.at (cells_from (stored_of files) c.rows.at ds) c.rows.out c.rows.out in
     let stop : c.rows.at ≡ c.rows.at + 0 = omega arith in
-    inv.stored told c.rows.out (subst R (sym none) (puts_none c.args.view c.rows.at 0 [] c.rows.out
+    inv.stored told c.rows.out (subst R (sym none) (puts_none g.T.FromCell.made c.args.view c.rows.at 0 [] c.rows.out
     (omega (arith, c.requires.size)) refl (ap (place_in c.args.view) stop)))
 
 -- the clips that are left stand after the view
@@ -157,7 +149,7 @@ pub returns-then-at-view-clause-stored : goal.returns-then-at-view-clause-stored
 returns-then-at-view-clause-stored g c = λ told.
     let files : Files = g.S.Store.reads c.args.reader.now.store in
     let left : List Cell = cells_from (stored_of files) c.rows.at (drop c.rows.clip-index c.args.clips.now) in
-    c.rows.invariant.stored told c.rows.out (puts_none c.args.view c.rows.at (length left) left c.rows.out
+    c.rows.invariant.stored told c.rows.out (puts_none g.T.FromCell.made c.args.view c.rows.at (length left) left c.rows.out
     (omega (arith, c.requires.size)) refl (omega arith))
 
 pub returns-in-Err-clause-reads : goal.returns-in-Err-clause-reads

@@ -1,14 +1,11 @@
 -- The gaps that are seen are put.
-use Rattle.std.proofs.Common.{◌≡◌, ◌≤◌, ◌+◌, ◌-◌, length, take, drop, arith, ◌∙◌, length-drop}
-use Rattle.std.proofs.lemmas.List.{length-replicate, length-take}
-use Rattle.std.specs.Prelude.{replicate}
-use Rattle.pcm_base.specs.declared.sound.Cell.TheVariants.{Gap}
-use Rattle.cell_reader.specs.Seen.{place_in}
+use Rattle.cell_reader.proofs.Common.{◌≡◌, ◌≤◌, ◌+◌, ◌-◌, length, take, drop, arith, ◌∙◌, length-drop, length-replicate}
+use Rattle.cell_reader.proofs.Common.{length-take, replicate, Gap, place_in}
 use Rattle.cell_reader.proofs.SeenLaws.{puts_mid, gap_part}
 use Rattle.cell_reader.proofs.places.put_gap.Goals as goal
 
 pub returns : goal.returns
-returns c =
+returns g c =
     let a = c.args in
     let start = c.place_in-start.result in
     let k = c.place_in-end.result - start in
@@ -24,6 +21,6 @@ returns c =
       c.place_in-end.ensures,
       c.requires.size,
     ) in
-    puts_mid a.view a.at a.len k start (replicate a.len Gap) c.fill_gaps.new.out a.out.now order
+    puts_mid g.T.FromCell.made a.view a.at a.len k start (replicate a.len Gap) c.fill_gaps.new.out a.out.now order
     (length-replicate a.len Gap) c.place_in-start.ensures fits
-    (c.fill_gaps.ensures ∙ gap_part a.view a.at a.len (length (take k (drop start a.out.now))) order size)
+    (c.fill_gaps.ensures ∙ gap_part g.T.FromCell.made a.view a.at a.len (length (take k (drop start a.out.now))) order size)

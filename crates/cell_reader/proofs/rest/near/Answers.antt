@@ -1,10 +1,7 @@
 -- The layout is cut before the clip that is near.
-use Rattle.std.proofs.Common.{◌≡◌, ◌+◌, ◌-◌, ◌≤◌, ◌++◌, ◌∷◌, List, [], length, take, drop, min, arith, refl, ap, sym}
-use Rattle.std.proofs.Common.{subst, ◌∙◌}
-use Rattle.std.proofs.lemmas.List.{nil_from_length, length-take}
-use Rattle.clip_track.specs.{declared.clips.Clip.Clip, Clips.IsLayout, Clips.AreClips, Clips.clip_end, Clips.end_of}
-use Rattle.clip_track.proofs.Layouts.{end_within}
-use Rattle.cell_reader.specs.Rests.{IsRestOf}
+use Rattle.cell_reader.proofs.Common.{◌≡◌, ◌+◌, ◌-◌, ◌≤◌, ◌++◌, ◌∷◌, List, [], length, take, drop, min, arith, refl, ap}
+use Rattle.cell_reader.proofs.Common.{sym, subst, ◌∙◌, nil_from_length, length-take, Clip, IsLayout, AreClips, clip_end}
+use Rattle.cell_reader.proofs.Common.{end_of, end_within, IsRestOf}
 use Rattle.cell_reader.proofs.NearLaws.{clips_back, cut_before, end_back, near_late, near_of}
 use Rattle.cell_reader.proofs.rest.near.Goals as goal
 

@@ -1,9 +1,7 @@
 -- One block more is passed.
-use Rattle.std.proofs.Common.{◌-◌, length, drop, get_or, refl, ap, arith, length-drop}
-use Rattle.std.proofs.lemmas.List.{length-take}
-use Rattle.pcm_base.specs.{declared.block.BlockRef.BlockRef, Blocks.blocks_len}
+use Rattle.cell_reader.proofs.Common.{◌-◌, length, drop, get_or, refl, ap, arith, length-drop, length-take, BlockRef}
+use Rattle.cell_reader.proofs.Common.{blocks_len, first_of}
 use Rattle.cell_reader.proofs.RestLaws.{ends_from, block_rest, block_passed}
-use Rattle.clip_track.proofs.RestItems.{first_of}
 use Rattle.cell_reader.proofs.rest.pass_blocks.Goals as goal
 
 pub rows-init : goal.rows-init

@@ -1,9 +1,6 @@
 -- One clip more is passed.
-use Rattle.std.proofs.Common.{◌≡◌, ◌+◌, ◌-◌, ◌∷◌, List, length, take, drop, refl, ap, subst, ◌∙◌, sym, arith}
-use Rattle.std.proofs.Common.{length-drop}
-use Rattle.std.proofs.lemmas.List.{length-take}
-use Rattle.clip_track.specs.{declared.clips.Clip.Clip, Clips.AreClips, Clips.end_of}
-use Rattle.clip_track.proofs.{Layouts.end_within, RestItems.first_of}
+use Rattle.cell_reader.proofs.Common.{◌≡◌, ◌+◌, ◌-◌, ◌∷◌, List, length, take, drop, refl, ap, subst, ◌∙◌, sym, arith}
+use Rattle.cell_reader.proofs.Common.{length-drop, length-take, Clip, AreClips, end_of, end_within, first_of}
 use Rattle.cell_reader.proofs.RestLaws.{clip_rest, clip_passed}
 use Rattle.cell_reader.proofs.rest.pass_clips.Goals as goal
 

@@ -1,7 +1,6 @@
 -- What is left is the rest of the same tracks.
-use Rattle.std.proofs.Common.{List, length}
+use Rattle.cell_reader.proofs.Common.{List, length, IsRest, IsRestOf}
 use Rattle.clip_track.specs.declared.clips.Clip.{Clip as clip_of}
-use Rattle.cell_reader.specs.Rests.{IsRest, IsRestOf}
 use Rattle.cell_reader.proofs.rest.pass_clips.Given as goal
 
 abbrev pub invariant-rows : goal.invariant-rows

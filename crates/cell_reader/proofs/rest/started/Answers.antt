@@ -1,7 +1,7 @@
 -- Clips rise by their starts.
-use Rattle.std.proofs.Common.{arith, leb, leb-true, rules}
+use Rattle.cell_reader.proofs.Common.{arith, Clip}
+use Rattle.std.proofs.Common.{leb, leb-true, rules}
 use Rattle.std.proofs.lemmas.List.Sorted.{IsPartitionPoint-from_clause, IsPartitionedBy-leb}
-use Rattle.clip_track.specs.declared.clips.Clip.{Clip}
 use Rattle.cell_reader.proofs.NearLaws.{starts_rise}
 use Rattle.cell_reader.proofs.rest.started.Goals as goal
 

@@ -1,6 +1,5 @@
 -- What the loop of `append_blocks` keeps.
-use Rattle.std.proofs.Common.{◌≡◌, ◌++◌, take}
-use Rattle.clip_track.specs.Clips.{sound_items}
+use Rattle.clip_track.proofs.Common.{◌≡◌, ◌++◌, take, sound_items}
 use Rattle.clip_track.proofs.clips.append_blocks.Given as goal
 
 abbrev pub invariant-loop-block : goal.invariant-loop-block

@@ -1,8 +1,7 @@
 -- The goals of `clip_items` that the search leaves open.
-use Rattle.std.proofs.Common.{◌+◌, ◌-◌, ◌++◌, List, ◌∷◌, drop, sym, ap, subst, ◌∙◌, append_assoc, arith}
-use Rattle.std.proofs.lemmas.List.{drop_more}
-use Rattle.clip_track.specs.Clips.{items_from, sound_items, end_of, clip_end, AreClips}
-use Rattle.clip_track.specs.{declared.items.Item.Item, declared.clips.Clip.Clip, Items.gap_items}
+use Rattle.clip_track.proofs.Common.{◌+◌, ◌-◌, ◌++◌, List, ◌∷◌, drop, sym, ap, subst, ◌∙◌, append_assoc, arith}
+use Rattle.clip_track.proofs.Common.{drop_more, items_from, sound_items, end_of, clip_end, AreClips, Item, Clip}
+use Rattle.clip_track.proofs.Common.{gap_items}
 use Rattle.clip_track.proofs.Layouts.{AreClips-next, end_within}
 use Rattle.clip_track.proofs.clips.clip_items.Goals as goal
 

@@ -1,6 +1,5 @@
 -- What the loop of `clip_items` keeps.
-use Rattle.std.proofs.Common.{◌≡◌, ◌++◌, drop}
-use Rattle.clip_track.specs.Clips.{items_from, end_of, AreClips}
+use Rattle.clip_track.proofs.Common.{◌≡◌, ◌++◌, drop, items_from, end_of, AreClips}
 use Rattle.clip_track.proofs.clips.clip_items.Given as goal
 
 abbrev pub invariant-loop-clip : goal.invariant-loop-clip

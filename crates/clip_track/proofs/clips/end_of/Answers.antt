@@ -1,6 +1,5 @@
 -- The goals of `end_of` that the search leaves open.
-use Rattle.std.proofs.Common.{◌+◌, ap, ◌∙◌, arith}
-use Rattle.clip_track.specs.Clips.{clip_end}
+use Rattle.clip_track.proofs.Common.{◌+◌, ap, ◌∙◌, arith, clip_end}
 use Rattle.clip_track.proofs.Layouts.{end_of_last}
 use Rattle.clip_track.proofs.clips.end_of.Goals as goal
 

@@ -1,7 +1,5 @@
 -- The goals of `append_gap` that the search leaves open.
-use Rattle.std.proofs.{Common.◌+◌, Common.List, Common.◌++◌, Common.ap, Common.◌∙◌, lemmas.Result.on_ok_weaker}
-use Rattle.pcm_base.specs.declared.sound.Cell.{Cell}
-use Rattle.clip_track.specs.Items.{strip_len, strip_cells}
+use Rattle.clip_track.proofs.Common.{◌+◌, List, ◌++◌, ap, ◌∙◌, on_ok_weaker, Cell, strip_len, strip_cells}
 use Rattle.clip_track.proofs.Strips.{AreItems-append, strip_len-append, strip_cells-append, ItemsFit-append}
 use Rattle.clip_track.proofs.Layouts.{AreItems-gap, strip_len-gap, strip_cells-gap, ItemsFit-gap}
 use Rattle.clip_track.proofs.items.append_gap.Goals as goal

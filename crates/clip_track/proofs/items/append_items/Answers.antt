@@ -1,9 +1,7 @@
 -- The goals of `append_items` that the search leaves open.
-use Rattle.std.proofs.Common.{◌≡◌, ℕ, ◌+◌, ◌-◌, ◌≤◌, ◌++◌, min, List, length, get_or, drop, sym, ap, ◌∙◌, append_assoc}
-use Rattle.std.proofs.Common.{arith}
-use Rattle.std.proofs.lemmas.List.{drop_more, length-take, take-append-le}
-use Rattle.clip_track.specs.Items.{item_len, part_items}
-use Rattle.clip_track.specs.{declared.items.Item.Item, declared.items.Item.TheVariants.Gap}
+use Rattle.clip_track.proofs.Common.{◌≡◌, ℕ, ◌+◌, ◌-◌, ◌≤◌, ◌++◌, min, List, length, get_or, drop, sym, ap, ◌∙◌}
+use Rattle.clip_track.proofs.Common.{append_assoc, arith, drop_more, take-append-le, item_len, part_items, Item, Gap}
+use Rattle.std.proofs.lemmas.List.{length-take}
 use Rattle.clip_track.proofs.Strips.{part_none, part_past, part_within}
 use Rattle.clip_track.proofs.items.append_items.Goals.{then-left-gt0+then-len-skip}
 use Rattle.clip_track.proofs.items.append_items.Goals.{then-left-gt0+else-len-skip+in_ok-push, else-left-gt0}

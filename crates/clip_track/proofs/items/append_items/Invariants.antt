@@ -1,6 +1,5 @@
 -- What the loop of `append_items` keeps.
-use Rattle.std.proofs.Common.{◌≡◌, ◌++◌, length, take, drop}
-use Rattle.clip_track.specs.Items.{part_items}
+use Rattle.clip_track.proofs.Common.{◌≡◌, ◌++◌, length, take, drop, part_items}
 use Rattle.clip_track.proofs.items.append_items.Given as goal
 
 abbrev pub invariant-loop-item : goal.invariant-loop-item

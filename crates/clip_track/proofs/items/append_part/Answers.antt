@@ -1,7 +1,5 @@
 -- The goals of `append_part` that the search leaves open.
-use Rattle.std.proofs.{Common.◌+◌, Common.List, Common.◌++◌, Common.ap, Common.◌∙◌, lemmas.Result.on_ok_weaker}
-use Rattle.pcm_base.specs.declared.sound.Cell.{Cell}
-use Rattle.clip_track.specs.Items.{strip_len, strip_cells}
+use Rattle.clip_track.proofs.Common.{◌+◌, List, ◌++◌, ap, ◌∙◌, on_ok_weaker, Cell, strip_len, strip_cells}
 use Rattle.clip_track.proofs.Strips.{AreItems-append, AreItems-part, strip_len-append, strip_len-part_most}
 use Rattle.clip_track.proofs.Strips.{strip_cells-append, strip_cells-part, ItemsFit-append, ItemsFit-part}
 use Rattle.clip_track.proofs.items.append_part.Goals as goal

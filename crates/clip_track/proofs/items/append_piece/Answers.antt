@@ -1,8 +1,7 @@
 -- The goals of `append_piece` that the search leaves open.
-use Rattle.std.proofs.Common.{List, ◌++◌, map, ap, ◌∙◌, arith}
-use Rattle.std.proofs.{lemmas.Result.on_ok_weaker, lemmas.List.append-nil}
-use Rattle.pcm_base.specs.{declared.sound.Cell.Cell, declared.sound.Cell.TheVariants.Sample, Pieces.samples_of}
-use Rattle.clip_track.specs.Items.{strip_len, strip_cells}
+use Rattle.clip_track.proofs.Common.{List, ◌++◌, map, ap, ◌∙◌, arith, on_ok_weaker, append-nil, Cell, samples_of}
+use Rattle.clip_track.proofs.Common.{strip_len, strip_cells}
+use Rattle.pcm_base.specs.{declared.sound.Cell.TheVariants.Sample}
 use Rattle.clip_track.proofs.Strips.{AreItems-append, strip_len-append, strip_cells-append, ItemsFit-append}
 use Rattle.clip_track.proofs.items.append_piece.Goals as goal
 

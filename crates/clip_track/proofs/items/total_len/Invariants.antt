@@ -1,6 +1,5 @@
 -- What the loop of `total_len` keeps.
-use Rattle.std.proofs.Common.{◌≡◌, ◌+◌, drop}
-use Rattle.clip_track.specs.Items.{strip_len}
+use Rattle.clip_track.proofs.Common.{◌≡◌, ◌+◌, drop, strip_len}
 use Rattle.clip_track.proofs.items.total_len.Given as goal
 
 abbrev pub invariant-loop-item : goal.invariant-loop-item

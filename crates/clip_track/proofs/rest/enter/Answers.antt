@@ -1,5 +1,5 @@
 -- The clip is the first, and lies within the track.
-use Rattle.std.proofs.Common.{arith}
+use Rattle.clip_track.proofs.Common.{arith}
 use Rattle.clip_track.proofs.{Layouts.AreClips-next, Layouts.end_within, RestItems.within_none}
 use Rattle.clip_track.proofs.rest.enter.Goals as goal
 

@@ -1,7 +1,6 @@
 -- One clip more is passed.
-use Rattle.std.proofs.Common.{◌≡◌, ◌-◌, ◌≤◌, ◌∷◌, List, length, take, drop, sym, ap, subst, ◌∙◌, arith}
-use Rattle.clip_track.specs.Clips.{AreClips, end_of, clip_end, items_from}
-use Rattle.clip_track.specs.{declared.clips.Clip.Clip, Items.items_after}
+use Rattle.clip_track.proofs.Common.{◌≡◌, ◌-◌, ◌≤◌, ◌∷◌, List, length, take, drop, sym, ap, subst, ◌∙◌, arith, AreClips}
+use Rattle.clip_track.proofs.Common.{end_of, clip_end, items_from, Clip, items_after}
 use Rattle.clip_track.proofs.{Layouts.AreClips-next, Layouts.end_within, RestItems.first_of, RestItems.past_clip}
 use Rattle.clip_track.proofs.rest.left_from.Goals as goal
 

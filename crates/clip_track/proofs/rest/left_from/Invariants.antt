@@ -1,6 +1,6 @@
 -- What the loop of `left_from` keeps.
-use Rattle.std.proofs.Common.{◌≡◌, ◌-◌, ◌≤◌, ◌^◌, length}
-use Rattle.clip_track.specs.{Items.items_after, Clips.AreClips, Clips.end_of, Clips.items_from}
+use Rattle.clip_track.proofs.Common.{◌≡◌, ◌-◌, ◌≤◌, length, items_after, AreClips, end_of, items_from}
+use Rattle.std.proofs.Common.{◌^◌}
 use Rattle.clip_track.proofs.rest.left_from.Given as goal
 
 abbrev pub invariant-rows : goal.invariant-rows

@@ -1,7 +1,6 @@
 -- What the loop of `pass_blocks` keeps.
-use Rattle.std.proofs.Common.{◌≡◌, ◌<◌, ◌++◌, length}
-use Rattle.pcm_base.specs.Blocks.{NoneEmpty, blocks_len}
-use Rattle.clip_track.specs.{Items.items_after, Clips.items_from, Clips.sound_items, Rests.left_items}
+use Rattle.clip_track.proofs.Common.{◌≡◌, ◌<◌, ◌++◌, length, NoneEmpty, blocks_len, items_after, items_from}
+use Rattle.clip_track.proofs.Common.{sound_items, left_items}
 use Rattle.clip_track.proofs.rest.pass_blocks.Given as goal
 
 abbrev pub invariant-rows : goal.invariant-rows

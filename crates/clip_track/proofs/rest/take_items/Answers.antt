@@ -1,5 +1,4 @@
-use Rattle.std.proofs.{Common.◌≡◌, Common.◌++◌, Common.sym, Common.ap, Common.◌∙◌, Common.arith, lemmas.List.append-nil}
-use Rattle.clip_track.specs.Items.{part_items}
+use Rattle.clip_track.proofs.Common.{◌≡◌, ◌++◌, sym, ap, ◌∙◌, arith, append-nil, part_items}
 use Rattle.clip_track.proofs.Strips.{part_none}
 use Rattle.clip_track.proofs.rest.take_items.Goals as goal
 

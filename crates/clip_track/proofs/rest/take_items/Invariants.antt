@@ -1,6 +1,5 @@
 -- What the loop of `take_items` keeps.
-use Rattle.std.proofs.Common.{◌≡◌, ◌++◌}
-use Rattle.clip_track.specs.Items.{part_items}
+use Rattle.clip_track.proofs.Common.{◌≡◌, ◌++◌, part_items}
 use Rattle.clip_track.proofs.rest.take_items.Given as goal
 
 abbrev pub invariant-rows : goal.invariant-rows

@@ -1,6 +1,5 @@
 -- In the gaps before the clip, or in one of its blocks.
-use Rattle.std.proofs.Common.{◌-◌, ap, ◌∙◌, arith}
-use Rattle.pcm_base.specs.Blocks.{blocks_len}
+use Rattle.clip_track.proofs.Common.{◌-◌, ap, ◌∙◌, arith, blocks_len}
 use Rattle.clip_track.proofs.RestItems.{in_gap, in_sound}
 use Rattle.clip_track.proofs.rest.within.Goals as goal
 

@@ -1,9 +1,8 @@
 -- The goals of `close` that the search leaves open.
-use Rattle.std.proofs.Common.{◌≡◌, ℕ, ◌-◌, ℤ, List, [], ◌++◌, map, replicate, refl, sym, ap, ◌∙◌, arith}
-use Rattle.std.proofs.lemmas.List.{nil_from_length, append-nil}
-use Rattle.pcm_base.specs.{declared.sound.Cell.Cell, Pieces.all_samples}
+use Rattle.clip_track.proofs.Common.{◌≡◌, ℕ, ◌-◌, ℤ, List, [], ◌++◌, map, replicate, refl, sym, ap, ◌∙◌, arith}
+use Rattle.clip_track.proofs.Common.{append-nil, Cell, all_samples, StripClip, clips_end, clips_cells}
+use Rattle.std.proofs.lemmas.List.{nil_from_length}
 use Rattle.pcm_base.proofs.Pieces.{length-all_samples}
-use Rattle.clip_track.specs.{declared.strip_clips.StripClip.StripClip, StripClips.clips_end, StripClips.clips_cells}
 use Rattle.clip_track.proofs.StripClips.{clips_end-push, next_start-push, AreStripClips-push, end_before_next}
 use Rattle.clip_track.proofs.StripClips.{closed_cells}
 use Rattle.pcm_base.specs.declared.sound.Cell.TheVariants as cell

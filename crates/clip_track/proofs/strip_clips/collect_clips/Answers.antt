@@ -1,11 +1,8 @@
 -- The goals of `collect_clips` that the search leaves open.
-use Rattle.std.proofs.Common.{◌≡◌, ◌+◌, ◌-◌, ◌<◌, ◌++◌, List, [], ◌∷◌, drop, map, replicate, refl, sym, ap, subst, ◌∙◌}
-use Rattle.std.proofs.Common.{arith}
-use Rattle.std.proofs.lemmas.List.{drop_more}
-use Rattle.pcm_base.specs.Pieces.{all_samples}
+use Rattle.clip_track.proofs.Common.{◌≡◌, ◌+◌, ◌-◌, ◌<◌, ◌++◌, List, [], ◌∷◌, drop, map, replicate, refl, sym, ap}
+use Rattle.clip_track.proofs.Common.{subst, ◌∙◌, arith, drop_more, all_samples, Item, Gap, Sound, AreItems, strip_len}
+use Rattle.clip_track.proofs.Common.{strip_cells}
 use Rattle.pcm_base.proofs.Pieces.{total-append, AllValid-append}
-use Rattle.clip_track.specs.{declared.items.Item.Item, declared.items.Item.TheVariants.Gap}
-use Rattle.clip_track.specs.{declared.items.Item.TheVariants.Sound, Items.AreItems, Items.strip_len, Items.strip_cells}
 use Rattle.clip_track.proofs.StripClips.{gap_cells, sound_cells}
 use Rattle.clip_track.proofs.strip_clips.collect_clips.Goals.{in-Gap+in_ok-close-in-Gap, in-Sound+in_ok-push-in-Sound}
 use Rattle.pcm_base.specs.declared.sound.Cell.TheVariants as cell

@@ -1,7 +1,6 @@
 -- What the loop of `collect_clips` keeps.
-use Rattle.std.proofs.Common.{◌≡◌, ◌+◌, ◌-◌, ◌≤◌, ◌++◌, drop, map, replicate}
-use Rattle.pcm_base.specs.Pieces.{Sources, total, all_samples, AllValid}
-use Rattle.clip_track.specs.Items.{AreItems, strip_len, strip_cells}
+use Rattle.clip_track.proofs.Common.{◌≡◌, ◌+◌, ◌-◌, ◌≤◌, ◌++◌, drop, map, replicate, Sources, total, all_samples}
+use Rattle.clip_track.proofs.Common.{AllValid, AreItems, strip_len, strip_cells}
 use Rattle.pcm_base.specs.declared.sound.Cell.TheVariants as cell
 use Rattle.clip_track.specs.StripClips as clips
 use Rattle.clip_track.proofs.strip_clips.collect_clips.Given as goal

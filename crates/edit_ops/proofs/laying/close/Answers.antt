@@ -1,10 +1,8 @@
 -- The goals of `close` that the search leaves open.
-use Rattle.std.proofs.Common.{◌≡◌, ℕ, ◌-◌, ℤ, List, [], ◌++◌, length, map, replicate, sym, ap, ◌∙◌, arith}
-use Rattle.std.proofs.lemmas.List.{nil_from_length, append-nil}
-use Rattle.pcm_base.specs.{declared.sound.Cell.Cell, Pieces.all_samples}
-use Rattle.pcm_base.proofs.Pieces.{length-all_samples}
-use Rattle.block_sequence.specs.{Laid.sizes, Fuse.added}
-use Rattle.edit_ops.specs.{declared.types.LaidClip.LaidClip, LaidClips.laid_end, LaidClips.laid_cells}
+use Rattle.edit_ops.proofs.Common.{◌≡◌, ℕ, ◌-◌, ℤ, List, [], ◌++◌, length, map, replicate, sym, ap, ◌∙◌, arith}
+use Rattle.edit_ops.proofs.Common.{append-nil, Cell, all_samples, length-all_samples, sizes, added, LaidClip, laid_end}
+use Rattle.edit_ops.proofs.Common.{laid_cells}
+use Rattle.std.proofs.lemmas.List.{nil_from_length}
 use Rattle.edit_ops.proofs.LaidLists.{made_clips-push, length-all_laid, silent, laid_end-push, laid_next-push}
 use Rattle.edit_ops.proofs.LaidLists.{AreLaidClips-push, end_before_next, closed_cells, ClipsFrom-push}
 use Rattle.pcm_base.specs.declared.sound.Cell.TheVariants as cell

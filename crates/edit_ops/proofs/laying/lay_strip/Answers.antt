@@ -1,18 +1,14 @@
 -- The goals of `lay_strip` that the search leaves open.
-use Rattle.std.proofs.Common.{◌≡◌, ◌+◌, ◌-◌, ◌<◌, ◌++◌, List, [], ◌∷◌, drop, map, replicate, refl, sym, ap, subst, ◌∙◌}
-use Rattle.std.proofs.Common.{arith}
-use Rattle.std.proofs.lemmas.List.{drop_more, drop_all, append-nil}
-use Rattle.pcm_base.specs.{Pieces.all_samples, declared.piece.Piece.Piece}
-use Rattle.clip_track.specs.Items.{ItemsFit, AreItems, strip_len, strip_cells}
-use Rattle.clip_track.specs.{declared.items.Item.Item, declared.items.Item.TheVariants.Gap}
-use Rattle.clip_track.specs.{declared.items.Item.TheVariants.Sound, Room.room_from, Rough.rough_from, Rough.ItemsShort}
+use Rattle.edit_ops.proofs.Common.{◌≡◌, ◌+◌, ◌-◌, ◌<◌, ◌++◌, List, [], ◌∷◌, drop, map, replicate, refl, sym, ap, subst}
+use Rattle.edit_ops.proofs.Common.{◌∙◌, arith, drop_more, drop_all, append-nil, all_samples, Piece, ItemsFit, AreItems}
+use Rattle.edit_ops.proofs.Common.{strip_len, strip_cells, Item, Gap, Sound, room_from, rough_from, ItemsShort}
+use Rattle.edit_ops.proofs.Common.{AllShort, AllFrom, ItemsFrom}
 use Rattle.pcm_base.proofs.Pieces.{total-append, AllValid-append, AllFit-append}
-use Rattle.block_sequence.specs.{Fuse.AllShort, Fuse.rough, Room.clip_room, Origins.AllFrom}
+use Rattle.block_sequence.specs.{Fuse.rough, Room.clip_room}
 use Rattle.edit_ops.proofs.LaidLists.{AllShort-append, ended_cells}
 use Rattle.edit_ops.proofs.laying.lay_strip.Goals.{in-Gap+in_ok-close-in-Gap, in-Sound+in_ok-push-in-Sound}
 use Rattle.clip_track.proofs.StripClips.{sound_cells, gap_cells}
 use Rattle.block_sequence.proofs.Origins.{AllFrom-append}
-use Rattle.edit_ops.specs.Strips.{ItemsFrom}
 use Rattle.pcm_base.specs.declared.sound.Cell.TheVariants as cell
 use Rattle.edit_ops.specs.LaidClips as clips
 use Rattle.edit_ops.proofs.laying.lay_strip.Goals as goal

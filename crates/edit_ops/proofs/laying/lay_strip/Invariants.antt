@@ -1,11 +1,8 @@
 -- What the loop of `lay_strip` keeps.
-use Rattle.std.proofs.Common.{◌≡◌, ℕ, List, ◌+◌, ◌-◌, ◌≤◌, ◌*◌, [], ◌++◌, drop, map, replicate}
-use Rattle.pcm_base.specs.Pieces.{Sources, total, all_samples, AllValid, AllFit}
-use Rattle.pcm_base.specs.declared.block.BlockRef.{BlockRef}
-use Rattle.clip_track.specs.Items.{ItemsFit, AreItems, strip_len, strip_cells}
-use Rattle.clip_track.specs.{Room.room_from, Rough.rough_from, Rough.ItemsShort}
-use Rattle.block_sequence.specs.{Fuse.AllShort, Origins.AllFrom}
-use Rattle.edit_ops.specs.Strips.{ItemsFrom}
+use Rattle.edit_ops.proofs.Common.{◌≡◌, ℕ, List, ◌+◌, ◌-◌, ◌≤◌, ◌*◌, [], ◌++◌, drop, map, replicate, Sources}
+use Rattle.edit_ops.proofs.Common.{all_samples, BlockRef, ItemsFit, AreItems, strip_len, strip_cells, room_from}
+use Rattle.edit_ops.proofs.Common.{rough_from, ItemsShort, AllShort, AllFrom, ItemsFrom}
+use Rattle.pcm_base.specs.Pieces.{total, AllValid, AllFit}
 use Rattle.pcm_base.specs.declared.sound.Cell.TheVariants as cell
 use Rattle.edit_ops.specs.LaidClips as clips
 use Rattle.edit_ops.proofs.laying.lay_strip.Given as goal

@@ -1,7 +1,6 @@
 -- The goals of `plan_placed` that the search leaves open.
-use Rattle.std.proofs.Common.{◌++◌, List, sym, ap, subst, ◌∙◌, arith}
-use Rattle.pcm_base.specs.{Cells.trimmed, Edits.placed}
-use Rattle.clip_track.specs.{declared.items.Item.Item, Items.strip_cells, Items.strip_blocks, Clips.layout_blocks}
+use Rattle.edit_ops.proofs.Common.{◌++◌, List, sym, ap, subst, ◌∙◌, arith, trimmed, placed, Item, strip_cells}
+use Rattle.edit_ops.proofs.Common.{strip_blocks, layout_blocks}
 use Rattle.edit_ops.proofs.{Pastes.tame_placed, Pastes.cells_placed, Tame.Tame, Tame.tame_layout}
 use Rattle.edit_ops.proofs.placing.plan_placed.Goals as goal
 

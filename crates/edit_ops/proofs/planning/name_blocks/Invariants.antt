@@ -1,7 +1,5 @@
 -- What the loop of `name_blocks` keeps.
-use Rattle.std.proofs.Common.{◌≡◌, ◌+◌, ◌<◌, ◌^◌, ◌++◌, length}
-use Rattle.std.specs.Vec.Iter.{into_iter_items}
-use Rattle.edit_ops.specs.LaidClips.{named, new_blocks, next_after}
+use Rattle.edit_ops.proofs.Common.{◌≡◌, ◌+◌, ◌<◌, ◌^◌, ◌++◌, length, into_iter_items, named, new_blocks, next_after}
 use Rattle.edit_ops.proofs.planning.name_blocks.Given as goal
 
 abbrev pub invariant-loop-part : goal.invariant-loop-part

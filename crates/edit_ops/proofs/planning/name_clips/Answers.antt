@@ -1,8 +1,7 @@
 -- The goals of `name_clips` that the search leaves open.
-use Rattle.std.proofs.Common.{◌≡◌, ◌++◌, List, [], ◌∷◌, refl, sym, ap, subst, ◌∙◌, append_assoc, arith}
-use Rattle.std.proofs.{lemmas.Grind.common_steps, lemmas.List.append-nil}
-use Rattle.std.specs.Vec.Iter.{into_iter_items}
-use Rattle.edit_ops.specs.{declared.types.LaidClip.LaidClip, LaidClips.named}
+use Rattle.edit_ops.proofs.Common.{◌≡◌, ◌++◌, List, [], ◌∷◌, refl, sym, ap, subst, ◌∙◌, append_assoc, arith, append-nil}
+use Rattle.edit_ops.proofs.Common.{into_iter_items, LaidClip, named}
+use Rattle.std.proofs.{lemmas.Grind.common_steps}
 use Rattle.edit_ops.proofs.Named.{AllLaid, AllLaid-from, count_laid_le, half_full_named, none_empty, len_named}
 use Rattle.edit_ops.proofs.Named.{next_after_le, IsLayout-named}
 use Rattle.edit_ops.specs.LaidClips as laid

@@ -1,6 +1,5 @@
 -- What the loop of `name_clips` keeps.
-use Rattle.std.proofs.Common.{◌≡◌, ◌+◌, ◌<◌, ◌^◌, ◌++◌}
-use Rattle.std.specs.Vec.Iter.{into_iter_items}
+use Rattle.edit_ops.proofs.Common.{◌≡◌, ◌+◌, ◌<◌, ◌^◌, ◌++◌, into_iter_items}
 use Rattle.edit_ops.proofs.Named.{AllLaid}
 use Rattle.edit_ops.specs.LaidClips as laid
 use Rattle.edit_ops.proofs.planning.name_clips.Given as goal

@@ -1,11 +1,9 @@
 -- The goals of `plan_strip` that the search leaves open.
-use Rattle.std.proofs.Common.{◌≡◌, ◌+◌, List, [], length, sym, ap, subst, ◌∙◌, arith}
-use Rattle.pcm_base.specs.Cells.{trimmed}
-use Rattle.clip_track.specs.Rough.{rough_from, ItemsShort}
-use Rattle.clip_track.specs.{declared.items.Item.Item, Items.strip_cells, Clips.layout_cells, Room.room_from}
+use Rattle.edit_ops.proofs.Common.{◌≡◌, ◌+◌, List, [], length, sym, ap, subst, ◌∙◌, arith, trimmed, rough_from}
+use Rattle.edit_ops.proofs.Common.{ItemsShort, Item, strip_cells, room_from, clips_new_blocks, made_clips, NewBlock}
+use Rattle.edit_ops.proofs.Common.{AreWritten, ItemsFrom}
+use Rattle.clip_track.specs.{Clips.layout_cells}
 use Rattle.clip_track.proofs.{RoomClips.room_from_le, RoughStrips.rough_from_le}
-use Rattle.edit_ops.specs.LaidClips.{clips_new_blocks, made_clips}
-use Rattle.edit_ops.specs.{declared.types.NewBlock.NewBlock, Plans.AreWritten, Strips.ItemsFrom}
 use Rattle.edit_ops.proofs.Named.{AllHalfFull-named, cells_named, clips_next_counts, count_clips_new, AreNew-clips}
 use Rattle.edit_ops.proofs.Named.{AllNewFrom-clips, old_or_new_clips}
 use Rattle.edit_ops.proofs.planning.plan_strip.Goals as goal

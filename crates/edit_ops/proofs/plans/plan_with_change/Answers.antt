@@ -1,9 +1,7 @@
 -- The goals of `plan_with_change` that the search leaves open.
-use Rattle.std.proofs.Common.{◌+◌, ◌*◌, ◌/◌, ◌≤◌, true, ◌++◌, List, length, take, drop, map, sym, ap, subst, ◌∙◌, arith}
-use Rattle.pcm_base.specs.{declared.sound.Cell.Cell, Cells.trimmed, Edits.part, Sizes.sample_count, Sizes.clip_count}
-use Rattle.clip_track.specs.{declared.items.Item.Item, Items.strip_cells, Room.strip_room, Clips.layout_blocks}
-use Rattle.block_sequence.specs.Room.{First}
-use Rattle.edit_ops.specs.{Changes.cell_change, Strips.AllOld, Strips.ItemsFrom, Strips.with_change}
+use Rattle.edit_ops.proofs.Common.{◌+◌, ◌*◌, ◌/◌, ◌≤◌, true, ◌++◌, List, length, take, drop, map, sym, ap, subst, ◌∙◌}
+use Rattle.edit_ops.proofs.Common.{arith, Cell, trimmed, part, sample_count, clip_count, Item, strip_cells, strip_room}
+use Rattle.edit_ops.proofs.Common.{layout_blocks, First, cell_change, AllOld, ItemsFrom, with_change}
 use Rattle.edit_ops.proofs.Tame.{fit_change, from_change, ItemsFrom-layout}
 use Rattle.edit_ops.proofs.{ChangedItems.AllOld-items, Roomy.Smooth, Roomy.few_changed, StripCells.cells_with_change}
 use Rattle.edit_ops.proofs.plans.plan_with_change.Goals as goal

@@ -1,10 +1,7 @@
 -- The goals of `plan_with_given` that the search leaves open.
-use Rattle.std.proofs.Common.{◌*◌, ◌≤◌, true, ◌++◌, List, length, take, drop, sym, ap, ap₂, subst, ◌∙◌, arith}
-use Rattle.pcm_base.specs.{declared.sound.Cell.Cell, Cells.trimmed, Cells.continued}
-use Rattle.clip_track.specs.Items.{strip_cells, strip_len, ItemsFit}
-use Rattle.clip_track.specs.{declared.items.Item.Item, Room.strip_room, Clips.layout_blocks}
-use Rattle.block_sequence.specs.Room.{First}
-use Rattle.edit_ops.specs.Strips.{ItemsFrom, given_items, with_inserted}
+use Rattle.edit_ops.proofs.Common.{◌*◌, ◌≤◌, true, ◌++◌, List, length, take, drop, sym, ap, ap₂, subst, ◌∙◌, arith}
+use Rattle.edit_ops.proofs.Common.{Cell, trimmed, continued, strip_cells, strip_len, ItemsFit, Item, strip_room}
+use Rattle.edit_ops.proofs.Common.{layout_blocks, First, ItemsFrom, given_items, with_inserted}
 use Rattle.edit_ops.proofs.Tame.{fit_inserted, from_inserted, given_fit, given_from, given_len, ItemsFrom-layout}
 use Rattle.edit_ops.proofs.{Roomy.Smooth, Roomy.few_inserted, StripCells.cells_with_inserted, StripCells.cells_given}
 use Rattle.edit_ops.proofs.plans.plan_with_given.Goals as goal

@@ -1,7 +1,7 @@
 -- The tests of the tracks that are after the references.
-use Rattle.std.proofs.Common.{◌≡◌, ℕ, take, length, None, ap, subst, ◌∙◌}
-use Rattle.pcm_base.specs.Refusals.{too_narrow, bad_range}
-use Rattle.edit_ops.specs.{Plans.Passes, Runs.layouts, Runs.longest_of}
+use Rattle.edit_ops.proofs.Common.{◌≡◌, ℕ, take, length, None, ap, subst, ◌∙◌, too_narrow, layouts, longest_of}
+use Rattle.pcm_base.specs.Refusals.{bad_range}
+use Rattle.edit_ops.specs.{Plans.Passes}
 use Rattle.edit_ops.proofs.RunLists.{layouts_take, length-layouts}
 use Rattle.edit_ops.proofs.run_refusals.copy_tests.Goals as goal
 

@@ -1,6 +1,5 @@
 -- What the loop of `lengths` keeps.
-use Rattle.std.proofs.Common.{◌≡◌, drop}
-use Rattle.pcm_base.specs.Refusals.{length_limit, placed_length}
+use Rattle.edit_ops.proofs.Common.{◌≡◌, drop, length_limit, placed_length}
 use Rattle.edit_ops.specs.Runs as runs
 use Rattle.edit_ops.proofs.run_refusals.lengths.Given as goal
 

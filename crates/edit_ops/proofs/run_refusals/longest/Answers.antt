@@ -1,6 +1,5 @@
 -- The goals of `longest` that the search leaves open.
-use Rattle.std.proofs.Common.{ap, arith}
-use Rattle.edit_ops.specs.Runs.{longest_of}
+use Rattle.edit_ops.proofs.Common.{ap, arith, longest_of}
 use Rattle.edit_ops.proofs.RunLists.{layouts_left}
 use Rattle.edit_ops.proofs.run_refusals.longest.Goals as goal
 

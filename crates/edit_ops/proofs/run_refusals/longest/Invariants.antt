@@ -1,5 +1,6 @@
 -- What the loop of `longest` keeps.
-use Rattle.std.proofs.Common.{◌≡◌, max, drop}
+use Rattle.edit_ops.proofs.Common.{◌≡◌, drop}
+use Rattle.std.proofs.Common.{max}
 use Rattle.edit_ops.specs.Runs as runs
 use Rattle.edit_ops.proofs.run_refusals.longest.Given as goal
 

@@ -1,7 +1,5 @@
 -- The layouts after the first references.
-use Rattle.std.proofs.Common.{List, subst}
-use Rattle.clip_track.specs.declared.clips.Clip.{Clip}
-use Rattle.edit_ops.specs.Runs.{AreCopies}
+use Rattle.edit_ops.proofs.Common.{List, subst, Clip, AreCopies}
 use Rattle.edit_ops.proofs.RunLists.{layouts_take}
 use Rattle.edit_ops.proofs.runs.copy.Goals as goal
 

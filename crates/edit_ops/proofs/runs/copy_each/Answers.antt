@@ -1,7 +1,5 @@
 -- The goals of `copy_each` that the search leaves open.
-use Rattle.std.proofs.Common.{List, [], ◌∷◌, ◌++◌, take, sym, subst}
-use Rattle.clip_track.specs.declared.clips.Clip.{Clip}
-use Rattle.edit_ops.specs.Runs.{AreCopies, layouts}
+use Rattle.edit_ops.proofs.Common.{List, [], ◌∷◌, ◌++◌, take, sym, subst, Clip, AreCopies, layouts}
 use Rattle.edit_ops.proofs.RunLists.{AreCopies-push, layouts_more}
 use Rattle.edit_ops.proofs.runs.copy_each.Goals as goal
 

@@ -1,5 +1,5 @@
 -- What the loop of `copy_each` keeps.
-use Rattle.std.proofs.Common.{take}
+use Rattle.edit_ops.proofs.Common.{take}
 use Rattle.edit_ops.specs.Runs as runs
 use Rattle.edit_ops.proofs.runs.copy_each.Given as goal
 

@@ -1,8 +1,6 @@
 -- The goals of `copy_one` that the search leaves open.
-use Rattle.std.proofs.Common.{List, sym, ap, subst, ◌∙◌}
-use Rattle.pcm_base.specs.Edits.{range_of}
-use Rattle.clip_track.specs.{declared.items.Item.Item, Items.strip_cells, Clips.layout_blocks}
-use Rattle.edit_ops.specs.Strips.{AllOld, ItemsFrom, IsClip}
+use Rattle.edit_ops.proofs.Common.{List, sym, ap, subst, ◌∙◌, range_of, Item, strip_cells, layout_blocks, AllOld}
+use Rattle.edit_ops.proofs.Common.{ItemsFrom, IsClip}
 use Rattle.edit_ops.proofs.Copies.{cells_range, clip_range, from_range}
 use Rattle.edit_ops.proofs.{ChangedItems.AllOld-items, Tame.ItemsFrom-layout}
 use Rattle.edit_ops.proofs.runs.copy_one.Goals as goal

@@ -1,8 +1,6 @@
 -- The goals of `cut_each` that the search leaves open.
-use Rattle.std.proofs.Common.{ℕ, List, [], ◌∷◌, ◌++◌, take, sym, subst, arith}
-use Rattle.clip_track.specs.{declared.clips.Clip.Clip, Clips.AllHalfFull}
-use Rattle.edit_ops.specs.{Plans.run_start_of, Runs.AreCuts, Runs.IsCut, Runs.layouts}
-use Rattle.pcm_base.specs.Edits.{removed}
+use Rattle.edit_ops.proofs.Common.{ℕ, List, [], ◌∷◌, ◌++◌, take, sym, subst, arith, Clip, AllHalfFull, run_start_of}
+use Rattle.edit_ops.proofs.Common.{AreCuts, IsCut, layouts, removed}
 use Rattle.edit_ops.proofs.RunLists.{half_full_at, AreCuts-push, next_of-push, layouts_at, layouts_more, length-layouts}
 use Rattle.edit_ops.proofs.runs.cut_each.Goals as goal
 

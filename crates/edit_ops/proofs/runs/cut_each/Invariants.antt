@@ -1,7 +1,5 @@
 -- What the loop of `cut_each` keeps.
-use Rattle.std.proofs.Common.{◌≡◌, ◌+◌, ◌*◌, ◌≤◌, take}
-use Rattle.edit_ops.specs.Plans.{run_start_of}
-use Rattle.pcm_base.specs.Edits.{removed}
+use Rattle.edit_ops.proofs.Common.{◌≡◌, ◌+◌, ◌*◌, ◌≤◌, take, run_start_of, removed}
 use Rattle.edit_ops.specs.Runs as runs
 use Rattle.edit_ops.proofs.runs.cut_each.Given as goal
 

@@ -1,8 +1,6 @@
 -- The layouts after the first references.
-use Rattle.std.proofs.Common.{List, sym, subst}
-use Rattle.clip_track.specs.declared.clips.Clip.{Clip}
-use Rattle.edit_ops.specs.{Plans.run_start_of, Runs.AllTracksHalfFull, Runs.AreCopies, Runs.AreCuts, Runs.layouts}
-use Rattle.pcm_base.specs.Edits.{removed}
+use Rattle.edit_ops.proofs.Common.{List, sym, subst, Clip, run_start_of, AllTracksHalfFull, AreCopies, AreCuts, layouts}
+use Rattle.edit_ops.proofs.Common.{removed}
 use Rattle.edit_ops.proofs.RunLists.{half_full_take, layouts_take}
 use Rattle.edit_ops.proofs.runs.cut_range.Goals as goal
 

@@ -1,10 +1,7 @@
 -- The goals of `paste_each` that the search leaves open.
-use Rattle.std.proofs.Common.{◌≡◌, ℕ, ◌+◌, ◌<◌, List, [], ◌∷◌, ◌++◌, length, take, sym, ap, ap₂, subst, ◌∙◌, arith}
-use Rattle.std.proofs.lemmas.List.{take_more}
-use Rattle.pcm_base.specs.{Edits.placed, Refusals.placed_length}
-use Rattle.clip_track.specs.Clips.{AllHalfFull, end_of}
-use Rattle.clip_track.specs.{declared.items.Item.Item, declared.clips.Clip.Clip, Items.strip_len}
-use Rattle.edit_ops.specs.{Plans.run_start_of, Strips.IsClip, Runs.IsPaste, Runs.layouts}
+use Rattle.edit_ops.proofs.Common.{◌≡◌, ℕ, ◌+◌, ◌<◌, List, [], ◌∷◌, ◌++◌, length, take, sym, ap, ap₂, subst, ◌∙◌, arith}
+use Rattle.edit_ops.proofs.Common.{take_more, placed, placed_length, AllHalfFull, end_of, Item, Clip, strip_len}
+use Rattle.edit_ops.proofs.Common.{run_start_of, IsClip, IsPaste, layouts}
 use Rattle.edit_ops.proofs.RunLists.{half_full_at, clip_at, length_at, ArePastes-push, next_of-push, layouts_at}
 use Rattle.edit_ops.proofs.RunLists.{layouts_more, length-layouts}
 use Rattle.edit_ops.proofs.runs.paste_each.Goals as goal

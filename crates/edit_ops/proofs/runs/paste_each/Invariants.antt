@@ -1,7 +1,5 @@
 -- What the loop of `paste_each` keeps.
-use Rattle.std.proofs.Common.{◌≡◌, ◌+◌, ◌*◌, ◌≤◌, take}
-use Rattle.pcm_base.specs.Edits.{placed}
-use Rattle.edit_ops.specs.Plans.{run_start_of}
+use Rattle.edit_ops.proofs.Common.{◌≡◌, ◌+◌, ◌*◌, ◌≤◌, take, placed, run_start_of}
 use Rattle.edit_ops.specs.Runs as runs
 use Rattle.edit_ops.proofs.runs.paste_each.Given as goal
 

@@ -1,7 +1,5 @@
 -- The goals of `place` that the search leaves open.
-use Rattle.std.proofs.Common.{length, arith}
-use Rattle.pcm_base.specs.Refusals.{length_limit, placed_length}
-use Rattle.edit_ops.specs.Runs.{layouts, lengths_of}
+use Rattle.edit_ops.proofs.Common.{length, arith, length_limit, placed_length, layouts, lengths_of}
 use Rattle.edit_ops.proofs.RunLists.{length-layouts, wide_enough, lengths_pass, lengths_fit}
 use Rattle.edit_ops.proofs.runs.place.Goals as goal
 

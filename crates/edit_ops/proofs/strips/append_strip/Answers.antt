@@ -1,6 +1,6 @@
 -- The goals of `append_strip` that the search leaves open.
-use Rattle.std.proofs.{Common.◌++◌, Common.List, Common.ap, Common.◌∙◌, Common.arith, lemmas.Result.on_ok_weaker}
-use Rattle.clip_track.specs.{declared.items.Item.Item, Items.part_items}
+use Rattle.edit_ops.proofs.Common.{◌++◌, List, ap, ◌∙◌, arith, Item, part_items}
+use Rattle.std.proofs.{lemmas.Result.on_ok_weaker}
 use Rattle.clip_track.proofs.RoughStrips.{part_all}
 use Rattle.edit_ops.proofs.strips.append_strip.Goals as goal
 

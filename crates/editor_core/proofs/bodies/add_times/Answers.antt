@@ -1,7 +1,6 @@
 -- One record more.
-use Rattle.std.proofs.Common.{◌≡◌, ◌∙◌, ℕ, List, [], ◌∷◌, ◌++◌, replicate, subst, sym, ap, append_assoc, arith}
-use Rattle.std.proofs.lemmas.List.{append-nil}
-use Rattle.project_journal.specs.Journal.{AreWaiting}
+use Rattle.editor_core.proofs.Common.{◌≡◌, ◌∙◌, ℕ, List, [], ◌∷◌, ◌++◌, replicate, subst, sym, ap, append_assoc, arith}
+use Rattle.editor_core.proofs.Common.{append-nil, AreWaiting}
 use Rattle.project_journal.proofs.Together.{waiting_more}
 use Rattle.editor_commits.proofs.RecordRows.{times_more}
 use Rattle.editor_core.proofs.bodies.add_times.Goals as goal

@@ -1,6 +1,5 @@
 -- The records so far.
-use Rattle.std.proofs.Common.{ℕ, List, ◌++◌, replicate}
-use Rattle.project_journal.specs.Journal.{AreWaiting}
+use Rattle.editor_core.proofs.Common.{ℕ, List, ◌++◌, replicate, AreWaiting}
 use Rattle.editor_core.proofs.bodies.add_times.Given as goal
 
 abbrev pub invariant-rows : goal.invariant-rows

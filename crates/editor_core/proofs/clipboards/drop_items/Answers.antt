@@ -1,10 +1,6 @@
 -- The items so far.
-use Rattle.std.proofs.{Common.sym, Common.subst, Common.◌+◌, Common.take, lemmas.Option.slice_get-get_or}
-use Rattle.block_ledger.specs.Entries.{count_of}
-use Rattle.clip_track.specs.{declared.items.Item.Item, declared.items.Item.TheVariants.Gap, Items.item_blocks}
-use Rattle.editor_state.specs.Occurrences.{HasAll, Dropped}
-use Rattle.editor_tracks.proofs.CopyStrips.{strip_flat}
-use Rattle.layout_uses.proofs.Turns.{all_here, dropped_on}
+use Rattle.editor_core.proofs.Common.{sym, subst, ◌+◌, take, slice_get-get_or, count_of, Item, Gap, item_blocks, HasAll}
+use Rattle.editor_core.proofs.Common.{Dropped, strip_flat, all_here, dropped_on}
 use Rattle.editor_core.proofs.clipboards.drop_items.Goals as goal
 
 pub drop_item-requires : goal.drop_item-requires

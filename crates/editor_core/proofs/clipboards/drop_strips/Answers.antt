@@ -1,9 +1,6 @@
 -- The strips so far.
-use Rattle.std.proofs.{Common.refl, Common.sym, Common.subst, Common.List, lemmas.Option.slice_get_read}
-use Rattle.block_ledger.specs.Entries.{count_of}
-use Rattle.clip_track.specs.{declared.items.Item.Item, Items.strip_blocks}
-use Rattle.editor_state.specs.Occurrences.{HasAll, Dropped}
-use Rattle.layout_uses.proofs.Turns.{all_here, dropped_on}
+use Rattle.editor_core.proofs.Common.{refl, sym, subst, List, slice_get_read, count_of, Item, strip_blocks, HasAll}
+use Rattle.editor_core.proofs.Common.{Dropped, all_here, dropped_on}
 use Rattle.editor_core.proofs.clipboards.drop_strips.Goals as goal
 
 pub drop_items-requires : goal.drop_items-requires

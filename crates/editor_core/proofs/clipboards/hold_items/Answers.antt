@@ -1,10 +1,7 @@
 -- The items so far.
-use Rattle.std.proofs.{Common.sym, Common.subst, Common.◌+◌, Common.take, lemmas.Option.slice_get-get_or}
-use Rattle.block_ledger.specs.Entries.{count_of}
-use Rattle.clip_track.specs.{declared.items.Item.Item, declared.items.Item.TheVariants.Gap, Items.item_blocks}
-use Rattle.editor_state.specs.Occurrences.{HasIds, Held}
-use Rattle.editor_tracks.proofs.CopyStrips.{strip_flat}
-use Rattle.layout_uses.proofs.{Times.Few, Turns.there_here, Turns.few_here, Turns.held_on}
+use Rattle.editor_core.proofs.Common.{sym, subst, ◌+◌, take, slice_get-get_or, count_of, Item, Gap, item_blocks, HasIds}
+use Rattle.editor_core.proofs.Common.{Held, strip_flat, Few, there_here, held_on}
+use Rattle.layout_uses.proofs.{Turns.few_here}
 use Rattle.editor_core.proofs.clipboards.hold_items.Goals as goal
 
 pub hold_item-requires : goal.hold_item-requires

@@ -1,8 +1,5 @@
 -- The items so far.
-use Rattle.std.proofs.Common.{take}
-use Rattle.block_ledger.specs.Entries.{count_of}
-use Rattle.clip_track.specs.Items.{strip_blocks}
-use Rattle.editor_state.specs.Occurrences.{Held}
+use Rattle.editor_core.proofs.Common.{take, count_of, strip_blocks, Held}
 use Rattle.editor_core.proofs.clipboards.hold_items.Given as goal
 
 abbrev pub invariant-loop-item : goal.invariant-loop-item

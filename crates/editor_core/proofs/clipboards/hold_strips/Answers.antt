@@ -1,13 +1,9 @@
 -- The strips so far, and how many blocks they may name.
-use Rattle.std.proofs.Common.{refl, sym, ap, subst, List, take, length, length-append, arith}
-use Rattle.std.proofs.lemmas.Option.{slice_get_read}
-use Rattle.block_ledger.specs.Entries.{count_of}
-use Rattle.clip_track.specs.{declared.items.Item.Item, Items.strip_blocks}
-use Rattle.editor_tracks.specs.Copies.{strips_blocks}
-use Rattle.editor_state.specs.Occurrences.{HasIds, Held}
+use Rattle.editor_core.proofs.Common.{refl, sym, ap, subst, List, take, length, length-append, arith, slice_get_read}
+use Rattle.editor_core.proofs.Common.{count_of, Item, strip_blocks, strips_blocks, HasIds, Held, Few, there_here}
+use Rattle.editor_core.proofs.Common.{held_on, next}
 use Rattle.editor_state.proofs.Blocks.BlockNumbers.{named_most}
 use Rattle.editor_tracks.proofs.CopyStrips.{items_few}
-use Rattle.layout_uses.proofs.{Times.Few, Turns.there_here, Turns.held_on, Turns.next}
 use Rattle.editor_core.proofs.clipboards.hold_strips.Goals as goal
 
 pub hold_items-requires-clause-there : goal.hold_items-requires-clause-there

@@ -1,8 +1,5 @@
 -- The strips so far, and how many blocks they may name.
-use Rattle.std.proofs.Common.{◌*◌, ◌^◌, ◌≤◌, length, take}
-use Rattle.block_ledger.specs.Entries.{count_of}
-use Rattle.editor_tracks.specs.Copies.{strips_blocks}
-use Rattle.editor_state.specs.Occurrences.{Held}
+use Rattle.editor_core.proofs.Common.{◌*◌, ◌^◌, ◌≤◌, length, take, count_of, strips_blocks, Held}
 use Rattle.editor_core.proofs.clipboards.hold_strips.Given as goal
 
 abbrev pub invariant-loop-strip : goal.invariant-loop-strip

@@ -1,9 +1,7 @@
 -- One layout more, or none.
-use Rattle.std.proofs.Common.{sym, ap, ◌∙◌, List, [], ◌∷◌, ◌++◌, take}
-use Rattle.std.proofs.{lemmas.Grind.flat_map-append, lemmas.List.append-nil}
-use Rattle.clip_track.specs.declared.clips.Clip.{Clip}
-use Rattle.project_state.proofs.Points.{take_some}
-use Rattle.editor_tracks.specs.Copies.{layouts_at, run_of}
+use Rattle.editor_core.proofs.Common.{sym, ap, ◌∙◌, List, [], ◌∷◌, ◌++◌, take, append-nil, Clip, take_some, run_of}
+use Rattle.std.proofs.{lemmas.Grind.flat_map-append}
+use Rattle.editor_tracks.specs.Copies.{layouts_at}
 use Rattle.editor_core.proofs.copies.run_from.Goals as goal
 
 pub loop-i-preserved : goal.loop-i-preserved

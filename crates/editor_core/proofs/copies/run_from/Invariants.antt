@@ -1,7 +1,5 @@
 -- The layouts so far.
-use Rattle.std.proofs.Common.{◌≡◌, take}
-use Rattle.edit_ops.specs.Runs.{layouts}
-use Rattle.editor_tracks.specs.Copies.{run_of}
+use Rattle.editor_core.proofs.Common.{◌≡◌, take, layouts, run_of}
 use Rattle.editor_core.proofs.copies.run_from.Given as goal
 
 abbrev pub invariant-loop-i : goal.invariant-loop-i

@@ -1,5 +1,5 @@
 -- One number for each turn.
-use Rattle.std.proofs.Common.{◌≡◌, replicate}
+use Rattle.editor_core.proofs.Common.{◌≡◌, replicate}
 use Rattle.editor_core.proofs.counts.counts_of.Given as goal
 
 abbrev pub invariant-loop : goal.invariant-loop

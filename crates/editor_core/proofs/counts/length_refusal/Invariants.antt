@@ -1,6 +1,5 @@
 -- None of the numbers so far refuses.
-use Rattle.std.proofs.Common.{◌≡◌, drop}
-use Rattle.pcm_base.specs.Refusals.{length_limit}
+use Rattle.editor_core.proofs.Common.{◌≡◌, drop, length_limit}
 use Rattle.editor_core.proofs.counts.length_refusal.Given as goal
 
 abbrev pub invariant-loop-count : goal.invariant-loop-count

@@ -1,6 +1,5 @@
 -- The point at the cursor is the first after those before it.
-use Rattle.std.proofs.Common.{sym, ap, ◌∙◌, slice_get}
-use Rattle.pcm_base.specs.History.{points_of}
+use Rattle.editor_core.proofs.Common.{sym, ap, ◌∙◌, slice_get, points_of}
 use Rattle.record_body.proofs.SavedBounds.{at_cursor}
 use Rattle.editor_core.proofs.current.current_of.Goals as goal
 

@@ -1,10 +1,6 @@
 -- One strip more.
-use Rattle.std.proofs.Common.{refl, sym, subst, [], ◌∷◌, take}
-use Rattle.std.proofs.lemmas.Option.{slice_get_read}
-use Rattle.std.specs.List.{AllByRecursion}
-use Rattle.clip_track.specs.Items.{AreItems}
-use Rattle.record_body.proofs.SavedBounds.{all_append}
-use Rattle.project_state.proofs.Points.{take_some}
+use Rattle.editor_core.proofs.Common.{refl, sym, subst, [], ◌∷◌, take, slice_get_read, AllByRecursion, AreItems}
+use Rattle.editor_core.proofs.Common.{all_append, take_some}
 use Rattle.editor_core.proofs.cuts.see_items.Goals as goal
 
 pub loop-strip-preserved : goal.loop-strip-preserved

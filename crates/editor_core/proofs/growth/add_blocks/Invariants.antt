@@ -1,5 +1,5 @@
 -- The blocks so far.
-use Rattle.std.proofs.Common.{◌≡◌, ◌++◌}
+use Rattle.editor_core.proofs.Common.{◌≡◌, ◌++◌}
 use Rattle.editor_core.proofs.growth.add_blocks.Given as goal
 
 abbrev pub invariant-loop-block : goal.invariant-loop-block

@@ -1,6 +1,5 @@
 -- The blocks so far.
-use Rattle.std.proofs.Common.{◌≡◌, map, take}
-use Rattle.editor_imports.specs.Imports.{block_behind}
+use Rattle.editor_core.proofs.Common.{◌≡◌, map, take, block_behind}
 use Rattle.editor_core.proofs.growth.moved_blocks.Given as goal
 
 abbrev pub invariant-loop-block : goal.invariant-loop-block

@@ -1,5 +1,5 @@
 -- The pieces so far.
-use Rattle.std.proofs.Common.{◌≡◌, map, take}
+use Rattle.editor_core.proofs.Common.{◌≡◌, map, take}
 use Rattle.editor_imports.specs.Imports.{piece_behind}
 use Rattle.editor_core.proofs.growth.moved_pieces.Given as goal
 

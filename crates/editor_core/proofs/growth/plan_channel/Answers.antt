@@ -1,9 +1,9 @@
 -- The plan of one channel.
-use Rattle.std.proofs.Common.{◌∙◌, sym, ap, subst, List, map}
-use Rattle.pcm_base.specs.{Edits.as_cells, Edits.inserted, Pieces.stretch}
-use Rattle.clip_track.specs.{declared.clips.Clip.Clip, Clips.IsLayout, Clips.layout_blocks}
-use Rattle.edit_ops.specs.{declared.types.NewBlock.NewBlock, Plans.IsPlan, Plans.Means, Plans.start_of}
-use Rattle.editor_imports.specs.Imports.{AllFitBehind, block_behind}
+use Rattle.editor_core.proofs.Common.{◌∙◌, sym, ap, subst, List, map, as_cells, inserted, stretch, Clip, layout_blocks}
+use Rattle.editor_core.proofs.Common.{NewBlock, IsPlan, Means, block_behind}
+use Rattle.clip_track.specs.{Clips.IsLayout}
+use Rattle.edit_ops.specs.{Plans.start_of}
+use Rattle.editor_imports.specs.Imports.{AllFitBehind}
 use Rattle.editor_imports.proofs.ChannelPlans.{channel_plan, fit_blocks}
 use Rattle.editor_core.proofs.growth.plan_channel.Goals as goal
 

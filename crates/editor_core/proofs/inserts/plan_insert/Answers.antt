@@ -1,9 +1,9 @@
 -- Samples at a place of a track, or at its end.
-use Rattle.std.proofs.Common.{sym, subst, ℕ, [], ◌∷◌, IfOk, arith}
-use Rattle.pcm_base.specs.{Edits.as_cells, Edits.inserted, Pieces.stretch, Refusals.inserted_length}
-use Rattle.pcm_base.specs.{Refusals.length_limit}
+use Rattle.editor_core.proofs.Common.{sym, subst, ℕ, [], ◌∷◌, IfOk, arith, as_cells, inserted, stretch, length_limit}
+use Rattle.editor_core.proofs.Common.{Plan, Means}
+use Rattle.pcm_base.specs.{Refusals.inserted_length}
 use Rattle.clip_track.specs.Clips.{end_of}
-use Rattle.edit_ops.specs.{declared.types.Plan.Plan, Plans.AnswersTest, Plans.Means}
+use Rattle.edit_ops.specs.{Plans.AnswersTest}
 use Rattle.editor_tracks.specs.Inserts.{IsPlace}
 use Rattle.editor_tracks.proofs.InsertLaws.{MeansPlace, TestsPlace, end_cells, end_test}
 use Rattle.editor_core.proofs.inserts.plan_insert.Goals as goal

@@ -1,8 +1,6 @@
 -- The track that stands for one has its id.
-use Rattle.std.proofs.Common.{◌≡◌, ◌∙◌, sym, ap, subst, ℕ, get_or, Option}
-use Rattle.std.proofs.lemmas.Option.{slice_get-get_or}
-use Rattle.project_state.specs.{declared.track.Track.Track, Tracks.AllBelow}
-use Rattle.editor_tracks.specs.RunEdits.{laid_or}
+use Rattle.editor_core.proofs.Common.{◌≡◌, ◌∙◌, sym, ap, subst, ℕ, Option, slice_get-get_or, Track, AllBelow, laid_or}
+use Rattle.std.proofs.Common.{get_or}
 use Rattle.editor_core.proofs.laying.add_laid.Goals as goal
 
 pub add-requires : goal.add-requires

@@ -1,10 +1,8 @@
 -- Where no plan is left a track stays.
-use Rattle.std.proofs.Common.{◌≡◌, ◌∙◌, refl, sym, ap, subst, ◌+◌, List, [], ◌∷◌, ◌++◌, length, Option, arith}
+use Rattle.editor_core.proofs.Common.{◌≡◌, ◌∙◌, refl, sym, ap, subst, ◌+◌, List, [], ◌∷◌, ◌++◌, length, Option, arith}
+use Rattle.editor_core.proofs.Common.{into_iter_items, NewBlock, Plan, Track, AreLayouts, laid_from, made_by}
 use Rattle.std.proofs.lemmas.List.{nil_from_length}
-use Rattle.std.specs.{Vec.Iter.into_iter_items, Vec.Iter.into_iter_steps, Option.option_to_list}
-use Rattle.edit_ops.specs.{declared.types.NewBlock.NewBlock, declared.types.Plan.Plan}
-use Rattle.project_state.specs.declared.track.Track.{Track}
-use Rattle.editor_tracks.specs.RunEdits.{AreLayouts, laid_from, made_by}
+use Rattle.std.specs.{Vec.Iter.into_iter_steps, Option.option_to_list}
 use Rattle.editor_tracks.proofs.RunLayouts.{laid_stays}
 use Rattle.editor_core.proofs.laying.next_track.Goals as goal
 

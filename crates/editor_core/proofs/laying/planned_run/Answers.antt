@@ -1,13 +1,12 @@
 -- One track more.
-use Rattle.std.proofs.Common.{◌≡◌, refl, sym, ap, ◌∙◌, subst, ℕ, ◌+◌, ◌-◌, ◌≤◌, ◌<◌, List, [], ◌∷◌, ◌++◌, length, map}
-use Rattle.std.proofs.Common.{take, drop, append_assoc, arith, rules}
-use Rattle.std.proofs.{lemmas.List.length-map, lemmas.List.length-take, lemmas.List.map-append, lemmas.Option.same_Some}
-use Rattle.std.specs.Vec.Iter.{into_iter_items}
-use Rattle.project_state.specs.{declared.track.Track.Track, Tracks.AllBelow}
-use Rattle.project_state.proofs.Points.{drop_some, take_some, below_taken}
-use Rattle.layout_uses.specs.Drawing.{HasNumbers}
+use Rattle.editor_core.proofs.Common.{◌≡◌, refl, sym, ap, ◌∙◌, subst, ℕ, ◌+◌, ◌-◌, ◌≤◌, ◌<◌, List, [], ◌∷◌, ◌++◌}
+use Rattle.editor_core.proofs.Common.{length, map, take, drop, append_assoc, arith, rules, length-map, length-take}
+use Rattle.editor_core.proofs.Common.{into_iter_items, Track, AllBelow, drop_some, take_some, HasNumbers, run_of}
+use Rattle.editor_core.proofs.Common.{laid_from, laid_or}
+use Rattle.std.proofs.{lemmas.List.map-append, lemmas.Option.same_Some}
+use Rattle.project_state.proofs.Points.{below_taken}
 use Rattle.layout_uses.proofs.Draws.{numbers_none}
-use Rattle.editor_tracks.specs.{Copies.run_of, RunEdits.laid_from, RunEdits.laid_or, RunEdits.next_number}
+use Rattle.editor_tracks.specs.{RunEdits.next_number}
 use Rattle.editor_tracks.proofs.RunLayouts.{next_most, numbers_laid, place_among}
 use Rattle.editor_core.proofs.laying.planned_run.Goals as goal
 

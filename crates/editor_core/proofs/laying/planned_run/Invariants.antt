@@ -1,9 +1,7 @@
 -- What is left to do gives the rest: of the tracks, of the new blocks, of the layouts and of their numbers.
-use Rattle.std.proofs.Common.{◌≡◌, ◌+◌, ◌≤◌, ◌++◌, length, map, take, drop}
-use Rattle.std.specs.Vec.Iter.{into_iter_items, into_iter_len}
-use Rattle.project_state.specs.declared.track.Track.{Track}
-use Rattle.layout_uses.specs.Drawing.{HasNumbers}
-use Rattle.editor_tracks.specs.{Copies.run_of, RunEdits.AreLayouts, RunEdits.laid_from, RunEdits.made_by}
+use Rattle.editor_core.proofs.Common.{◌≡◌, ◌+◌, ◌≤◌, ◌++◌, length, map, take, drop, into_iter_items, Track, HasNumbers}
+use Rattle.editor_core.proofs.Common.{run_of, AreLayouts, laid_from, made_by}
+use Rattle.std.specs.Vec.Iter.{into_iter_len}
 use Rattle.editor_core.proofs.laying.planned_run.Given as goal
 
 abbrev pub invariant-loop-i : goal.invariant-loop-i

@@ -1,8 +1,7 @@
 -- One track more.
-use Rattle.std.proofs.Common.{sym, ap, ◌∙◌, List, [], ◌∷◌, ◌++◌, map, take}
-use Rattle.pcm_base.specs.{declared.sound.TrackLine.TrackLine, Step.line_of_track}
-use Rattle.project_state.specs.{declared.track.Track.Track, Meaning.meant}
-use Rattle.project_state.proofs.Points.{take_some}
+use Rattle.editor_core.proofs.Common.{sym, ap, ◌∙◌, List, [], ◌∷◌, ◌++◌, map, take, line_of_track, Track, meant}
+use Rattle.editor_core.proofs.Common.{take_some}
+use Rattle.pcm_base.specs.{declared.sound.TrackLine.TrackLine}
 use Rattle.editor_views.proofs.TrackListing.{lines_more}
 use Rattle.editor_core.proofs.listing.lines_of.Goals as goal
 

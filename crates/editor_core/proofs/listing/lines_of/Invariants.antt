@@ -1,7 +1,6 @@
 -- The tracks so far.
-use Rattle.std.proofs.Common.{◌≡◌, map, take}
-use Rattle.pcm_base.specs.{Pieces.Sources, Step.line_of_track}
-use Rattle.project_state.specs.Meaning.{meant}
+use Rattle.editor_core.proofs.Common.{◌≡◌, map, take, line_of_track, meant}
+use Rattle.pcm_base.specs.{Pieces.Sources}
 use Rattle.editor_core.proofs.listing.lines_of.Given as goal
 
 abbrev pub invariant-loop-i : goal.invariant-loop-i

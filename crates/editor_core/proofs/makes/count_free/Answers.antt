@@ -1,5 +1,5 @@
 -- An id that is not there is held and dropped.
-use Rattle.block_ledger.specs.Entries.{count_of}
+use Rattle.editor_core.proofs.Common.{count_of}
 use Rattle.editor_blocks.proofs.BlockCounts.{free_one}
 use Rattle.editor_core.proofs.makes.count_free.Goals as goal
 

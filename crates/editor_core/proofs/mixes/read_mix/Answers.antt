@@ -1,6 +1,5 @@
 -- As many as there are.
-use Rattle.std.proofs.Common.{ℕ, ◌+◌, length, take, arith}
-use Rattle.std.proofs.lemmas.List.{length-take}
+use Rattle.editor_core.proofs.Common.{ℕ, ◌+◌, length, take, arith, length-take}
 use Rattle.mix_reader.proofs.PageLaws.{heard_part}
 use Rattle.editor_core.proofs.mixes.read_mix.Goals as goal
 

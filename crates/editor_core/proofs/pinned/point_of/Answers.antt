@@ -1,8 +1,5 @@
 -- The pin, where it stands.
-use Rattle.std.proofs.Common.{◌∙◌, refl, ◌+◌, ◌∷◌, ◌++◌, take, drop}
-use Rattle.std.proofs.lemmas.Option.{slice_get_read}
-use Rattle.editor_state.specs.declared.pin.Pin.{Pin}
-use Rattle.editor_views.proofs.PinNumbers.{around}
+use Rattle.editor_core.proofs.Common.{◌∙◌, refl, ◌+◌, ◌∷◌, ◌++◌, take, drop, slice_get_read, Pin, around}
 use Rattle.editor_core.proofs.pinned.point_of.Goals as goal
 
 pub returns-then-pin-number : goal.returns-then-pin-number

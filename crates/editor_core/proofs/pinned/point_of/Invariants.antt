@@ -1,6 +1,5 @@
 -- None of the pins so far has the number.
-use Rattle.std.proofs.Common.{take}
-use Rattle.editor_views.specs.Pins.{LacksPin}
+use Rattle.editor_core.proofs.Common.{take, LacksPin}
 use Rattle.editor_core.proofs.pinned.point_of.Given as goal
 
 abbrev pub invariant-loop-pin : goal.invariant-loop-pin

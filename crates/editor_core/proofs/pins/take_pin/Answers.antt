@@ -1,10 +1,9 @@
 -- The pin, or none.
-use Rattle.std.proofs.Common.{◌+◌, ◌<◌, length, sym, ap, ◌∙◌, subst, take, drop, Vec, Global, Some, arith}
-use Rattle.std.proofs.{lemmas.List.get_or_default, lemmas.List.take_all, lemmas.Option.slice_get-get_or}
-use Rattle.project_state.proofs.Points.{take_some}
-use Rattle.editor_state.specs.declared.pin.Pin.{Pin}
-use Rattle.editor_views.specs.Pins.{LacksPin}
-use Rattle.editor_views.proofs.PinNumbers.{around, lacks_more}
+use Rattle.editor_core.proofs.Common.{◌+◌, ◌<◌, length, sym, ap, ◌∙◌, subst, take, drop, Some, arith, take_all}
+use Rattle.editor_core.proofs.Common.{slice_get-get_or, take_some, Pin, LacksPin, around}
+use Rattle.std.proofs.Common.{Vec, Global}
+use Rattle.std.proofs.{lemmas.List.get_or_default}
+use Rattle.editor_views.proofs.PinNumbers.{lacks_more}
 use Rattle.editor_core.proofs.pins.take_pin.Goals as goal
 
 pub returns-then-index-number : goal.returns-then-index-number

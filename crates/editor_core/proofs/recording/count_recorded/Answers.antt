@@ -1,5 +1,5 @@
 -- The clause of the count after an edit holds for each tag.
-use Rattle.std.proofs.Common.{◌∙◌, sym}
+use Rattle.editor_core.proofs.Common.{◌∙◌, sym}
 use Rattle.editor_core.proofs.PointCounts.{becomes_behind}
 use Rattle.editor_core.proofs.recording.count_recorded.Goals as goal
 

@@ -1,6 +1,5 @@
 -- The blocks of the clips so far, and of those that are left.
-use Rattle.std.proofs.Common.{◌≡◌, ◌++◌, drop}
-use Rattle.clip_track.specs.Clips.{layout_blocks}
+use Rattle.editor_core.proofs.Common.{◌≡◌, ◌++◌, drop, layout_blocks}
 use Rattle.editor_core.proofs.scans.add_clips.Given as goal
 
 abbrev pub invariant-loop-i : goal.invariant-loop-i

@@ -1,9 +1,6 @@
 -- The blocks of one track more.
-use Rattle.std.proofs.Common.{◌++◌, List, take, sym, ap, ◌∙◌, append_assoc}
-use Rattle.pcm_base.specs.declared.block.BlockRef.{BlockRef}
-use Rattle.clip_track.specs.Clips.{layout_blocks}
-use Rattle.project_state.specs.{Meaning.point_blocks, declared.track.Track.Track}
-use Rattle.layout_uses.proofs.Turns.{next}
+use Rattle.editor_core.proofs.Common.{◌++◌, List, take, sym, ap, ◌∙◌, append_assoc, BlockRef, layout_blocks}
+use Rattle.editor_core.proofs.Common.{point_blocks, Track, next}
 use Rattle.editor_core.proofs.scans.add_point.Goals as goal
 
 pub loop-i-preserved : goal.loop-i-preserved

@@ -1,6 +1,5 @@
 -- The blocks of the tracks so far.
-use Rattle.std.proofs.Common.{◌≡◌, ◌++◌, take}
-use Rattle.project_state.specs.Meaning.{point_blocks}
+use Rattle.editor_core.proofs.Common.{◌≡◌, ◌++◌, take, point_blocks}
 use Rattle.editor_core.proofs.scans.add_point.Given as goal
 
 abbrev pub invariant-loop-i : goal.invariant-loop-i

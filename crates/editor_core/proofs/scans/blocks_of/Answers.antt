@@ -1,10 +1,9 @@
 -- The blocks of one point more, and of all.
-use Rattle.std.proofs.Common.{◌++◌, List, flat_map, sym, ap, ◌∙◌, arith}
-use Rattle.std.proofs.lemmas.List.{take_all, length-map}
-use Rattle.pcm_base.specs.{declared.block.BlockRef.BlockRef, History.point_of, History.points_of}
-use Rattle.project_state.specs.Meaning.{point_blocks}
+use Rattle.editor_core.proofs.Common.{◌++◌, List, sym, ap, ◌∙◌, arith, take_all, length-map, BlockRef, points_of}
+use Rattle.editor_core.proofs.Common.{point_blocks, next}
+use Rattle.std.proofs.Common.{flat_map}
+use Rattle.pcm_base.specs.{History.point_of}
 use Rattle.editor_views.proofs.BlockScans.{points_blocks}
-use Rattle.layout_uses.proofs.Turns.{next}
 use Rattle.editor_core.proofs.scans.blocks_of.Goals as goal
 
 pub loop-i-preserved : goal.loop-i-preserved

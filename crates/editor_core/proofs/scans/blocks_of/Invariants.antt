@@ -1,7 +1,6 @@
 -- The blocks of the points so far.
-use Rattle.std.proofs.Common.{◌≡◌, take, flat_map}
-use Rattle.pcm_base.specs.History.{points_of}
-use Rattle.project_state.specs.Meaning.{point_blocks}
+use Rattle.editor_core.proofs.Common.{◌≡◌, take, points_of, point_blocks}
+use Rattle.std.proofs.Common.{flat_map}
 use Rattle.editor_core.proofs.scans.blocks_of.Given as goal
 
 abbrev pub invariant-loop-i : goal.invariant-loop-i

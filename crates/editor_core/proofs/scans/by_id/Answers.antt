@@ -1,7 +1,6 @@
 -- Sorted, and then each once.
-use Rattle.std.proofs.Common.{rules, sym, subst}
+use Rattle.editor_core.proofs.Common.{rules, sym, subst, BlockRef}
 use Rattle.std.proofs.{lemmas.List.Filters.dedup_is, lemmas.List.Sorted.IsNonDecreasingBy-from_sort_by_key}
-use Rattle.pcm_base.specs.declared.block.BlockRef.{BlockRef}
 use Rattle.editor_views.specs.Scans.{AreListed}
 use Rattle.editor_views.proofs.SortedBlocks.{are_listed}
 use Rattle.editor_core.proofs.scans.by_id.Goals as goal

@@ -1,10 +1,7 @@
 -- One point more is counted.
-use Rattle.std.proofs.Common.{ℕ, List, map, arith}
-use Rattle.std.specs.Prelude.{slice_index}
-use Rattle.pcm_base.specs.History.{tag_of}
-use Rattle.project_state.specs.declared.track.Track.{Track}
-use Rattle.project_state.proofs.Points.{drop_some, take_some}
-use Rattle.editor_cleanup.proofs.HeaderPoints.{short_next, size_left, tagged}
+use Rattle.editor_core.proofs.Common.{ℕ, List, map, arith, slice_index, tag_of, Track, drop_some, take_some, size_left}
+use Rattle.editor_core.proofs.Common.{tagged}
+use Rattle.editor_cleanup.proofs.HeaderPoints.{short_next}
 use Rattle.editor_core.proofs.texts.points_len.Goals as goal
 
 pub loop-i-preserved : goal.loop-i-preserved

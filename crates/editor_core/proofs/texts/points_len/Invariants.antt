@@ -1,7 +1,6 @@
 -- The bytes of the points so far, and of those that are left.
-use Rattle.std.proofs.Common.{◌≡◌, ◌+◌, ◌*◌, ◌^◌, ◌≤◌, take, drop, map}
-use Rattle.project_journal.specs.{Journal.points_size, Packing.AreShort}
-use Rattle.record_body.specs.Saved.{point_bytes}
+use Rattle.editor_core.proofs.Common.{◌≡◌, ◌+◌, ◌*◌, ◌^◌, ◌≤◌, take, drop, map, points_size, point_bytes}
+use Rattle.project_journal.specs.{Packing.AreShort}
 use Rattle.editor_state.specs.Packing.{points_in}
 use Rattle.editor_core.proofs.texts.points_len.Given as goal
 

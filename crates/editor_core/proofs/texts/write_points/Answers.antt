@@ -1,14 +1,11 @@
 -- One point more is written.
-use Rattle.std.proofs.Common.{◌≡◌, ◌∙◌, ℕ, List, [], sym, ap, length, map, drop, arith}
-use Rattle.std.proofs.lemmas.List.{drop_all, take_all}
-use Rattle.std.specs.{Prelude.slice_index, List.flat_map}
-use Rattle.pcm_base.specs.History.{tag_of}
-use Rattle.project_journal.specs.{Journal.points_size, Packing.sized}
-use Rattle.project_state.specs.declared.track.Track.{Track}
-use Rattle.record_body.specs.Saved.{point_bytes}
-use Rattle.project_state.proofs.Points.{drop_some, take_some}
+use Rattle.editor_core.proofs.Common.{◌≡◌, ◌∙◌, ℕ, List, [], sym, ap, length, map, drop, arith, take_all, slice_index}
+use Rattle.editor_core.proofs.Common.{flat_map, tag_of, points_size, Track, point_bytes, drop_some, take_some, row}
+use Rattle.editor_core.proofs.Common.{size_left, tagged}
+use Rattle.std.proofs.lemmas.List.{drop_all}
+use Rattle.project_journal.specs.{Packing.sized}
 use Rattle.record_body.proofs.Parts.{part_written}
-use Rattle.editor_cleanup.proofs.HeaderPoints.{row, rows, short_at, size_left, tagged}
+use Rattle.editor_cleanup.proofs.HeaderPoints.{rows, short_at}
 use Rattle.editor_core.proofs.texts.write_points.Goals as goal
 
 pub slice_bounds-write_sized-end : goal.slice_bounds-write_sized-end

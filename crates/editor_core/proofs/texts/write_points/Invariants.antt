@@ -1,9 +1,5 @@
 -- The points so far are written, and there is room for those that are left.
-use Rattle.std.proofs.Common.{◌≡◌, ◌+◌, length, take, drop, map}
-use Rattle.std.specs.List.{flat_map}
-use Rattle.project_journal.specs.Journal.{points_size}
-use Rattle.record_body.specs.Saved.{point_bytes}
-use Rattle.editor_cleanup.proofs.HeaderPoints.{row}
+use Rattle.editor_core.proofs.Common.{◌≡◌, ◌+◌, length, take, drop, map, flat_map, points_size, point_bytes, row}
 use Rattle.editor_core.proofs.texts.write_points.Given as goal
 
 abbrev pub invariant-loop-i : goal.invariant-loop-i

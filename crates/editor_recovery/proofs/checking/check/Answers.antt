@@ -1,12 +1,7 @@
 -- The list of the blocks, and then each of them.
-use Rattle.std.proofs.Common.{◌∙◌, List, Ok, Err, sym, ap, subst}
-use Rattle.std.specs.{Prelude.Contains, List.All}
+use Rattle.editor_recovery.proofs.Common.{◌∙◌, List, Ok, Err, sym, ap, subst, Contains, All, BlockRef, history_blocks}
+use Rattle.editor_recovery.proofs.Common.{core_of, AreListed, ChecksStudio}
 use Rattle.pcm_base.proofs.Exits.{after_err}
-use Rattle.pcm_base.specs.declared.block.BlockRef.{BlockRef}
-use Rattle.project_state.specs.Meaning.{history_blocks}
-use Rattle.editor_core.specs.Core.{core_of}
-use Rattle.editor_views.specs.Scans.{AreListed}
-use Rattle.editor_recovery.specs.Checking.{ChecksStudio}
 use Rattle.editor_recovery.proofs.Checked.{all_named, checks_none, checks_studio}
 use Rattle.editor_recovery.proofs.checking.check.Goals as goal
 

@@ -1,7 +1,6 @@
 -- One block after another.
-use Rattle.std.proofs.{Common.List, Common.take, Common.subst, Common.arith, lemmas.List.take_all}
-use Rattle.pcm_base.specs.declared.block.BlockRef.{BlockRef}
-use Rattle.editor_core.specs.Core.{core_of}
+use Rattle.editor_recovery.proofs.Common.{List, take, subst, arith, BlockRef, core_of}
+use Rattle.std.proofs.{lemmas.List.take_all}
 use Rattle.editor_recovery.proofs.Checked.{SoFar, far_all, far_ends, far_more, far_named, far_none, far_studio}
 use Rattle.editor_recovery.proofs.checking.scan_all.Goals as goal
 

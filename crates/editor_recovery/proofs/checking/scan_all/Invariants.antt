@@ -1,6 +1,5 @@
 -- The blocks so far are whole, and nothing changed.
-use Rattle.std.proofs.Common.{take}
-use Rattle.editor_core.specs.Core.{core_of}
+use Rattle.editor_recovery.proofs.Common.{take, core_of}
 use Rattle.editor_recovery.proofs.Checked.{SoFar}
 use Rattle.editor_recovery.proofs.checking.scan_all.Given as goal
 

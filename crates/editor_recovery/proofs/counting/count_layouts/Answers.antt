@@ -1,6 +1,5 @@
 -- Each block of the history is noted, and is counted by its layouts.
-use Rattle.block_ledger.specs.Entries.{count_of}
-use Rattle.layout_uses.specs.Layouts.{history_tracks}
+use Rattle.editor_recovery.proofs.Common.{count_of, history_tracks}
 use Rattle.editor_recovery.proofs.Ledgers.{counted_then, points_few, points_there, tally_then}
 use Rattle.editor_recovery.proofs.counting.count_layouts.Goals as goal
 

@@ -1,5 +1,5 @@
 -- Nothing is named by files that are noted.
-use Rattle.block_ledger.specs.Entries.{count_of}
+use Rattle.editor_recovery.proofs.Common.{count_of}
 use Rattle.editor_recovery.proofs.Ledgers.{noted_tally}
 use Rattle.editor_recovery.proofs.counting.no_uses.Goals as goal
 

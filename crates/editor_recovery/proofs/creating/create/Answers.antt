@@ -1,46 +1,42 @@
 -- Calls that write nothing, and then the journal is made.
-use Rattle.std.proofs.Common.{ap, refl, ◌∙◌, arith}
-use Rattle.disk_model.specs.{Disk.Files, Room.files_made}
-use Rattle.disk_model.proofs.Frames.{changed_kept, changed_turn}
-use Rattle.editor_recovery.proofs.{Alone.none_after, Counted.causes_turn, Created.any_moment_both, Created.any_or_none}
+use Rattle.editor_recovery.proofs.Common.{ap, refl, ◌∙◌, arith, Files, changed_kept}
+use Rattle.disk_model.specs.{Room.files_made}
+use Rattle.disk_model.proofs.Frames.{changed_turn}
+use Rattle.editor_recovery.proofs.{Alone.none_after, Counted.causes_turn, Created.any_moment_both, Created.either_none}
 use Rattle.editor_recovery.proofs.{Created.still_honest, Created.made_honest, Created.made_done, Created.left_turn}
 use Rattle.editor_recovery.proofs.creating.create.Goals as goal
 
 pub returns-in-Ok-clause-any_moment : goal.returns-in-Ok-clause-any_moment
 returns-in-Ok-clause-any_moment g c = λ tells.
     let kept = c.may_create.ensures.kept in
-    let alone = none_after (g.S.Store.reads c.args.store.now) (g.S.Store.reads c.may_create.new.store) kept.same_reads
-    (c.in-Ok.ensures.answer tells).0 in
+    let told = kept.same_tells ∙ tells in
+    let alone = none_after kept.same_reads (c.in-Ok.ensures.answer tells).0 in
     any_moment_both g.S.Store c.args.rate c.args.block_size c.args.depth c.args.store.now c.may_create.new.store
-    c.make.new.store
-    kept.same_images c.make.ensures.changed.images (any_or_none g.S.Store c.args.rate c.args.block_size c.args.depth
-    c.may_create.new.store c.make.new.store (c.make.ensures.any_moment (kept.same_tells ∙ tells) alone)
-    (c.make.ensures.other_moment (kept.same_tells ∙ tells) alone))
+    c.make.new.store kept.same_images c.make.ensures.changed.images
+    (λ image since. either_none image (c.make.ensures.any_moment told alone image since)
+    (c.make.ensures.other_moment told alone image since))
 
 pub returns-in-Ok-clause-done : goal.returns-in-Ok-clause-done
 returns-in-Ok-clause-done g c = λ tells.
+    let kept = c.may_create.ensures.kept in
     made_done g.S.Store c.args.rate c.args.block_size c.args.depth c.make.new.store c.make.result
-    (c.make.ensures.done (c.may_create.ensures.kept.same_tells ∙ tells)
-    (none_after (g.S.Store.reads c.args.store.now) (g.S.Store.reads c.may_create.new.store)
-    c.may_create.ensures.kept.same_reads (c.in-Ok.ensures.answer tells).0))
+    (c.make.ensures.done (kept.same_tells ∙ tells) (none_after kept.same_reads (c.in-Ok.ensures.answer tells).0))
 
 pub returns-in-Ok-clause-journal : goal.returns-in-Ok-clause-journal
 returns-in-Ok-clause-journal g c = λ tells.
-    c.make.ensures.done (c.may_create.ensures.kept.same_tells ∙ tells)
-    (none_after (g.S.Store.reads c.args.store.now) (g.S.Store.reads c.may_create.new.store)
-    c.may_create.ensures.kept.same_reads (c.in-Ok.ensures.answer tells).0)
+    let kept = c.may_create.ensures.kept in
+    c.make.ensures.done (kept.same_tells ∙ tells) (none_after kept.same_reads (c.in-Ok.ensures.answer tells).0)
 
 pub returns-in-Ok-clause-honest : goal.returns-in-Ok-clause-honest
 returns-in-Ok-clause-honest g c = λ honest.
     let kept = c.may_create.ensures.kept in
-    let told = (g.met.S.Store.may_stay c.args.store.now honest.model).0 in
-    let alone = none_after (g.S.Store.reads c.args.store.now) (g.S.Store.reads c.may_create.new.store) kept.same_reads
-    (c.in-Ok.ensures.answer told).0 in
+    let tells = (g.met.S.Store.may_stay c.args.store.now honest.model).0 in
+    let told = kept.same_tells ∙ tells in
+    let alone = none_after kept.same_reads (c.in-Ok.ensures.answer tells).0 in
     made_honest g.S.Store c.may_create.new.store c.make.new.store c.args.rate c.args.block_size c.args.depth
     c.make.ensures.changed.images c.make.ensures.changed.model
-    (any_or_none g.S.Store c.args.rate c.args.block_size c.args.depth c.may_create.new.store c.make.new.store
-    (c.make.ensures.any_moment (kept.same_tells ∙ told) alone)
-    (c.make.ensures.other_moment (kept.same_tells ∙ told) alone))
+    (λ image since. either_none image (c.make.ensures.any_moment told alone image since)
+    (c.make.ensures.other_moment told alone image since))
     (still_honest g.S.Store c.args.store.now c.may_create.new.store kept.same_images kept.same_model honest)
 
 pub returns-in-Ok-clause-cause : goal.returns-in-Ok-clause-cause

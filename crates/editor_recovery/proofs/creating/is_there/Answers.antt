@@ -1,10 +1,6 @@
 -- A look at one file, and then at the other.
-use Rattle.std.proofs.Common.{◌∙◌, Bool, sym, subst}
-use Rattle.std.specs.Prelude.{◌↔◌, IsTrue}
-use Rattle.disk_model.specs.Disk.{Files, bytes_of}
-use Rattle.disk_model.proofs.Frames.{kept_turn}
-use Rattle.project_journal.specs.Header.{IsProject}
-use Rattle.editor_recovery.specs.Standing.{HasSome}
+use Rattle.editor_recovery.proofs.Common.{◌∙◌, Bool, sym, subst, ◌↔◌, IsTrue, Files, bytes_of, kept_turn, IsProject}
+use Rattle.editor_recovery.proofs.Common.{HasSome}
 use Rattle.editor_recovery.proofs.Alone.{either_there}
 use Rattle.editor_recovery.proofs.creating.is_there.Goals as goal
 

@@ -1,8 +1,5 @@
 -- A look, and then a listing.
-use Rattle.std.proofs.Common.{◌∙◌, subst}
-use Rattle.disk_model.specs.Disk.{Files}
-use Rattle.disk_model.proofs.Frames.{kept_turn}
-use Rattle.editor_recovery.specs.Creating.{HasNoForeign}
+use Rattle.editor_recovery.proofs.Common.{◌∙◌, subst, Files, kept_turn, HasNoForeign}
 use Rattle.editor_recovery.proofs.{Alone.none_false, Counted.causes_turn, Created.none_there}
 use Rattle.editor_recovery.proofs.creating.may_create.Goals as goal
 

@@ -1,9 +1,7 @@
 -- The fold of the journal, and then the sizes and the parts.
-use Rattle.std.proofs.Common.{◌∙◌, List, ℕ, sym, subst}
-use Rattle.disk_model.specs.Disk.{Files}
-use Rattle.disk_model.proofs.Frames.{kept_turn}
-use Rattle.project_journal.specs.Reader.{reader_form}
-use Rattle.editor_recovery.specs.{Found.answer_in, Listing.AreFiles, Opening.Opens, Reading.IsRead}
+use Rattle.editor_recovery.proofs.Common.{◌∙◌, List, ℕ, sym, subst, Files, kept_turn, reader_form, answer_in, AreFiles}
+use Rattle.editor_recovery.proofs.Common.{Opens}
+use Rattle.editor_recovery.specs.{Reading.IsRead}
 use Rattle.editor_recovery.proofs.{Counted.causes_turn, Opens.not_folded, Opens.stored_read, Resting.rest_after}
 use Rattle.editor_recovery.proofs.{Resting.still_durable}
 use Rattle.editor_recovery.proofs.finding.find_parts.Goals as goal

@@ -1,5 +1,5 @@
 -- The sizes, and then the parts.
-use Rattle.std.proofs.Common.{arith}
+use Rattle.editor_recovery.proofs.Common.{arith}
 use Rattle.record_body.proofs.SavedBounds.{valid_blocks}
 use Rattle.editor_recovery.proofs.{Counted.causes_none, Counted.memory_none, Opens.parts_result, Opens.unsized}
 use Rattle.editor_recovery.proofs.{Plain.numbered_kept, Plain.valid_back, Refusals.memory_opens}

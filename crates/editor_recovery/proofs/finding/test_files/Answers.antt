@@ -1,5 +1,5 @@
 -- By the sizes that were measured.
-use Rattle.editor_recovery.specs.Measured.{size_in}
+use Rattle.editor_recovery.proofs.Common.{size_in}
 use Rattle.editor_recovery.proofs.{Counted.causes_none, Measures.named_listed, Measures.one_length, Opens.measured}
 use Rattle.editor_recovery.proofs.{Points.all_blocks, Refusals.measured_opens, Refusals.refusal_opens}
 use Rattle.editor_recovery.proofs.finding.test_files.Goals as goal

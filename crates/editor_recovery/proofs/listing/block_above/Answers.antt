@@ -1,5 +1,5 @@
 -- The last file is the greatest, and none is foreign.
-use Rattle.std.proofs.Common.{◌-◌, length, get_or, arith}
+use Rattle.editor_recovery.proofs.Common.{◌-◌, length, get_or, arith}
 use Rattle.editor_recovery.proofs.Highest.{listed_small, last_in, last_above}
 use Rattle.editor_recovery.proofs.listing.block_above.Goals as goal
 

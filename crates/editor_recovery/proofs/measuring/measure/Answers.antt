@@ -1,10 +1,8 @@
 -- One file more is measured.
-use Rattle.std.proofs.Common.{◌≡◌, ℕ, get_or, inl, ap, ◌∙◌, arith, ◌==◌}
-use Rattle.std.specs.Prelude.{if◌then◌else◌}
+use Rattle.editor_recovery.proofs.Common.{◌≡◌, ℕ, get_or, inl, ap, ◌∙◌, arith, ◌==◌, if◌then◌else◌, Files, size_in}
+use Rattle.editor_recovery.proofs.Common.{file_size, kept_none, kept_turn}
 use Rattle.pcm_base.proofs.Exits.{exit_err}
-use Rattle.disk_model.specs.Disk.{Files}
-use Rattle.editor_recovery.specs.{declared.sizes.Sizes.Sizes, Measured.size_in, Sizes.file_size}
-use Rattle.disk_model.proofs.Frames.{kept_none, kept_turn}
+use Rattle.editor_recovery.specs.{declared.sizes.Sizes.Sizes}
 use Rattle.editor_recovery.proofs.Counted.{causes_handed, none_turn, no_fault}
 use Rattle.editor_recovery.proofs.Measures.{measured_right, measured_here, measured_still, listed_still, all_measured}
 use borrow.Author.Count.{below_more}

@@ -1,9 +1,6 @@
 -- The files so far are measured, and nothing else.
-use Rattle.std.proofs.Common.{◌≡◌, ℕ, ◌<◌, get_or}
-use Rattle.std.specs.Prelude.{Contains, ◌⊎◌, IsTrue}
-use Rattle.disk_model.specs.Frames.{Kept}
-use Rattle.project_journal.specs.Answer.{NoFault}
-use Rattle.editor_recovery.specs.{Measured.size_in, Sizes.file_size}
+use Rattle.editor_recovery.proofs.Common.{◌≡◌, ℕ, ◌<◌, get_or, Contains, IsTrue, Kept, NoFault, size_in, file_size}
+use Rattle.std.specs.Prelude.{◌⊎◌}
 use Rattle.editor_recovery.proofs.measuring.measure.Given as goal
 
 abbrev pub invariant-loop-i : goal.invariant-loop-i

@@ -1,12 +1,7 @@
 -- The journal's header and the files, and then what they amount to.
-use Rattle.std.proofs.Common.{◌∙◌, ◌≤◌, refl, sym, subst, arith}
-use Rattle.std.specs.Prelude.{IfOk}
-use Rattle.disk_model.specs.Disk.{Files}
-use Rattle.disk_model.proofs.Frames.{changed_kept, changed_then_stays}
-use Rattle.project_journal.specs.Journal.{Log, HasLog, IsAt}
-use Rattle.project_journal.specs.{Header.Form, Header.IsForm, Opening.IsOpened}
-use Rattle.editor_recovery.specs.{Files.NoForeign, Found.answer_in, Listing.AreFiles, Opening.Opens}
-use Rattle.editor_recovery.proofs.{Counted.causes_turn, Resting.durable_after}
+use Rattle.editor_recovery.proofs.Common.{◌∙◌, ◌≤◌, sym, subst, IfOk, Files, Log, HasLog, IsAt, Form, IsForm, IsOpened}
+use Rattle.editor_recovery.proofs.Common.{NoForeign, answer_in, AreFiles, Opens}
+use Rattle.editor_recovery.proofs.{Counted.causes_turn, Resting.changed_after, Resting.durable_after}
 use Rattle.editor_recovery.proofs.opening.open_parts.Goals as goal
 
 pub returns-in-Ok-clause-opens : goal.returns-in-Ok-clause-opens
@@ -38,10 +33,4 @@ returns-in-Ok-clause-cause g c = causes_turn g.S.Store c.args.store.now c.read_d
     c.find_parts.result c.in-Ok.ensures.cause c.find_parts.ensures.cause
 
 pub returns-in-Ok-clause-changed : goal.returns-in-Ok-clause-changed
-returns-in-Ok-clause-changed g c =
-    changed_then_stays {two = record { files = 0; bytes = 0; calls = 0 }} (record {
-      files = omega arith;
-      bytes = omega arith;
-      calls = omega arith;
-    })
-    c.read_disk.ensures.changed (changed_kept (λ d. refl) c.find_parts.ensures.kept)
+returns-in-Ok-clause-changed g c = changed_after c.read_disk.ensures.changed c.find_parts.ensures.kept

@@ -1,16 +1,9 @@
 -- A studio of what was found, and what an honest disk has of it.
-use Rattle.std.proofs.Common.{◌≤◌, Ok, Err, sym, ap, subst, ◌∙◌}
-use Rattle.disk_model.specs.{Disk.StaysStep, Frames.Changed}
-use Rattle.project_journal.specs.Journal.{Log, HasLog, IsAt}
-use Rattle.project_journal.specs.{Gate.EachNow, Gate.IsDurable, Header.Form, Header.IsForm}
-use Rattle.project_journal.proofs.Kept.{each_has}
-use Rattle.record_body.specs.Saved.{Keeps}
-use Rattle.project_state.specs.Meaning.{history_blocks}
-use Rattle.editor_core.specs.Parts.{assembled}
-use Rattle.editor_views.specs.Scans.{HaveOneLength}
-use Rattle.editor_state.specs.Studios.{shown, studio_of}
-use Rattle.editor_recovery.specs.Honest.{FindsSaved, IsHonest, OpensHonest}
-use Rattle.editor_recovery.specs.{Causes.Causes, Found.IsNew, Found.found_in, Opening.Opens, Stores.answer_of}
+use Rattle.editor_recovery.proofs.Common.{◌≤◌, Ok, Err, sym, ap, subst, ◌∙◌, StaysStep, Changed, Log, HasLog, IsAt}
+use Rattle.editor_recovery.proofs.Common.{EachNow, IsDurable, Form, IsForm, each_has, Keeps, history_blocks, assembled}
+use Rattle.editor_recovery.proofs.Common.{HaveOneLength, shown, studio_of, IsHonest, OpensHonest, Causes, IsNew}
+use Rattle.editor_recovery.proofs.Common.{found_in, Opens, answer_of}
+use Rattle.editor_recovery.specs.Honest.{FindsSaved}
 use Rattle.editor_recovery.proofs.Assembled.{answers, each, new_studio, same_store, shows_found}
 use Rattle.editor_recovery.proofs.{Created.still_honest, Honest.found_saved, Honest.has_parts}
 use Rattle.editor_recovery.proofs.opening.open_store.Goals as goal

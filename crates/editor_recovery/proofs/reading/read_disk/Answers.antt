@@ -1,11 +1,7 @@
 -- An opening of the journal, and then a listing.
-use Rattle.std.proofs.Common.{◌∙◌, Err, refl, subst, arith}
-use Rattle.disk_model.specs.Disk.{Files}
-use Rattle.disk_model.proofs.Frames.{changed_kept, changed_then_stays}
-use Rattle.project_journal.specs.{declared.fault.JournalFault.JournalFault, declared.reader.Reader.Reader}
-use Rattle.editor_recovery.specs.{declared.disk.Disk.Disk, Listing.Lists, Reading.Refuses}
+use Rattle.editor_recovery.proofs.Common.{◌∙◌, Err, subst, Files, JournalFault, Reader, Disk, Lists, Refuses}
 use Rattle.editor_recovery.proofs.{Opens.with_fault, Opens.with_listing, Counted.causes_turn, Counted.journal_none}
-use Rattle.editor_recovery.proofs.{Resting.still_heading, Resting.durable_after}
+use Rattle.editor_recovery.proofs.{Resting.changed_after, Resting.durable_after, Resting.still_heading}
 use Rattle.project_journal.specs.Opening as journal
 use Rattle.editor_recovery.proofs.reading.read_disk.Goals as goal
 
@@ -34,13 +30,7 @@ returns-in-Ok-clause-cause g c = causes_turn g.S.Store c.args.store.now c.open_j
     c.with_files.result c.in-Ok.ensures.cause c.with_files.ensures.cause
 
 pub returns-in-Ok-clause-changed : goal.returns-in-Ok-clause-changed
-returns-in-Ok-clause-changed g c =
-    changed_then_stays {two = record { files = 0; bytes = 0; calls = 0 }} (record {
-      files = omega arith;
-      bytes = omega arith;
-      calls = omega arith;
-    })
-    c.open_journal.ensures.changed (changed_kept (λ d. refl) c.with_files.ensures.kept)
+returns-in-Ok-clause-changed g c = changed_after c.open_journal.ensures.changed c.with_files.ensures.kept
 
 pub returns-in-Err-Damaged-clause-cause : goal.returns-in-Err-Damaged-clause-cause
 returns-in-Err-Damaged-clause-cause g c =
@@ -50,13 +40,7 @@ returns-in-Err-Damaged-clause-cause g c =
     c.refused.ensures.cause
 
 pub returns-in-Err-Damaged-clause-changed : goal.returns-in-Err-Damaged-clause-changed
-returns-in-Err-Damaged-clause-changed g c =
-    changed_then_stays {two = record { files = 0; bytes = 0; calls = 0 }} (record {
-      files = omega arith;
-      bytes = omega arith;
-      calls = omega arith;
-    })
-    c.open_journal.ensures.changed (changed_kept (λ d. refl) c.refused.ensures.kept)
+returns-in-Err-Damaged-clause-changed g c = changed_after c.open_journal.ensures.changed c.refused.ensures.kept
 
 pub returns-in-Err-Damaged-clause-reads : goal.returns-in-Err-Damaged-clause-reads
 returns-in-Err-Damaged-clause-reads g c = λ tells.

@@ -1,12 +1,8 @@
 -- One point more is searched.
-use Rattle.std.proofs.Common.{◌+◌, ◌-◌, List, Option, None, drop, sym, ap, ◌∙◌, arith}
-use Rattle.std.specs.List.{All}
-use Rattle.pcm_base.specs.{declared.block.BlockRef.BlockRef, History.History, History.points_of}
-use Rattle.project_state.specs.{declared.track.Track.Track, Meaning.point_blocks}
-use Rattle.record_body.proofs.SavedBounds.{IsBlockRef}
-use Rattle.layout_uses.specs.Layouts.{history_tracks}
+use Rattle.editor_recovery.proofs.Common.{◌+◌, ◌-◌, List, Option, None, drop, sym, ap, ◌∙◌, arith, All, BlockRef}
+use Rattle.editor_recovery.proofs.Common.{History, points_of, Track, point_blocks, IsBlockRef, history_tracks, size_in}
+use Rattle.editor_recovery.proofs.Common.{first_wrong}
 use Rattle.layout_uses.proofs.InTurn.{point_among}
-use Rattle.editor_recovery.specs.{Measured.size_in, Sizes.first_wrong}
 use Rattle.editor_recovery.proofs.Points.{all_blocks, blocks_left, all_at}
 use Rattle.editor_recovery.proofs.{Searched.agree_points, Searched.last_searched, Wrong.wrong_append}
 use Rattle.editor_recovery.proofs.sizes.wrong_block.Goals as goal

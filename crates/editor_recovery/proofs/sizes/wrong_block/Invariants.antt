@@ -1,9 +1,6 @@
 -- What is left decides, and the point before was searched.
-use Rattle.std.proofs.Common.{◌≡◌, ℕ, ◌+◌, List, None, Some, drop}
-use Rattle.std.specs.{Prelude.slice_get, List.flat_map}
-use Rattle.pcm_base.specs.History.{points_of}
-use Rattle.project_state.specs.{declared.track.Track.Track, Meaning.point_blocks}
-use Rattle.editor_recovery.specs.{Measured.size_in, Sizes.AreSearched, Sizes.first_wrong}
+use Rattle.editor_recovery.proofs.Common.{◌≡◌, ℕ, ◌+◌, List, None, Some, drop, slice_get, flat_map, points_of, Track}
+use Rattle.editor_recovery.proofs.Common.{point_blocks, size_in, AreSearched, first_wrong}
 use Rattle.editor_recovery.proofs.sizes.wrong_block.Given as goal
 
 abbrev pub invariant-loop-i : goal.invariant-loop-i

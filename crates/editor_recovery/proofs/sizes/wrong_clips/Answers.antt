@@ -1,13 +1,8 @@
 -- One clip more is searched.
-use Rattle.std.proofs.Common.{◌+◌, List, Option, refl, drop, sym, ap, subst, ◌∙◌}
+use Rattle.editor_recovery.proofs.Common.{◌+◌, List, Option, refl, drop, sym, ap, subst, ◌∙◌, All-from_recursion}
+use Rattle.editor_recovery.proofs.Common.{recursion_from_All, All, BlockRef, Clip, layout_blocks, IsBlockRef, drop_some}
+use Rattle.editor_recovery.proofs.Common.{size_in, first_wrong}
 use Rattle.std.proofs.lemmas.Option.{slice_get_read}
-use Rattle.std.proofs.lemmas.List.Elements.{All-from_recursion, recursion_from_All}
-use Rattle.std.specs.List.{All}
-use Rattle.pcm_base.specs.declared.block.BlockRef.{BlockRef}
-use Rattle.clip_track.specs.{declared.clips.Clip.Clip, Clips.layout_blocks}
-use Rattle.record_body.proofs.SavedBounds.{IsBlockRef}
-use Rattle.project_state.proofs.Points.{drop_some}
-use Rattle.editor_recovery.specs.{Measured.size_in, Sizes.first_wrong}
 use Rattle.editor_recovery.proofs.{Searched.clip_part, Wrong.wrong_append}
 use Rattle.editor_recovery.proofs.sizes.wrong_clips.Goals as goal
 

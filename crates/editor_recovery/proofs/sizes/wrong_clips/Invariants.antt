@@ -1,7 +1,5 @@
 -- What is left decides.
-use Rattle.std.proofs.Common.{◌≡◌, drop}
-use Rattle.clip_track.specs.Clips.{layout_blocks}
-use Rattle.editor_recovery.specs.{Measured.size_in, Sizes.first_wrong}
+use Rattle.editor_recovery.proofs.Common.{◌≡◌, drop, layout_blocks, size_in, first_wrong}
 use Rattle.editor_recovery.proofs.sizes.wrong_clips.Given as goal
 
 abbrev pub invariant-loop-clip : goal.invariant-loop-clip

@@ -1,9 +1,6 @@
 -- Nothing was searched before.
-use Rattle.std.proofs.Common.{List, None, sym, subst}
-use Rattle.std.specs.List.{AllByRecursion}
-use Rattle.project_state.specs.{declared.track.Track.Track, Meaning.point_blocks}
-use Rattle.layout_uses.specs.Layouts.{AgreesWith}
-use Rattle.editor_recovery.specs.{Measured.size_in, Sizes.AreSearched}
+use Rattle.editor_recovery.proofs.Common.{List, None, sym, subst, AllByRecursion, Track, point_blocks, AgreesWith}
+use Rattle.editor_recovery.proofs.Common.{size_in, AreSearched}
 use Rattle.editor_recovery.proofs.Searched.{agree_none}
 use Rattle.editor_recovery.proofs.sizes.wrong_first.Goals as goal
 

@@ -1,13 +1,7 @@
 -- One track more is searched.
-use Rattle.std.proofs.Common.{◌+◌, List, Option, refl, drop, sym, ap, subst, ◌∙◌}
-use Rattle.std.proofs.lemmas.List.Elements.{All-from_recursion, recursion_from_All}
-use Rattle.pcm_base.specs.declared.block.BlockRef.{BlockRef}
-use Rattle.clip_track.specs.Clips.{layout_blocks}
-use Rattle.project_state.specs.{declared.track.Track.Track, Meaning.point_blocks}
-use Rattle.record_body.proofs.SavedBounds.{IsBlockRef}
-use Rattle.project_state.proofs.Points.{drop_some}
-use Rattle.layout_uses.specs.Layouts.{AgreesWith}
-use Rattle.editor_recovery.specs.{Measured.size_in, Sizes.AreSearched, Sizes.first_wrong}
+use Rattle.editor_recovery.proofs.Common.{◌+◌, List, Option, refl, drop, sym, ap, subst, ◌∙◌, All-from_recursion}
+use Rattle.editor_recovery.proofs.Common.{recursion_from_All, BlockRef, layout_blocks, Track, point_blocks, IsBlockRef}
+use Rattle.editor_recovery.proofs.Common.{drop_some, AgreesWith, size_in, AreSearched, first_wrong}
 use Rattle.editor_recovery.proofs.Searched.{still_searched, track_holds, track_part}
 use Rattle.editor_recovery.proofs.Wrong.{wrong_append}
 use Rattle.editor_recovery.proofs.sizes.wrong_point.Goals as goal

@@ -1,7 +1,5 @@
 -- What is left decides, and the point before was searched.
-use Rattle.std.proofs.Common.{◌≡◌, drop}
-use Rattle.project_state.specs.Meaning.{point_blocks}
-use Rattle.editor_recovery.specs.{Measured.size_in, Sizes.AreSearched, Sizes.first_wrong}
+use Rattle.editor_recovery.proofs.Common.{◌≡◌, drop, point_blocks, size_in, AreSearched, first_wrong}
 use Rattle.editor_recovery.proofs.sizes.wrong_point.Given as goal
 
 abbrev pub invariant-loop-i : goal.invariant-loop-i

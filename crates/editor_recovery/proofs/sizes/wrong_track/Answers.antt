@@ -1,9 +1,6 @@
 -- A layout that the point before has brings nothing new.
-use Rattle.std.proofs.Common.{List, sym, ap, subst, ◌∙◌}
-use Rattle.std.specs.List.{All}
-use Rattle.clip_track.specs.{declared.clips.Clip.Clip, Clips.layout_blocks}
-use Rattle.record_body.proofs.SavedBounds.{IsBlockRef}
-use Rattle.editor_recovery.specs.{Measured.size_in, Sizes.first_wrong}
+use Rattle.editor_recovery.proofs.Common.{List, sym, ap, subst, ◌∙◌, All, Clip, layout_blocks, IsBlockRef, size_in}
+use Rattle.editor_recovery.proofs.Common.{first_wrong}
 use Rattle.editor_recovery.proofs.Searched.{layout_searched}
 use Rattle.editor_recovery.proofs.sizes.wrong_track.Goals as goal
 

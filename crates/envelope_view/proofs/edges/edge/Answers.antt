@@ -1,5 +1,5 @@
 -- A column begins within the range.
-use Rattle.std.proofs.Common.{◌-◌, arith}
+use Rattle.envelope_view.proofs.Common.{◌-◌, arith}
 use Rattle.envelope_view.proofs.EdgeLaws.{share_within}
 use Rattle.envelope_view.proofs.edges.edge.Goals as goal
 

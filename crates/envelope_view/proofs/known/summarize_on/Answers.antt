@@ -1,11 +1,18 @@
 -- The answer is that of the reads.
-use Rattle.pcm_base.proofs.Exits.{exit_err}
-use Rattle.block_cache.proofs.ReaderLaws.{reads_err, reads_ok}
+use Rattle.envelope_view.proofs.Common.{◌+◌, min, arith}
+use Rattle.envelope_view.proofs.{BlockReads.block_err, BlockReads.block_ok, KeptLaws.part_in}
 use Rattle.envelope_view.proofs.known.summarize_on.Goals as goal
 
-pub returns-in_err-halves-clause-reads : goal.returns-in_err-halves-clause-reads
-returns-in_err-halves-clause-reads g c =
-    rw (exit_err c.from_residual.result c.from_residual.ensures.1) (reads_err c.in_err-halves.ensures.reads)
+pub returns-in_err-halves-clause-sum : goal.returns-in_err-halves-clause-sum
+returns-in_err-halves-clause-sum g c = block_err _ c.from_residual.ensures.1 c.in_err-halves.ensures
+    (part_in _ c.args.block c.args.from (min c.args.block.len (c.args.to + c.args.reach)) c.args.from _ (omega arith)
+    (omega (arith, c.in-Some.ensures.near, c.frame_stop-stop.ensures.within, c.frame_stop-stop.ensures.few)))
 
-pub returns-clause-reads : goal.returns-clause-reads
-returns-clause-reads g c = reads_ok c.in_ok-halves.ensures.reads
+pub returns-clause-known : goal.returns-clause-known
+returns-clause-known g c = λ told xs e len. (c.in_ok-halves.ensures.read told xs e len).1
+
+pub returns-clause-sum : goal.returns-clause-sum
+returns-clause-sum g c = block_ok c.in_ok-halves.ensures
+    (part_in _ c.args.block c.args.from (min c.args.block.len (c.args.to + c.args.reach)) c.args.from _ (omega arith)
+    (omega (arith, c.in-Some.ensures.near, c.frame_stop-stop.ensures.within, c.frame_stop-stop.ensures.few)))
+    (λ xs of got. got.0)

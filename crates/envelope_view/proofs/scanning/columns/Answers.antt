@@ -1,10 +1,7 @@
 -- A test that refuses reads nothing.
-use Rattle.std.proofs.Common.{inl, inr, ap, sym, ◌∙◌}
-use Rattle.pcm_base.proofs.Exits.{exit_err}
-use Rattle.block_cache.proofs.ReaderLaws.{reads_none}
-use Rattle.clip_track.specs.Clips.{layout_blocks}
+use Rattle.envelope_view.proofs.Common.{inl, inr, ap, sym, ◌∙◌, exit_err, reads_none, layout_blocks}
 use Rattle.envelope_view.specs.Answers.{column_tests}
-use Rattle.envelope_view.proofs.AnswerLaws.{damaged_of, reads_tests, tests_undamaged, whole_undamaged}
+use Rattle.envelope_view.proofs.AnswerLaws.{damaged_of, hits_tests, reads_tests, tests_undamaged, whole_undamaged}
 use Rattle.envelope_view.proofs.scanning.columns.Goals as goal
 
 pub returns-in_err-test_columns-clause-tests : goal.returns-in_err-test_columns-clause-tests
@@ -46,3 +43,14 @@ returns-in_err-scans-clause-reads g c =
 
 pub returns-clause-reads : goal.returns-clause-reads
 returns-clause-reads g c = c.in_ok-scans.ensures.reads
+
+pub returns-in_err-test_columns-clause-hit : goal.returns-in_err-test_columns-clause-hit
+returns-in_err-test_columns-clause-hit g c = rw (exit_err c.from_residual.result c.from_residual.ensures.1)
+    (hits_tests _ c.in_err-test_columns.ensures.reasons)
+
+pub returns-in_err-scans-clause-hit : goal.returns-in_err-scans-clause-hit
+returns-in_err-scans-clause-hit g c =
+    rw (exit_err c.from_residual-in_err-scans.result c.from_residual-in_err-scans.ensures.1) c.in_err-scans.ensures.hit
+
+pub returns-clause-hit : goal.returns-clause-hit
+returns-clause-hit g c = c.in_ok-scans.ensures.hit

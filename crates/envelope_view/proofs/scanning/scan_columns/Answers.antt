@@ -1,19 +1,15 @@
 -- One column more.
-use Rattle.std.proofs.Common.{◌≡◌, ℕ, ◌+◌, ◌-◌, ◌≤◌, List, [], ◌∷◌, ◌++◌, Option, take, drop, map, sym, ap, subst, ◌∙◌}
-use Rattle.std.proofs.Common.{arith}
-use Rattle.std.proofs.{lemmas.List.drop-drop, lemmas.Grind.common_steps}
-use Rattle.pcm_base.proofs.Exits.{exit_err}
-use Rattle.disk_model.specs.Disk.{Files}
-use Rattle.pcm_base.specs.{Arithmetic.counted_from, Edits.part, Envelope.edge, Envelope.scan_of, Pieces.Sources}
-use Rattle.pcm_base.specs.{declared.sound.Cell.Cell, declared.sound.Scan.Scan}
-use Rattle.sample_block.specs.Sources.{IsNamed, IsWhole, sources_of}
-use Rattle.block_cache.proofs.ReaderLaws.{reads_more, reads_none, reads_ok, reads_then, told_on}
-use Rattle.block_store.specs.Scans.{samples_among}
-use Rattle.peak_summary.specs.Peaks.{summary_of}
-use Rattle.clip_track.specs.Clips.{layout_blocks, layout_cells}
-use Rattle.envelope_view.specs.{Ahead.ahead_blocks, Ahead.ahead_cells, Halves.IsKnown, Named.AreWhole}
+use Rattle.envelope_view.proofs.Common.{◌≡◌, ℕ, ◌+◌, ◌-◌, ◌≤◌, List, [], ◌∷◌, ◌++◌, Option, take, drop, map, sym, ap}
+use Rattle.envelope_view.proofs.Common.{subst, ◌∙◌, arith, drop-drop, common_steps, exit_err, Files, counted_from, part}
+use Rattle.envelope_view.proofs.Common.{edge, scan_of, Sources, Cell, IsNamed, IsWhole, sources_of, reads_more}
+use Rattle.envelope_view.proofs.Common.{reads_none, reads_ok, reads_then, told_on, samples_among, summary_of}
+use Rattle.envelope_view.proofs.Common.{layout_blocks, layout_cells, ahead_blocks, ahead_cells, IsKnown, AreWhole}
+use Rattle.envelope_view.proofs.Common.{false≢true, same_none, ahead_items, HasItems}
+use Rattle.pcm_base.specs.{declared.sound.Scan.Scan}
 use Rattle.envelope_view.proofs.{AnswerLaws.reads_reason, AnswerLaws.reason_reads, EdgeLaws.columns_more}
-use Rattle.envelope_view.proofs.{EdgeLaws.first_edge, NamedLaws.each_of}
+use Rattle.envelope_view.proofs.{EdgeLaws.first_edge, NamedLaws.each_of, BlockReads.hits_none, BlockReads.hits_then}
+use Rattle.envelope_view.proofs.{KeptLaws.items_left, KeptLaws.items_on, KeptLaws.column_pages}
+use Rattle.clip_track.specs.Clips.{items_from}
 use Rattle.envelope_view.proofs.scanning.scan_columns.Goals as goal
 
 -- there was no memory, and nothing was read
@@ -28,6 +24,17 @@ rows-init g c = record {
   cells = λ src. c.rest.ensures.cells src ∙ ap (λ (k : ℕ). drop k (layout_cells src c.args.layout.now))
       (first_edge c.args.from c.args.to c.args.columns);
   reads = reads_none tt (g.met.S.Store.may_fewer _);
+  hit = hits_none;
+  kept = λ has.
+      let old = c.args.reader.now.cache in
+      let to : ℕ = c.args.to in
+      let left : HasItems old 0 (to - c.args.from) c.rest.result =
+      subst (HasItems old 0 (to - c.args.from)) (sym c.rest.ensures.items)
+      (items_left old c.args.from to (items_from 0 c.args.layout.now) c.requires.rising has) in (
+        tt,
+        items_on old old 0 (to - c.args.from) (0 - 0) (to - edge c.args.from to c.args.columns 0 - 0) c.rest.result
+            (same_none old) (omega arith) (omega (arith, first_edge c.args.from to c.args.columns)) left,
+      );
   known = λ told. tt;
   read = λ told whole. c.in_ok-scans.ensures.items;
 }
@@ -40,6 +47,7 @@ pub rows-preserved : goal.rows-preserved
 rows-preserved g c =
     let a = c.args in
     let i : ℕ = c.rows.i in
+    let old = a.reader.now.cache in
     let inv = c.rows.invariant in
     let files : Files = g.S.Store.reads a.reader.now.store in
     let begin : ℕ = c.edge-begin.result in
@@ -61,6 +69,14 @@ rows-preserved g c =
       reads = reads_then {x = tt} inv.reads
           (reads_ok {y = tt} (reads_more (ahead_blocks c.rows.ahead) (layout_blocks a.layout.now) inv.blocks
           c.in_ok-summary.ensures.reads));
+      hit = hits_then (λ has. has) (λ has kept. column_pages old _ (a.to - edge a.from a.to a.columns i)
+          (end - begin + c.min-reach.result) (ahead_items c.rows.ahead) kept
+          (omega (arith, low, rising, c.min-reach.ensures, c.edge-end.ensures.within)) (inv.kept has))
+          inv.hit c.in_ok-summary.ensures.hit;
+      kept = λ has. c.in_ok-summary.ensures.kept old (a.to - edge a.from a.to a.columns (i + 1))
+          (column_pages old old (a.to - edge a.from a.to a.columns i)
+          (end - begin + (a.to - edge a.from a.to a.columns (i + 1))) (ahead_items c.rows.ahead) (same_none old)
+          (omega (arith, low, high, rising, c.edge-end.ensures.within)) (inv.kept has));
       known = λ told.
           subst (λ (f : Files). IsKnown f c.sweep.new.known) inv.reads.kept.same_reads
           (c.sweep.ensures.known (told_on inv.reads told));
@@ -113,3 +129,32 @@ returns-in_err-summary-clause-reasons g c =
 
 pub returns-clause-reads : goal.returns-clause-reads
 returns-clause-reads g c = c.rows.invariant.reads
+
+pub returns-in_err-scans-clause-hit : goal.returns-in_err-scans-clause-hit
+returns-in_err-scans-clause-hit g c = rw (exit_err c.from_residual.result c.from_residual.ensures.1) hits_none
+
+pub returns-in_err-summary-clause-hit : goal.returns-in_err-summary-clause-hit
+returns-in_err-summary-clause-hit g c =
+    let a = c.args in
+    let inv = c.rows.invariant in
+    let seen : ℕ = a.to - edge a.from a.to a.columns c.rows.i in
+    let asked : ℕ = c.edge-end.result - c.edge-begin.result + c.min-reach.result in
+    let few : asked ≤ seen = grind (arith, common_steps) in
+    rw (exit_err c.from_residual-in_err-summary.result c.from_residual-in_err-summary.ensures.1)
+    (λ has. absurd (false≢true (c.in_err-summary.ensures.hit (column_pages a.reader.now.cache _ seen asked
+    (ahead_items c.rows.ahead) (inv.hit has).2 few (inv.kept has))).0))
+
+pub returns-in_err-push-clause-hit : goal.returns-in_err-push-clause-hit
+returns-in_err-push-clause-hit g c =
+    let a = c.args in
+    let inv = c.rows.invariant in
+    let seen : ℕ = a.to - edge a.from a.to a.columns c.rows.i in
+    let asked : ℕ = c.edge-end.result - c.edge-begin.result + c.min-reach.result in
+    let few : asked ≤ seen = grind (arith, common_steps) in
+    rw (exit_err c.from_residual-in_err-push.result c.from_residual-in_err-push.ensures.1)
+    (hits_then (λ has. has) (λ has kept. column_pages a.reader.now.cache _ seen asked (ahead_items c.rows.ahead) kept
+    few
+    (inv.kept has)) inv.hit c.in_ok-summary.ensures.hit)
+
+pub returns-clause-hit : goal.returns-clause-hit
+returns-clause-hit g c = c.rows.invariant.hit

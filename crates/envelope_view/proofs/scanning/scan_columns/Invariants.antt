@@ -1,12 +1,9 @@
 -- The columns so far, what is left, and that nothing of the disk has changed.
-use Rattle.std.proofs.Common.{◌≡◌, ◌+◌, drop, map, Ok}
-use Rattle.std.specs.Prelude.{IsTrue, Contains}
-use Rattle.sample_block.specs.Sources.{AllWhole, sources_of}
-use Rattle.block_cache.specs.Readers.{Reads}
-use Rattle.pcm_base.specs.Envelope.{edge, scan_of}
-use Rattle.pcm_base.specs.{Arithmetic.counted_from, Edits.part, Pieces.Sources, declared.block.BlockRef.BlockRef}
-use Rattle.clip_track.specs.Clips.{layout_blocks, layout_cells}
-use Rattle.envelope_view.specs.{Ahead.IsInBlock, Ahead.ahead_blocks, Ahead.ahead_cells, Halves.IsKnown}
+use Rattle.envelope_view.proofs.Common.{◌≡◌, ◌+◌, ◌-◌, drop, map, Ok, IsTrue, Contains, AllWhole, sources_of, Hits}
+use Rattle.envelope_view.proofs.Common.{Reads, BlockFault, ahead_items, HasItems, edge, scan_of, counted_from, part}
+use Rattle.envelope_view.proofs.Common.{Sources, BlockRef, layout_blocks, layout_cells, IsInBlock, ahead_blocks}
+use Rattle.envelope_view.proofs.Common.{ahead_cells, IsKnown}
+use Rattle.envelope_view.specs.{Kept.HasColumns}
 use Rattle.envelope_view.proofs.scanning.scan_columns.Given as goal
 
 abbrev pub invariant-rows : goal.invariant-rows
@@ -15,6 +12,10 @@ invariant-rows g l = record {
   blocks : (b : BlockRef) → Contains (ahead_blocks l.ahead) b → Contains (layout_blocks l.layout) b;
   cells : (src : Sources) → ahead_cells src l.ahead ≡ drop (edge l.from l.to l.columns l.i) (layout_cells src l.layout);
   reads : Reads (layout_blocks l.layout) l.fn.reader l.reader (Ok (tt {0}));
+  hit : Hits {T = Unit {0}} {E = BlockFault} (HasColumns l.fn.reader.cache l.from l.to l.layout) l.fn.reader l.reader
+      (Ok tt);
+  kept : HasColumns l.fn.reader.cache l.from l.to l.layout
+      → HasItems l.fn.reader.cache 0 (l.to - edge l.from l.to l.columns l.i) (ahead_items l.ahead);
   known : IsTrue (g.S.Store.tells l.fn.reader.store) → IsKnown (g.S.Store.reads l.fn.reader.store) l.known;
   read : IsTrue (g.S.Store.tells l.fn.reader.store)
       → AllWhole (g.S.Store.reads l.fn.reader.store) (layout_blocks l.layout)

@@ -1,11 +1,8 @@
 -- Gaps have no sample, and a block has those of its part.
-use Rattle.std.proofs.Common.{sym, ap, subst, arith}
-use Rattle.pcm_base.proofs.Exits.{exit_err}
-use Rattle.sample_block.specs.Sources.{sources_of}
-use Rattle.peak_summary.specs.Peaks.{summary_of}
-use Rattle.block_cache.proofs.ReaderLaws.{reads_err, reads_more, reads_none}
-use Rattle.envelope_view.specs.Ahead.{IsInBlock, stretch_blocks}
+use Rattle.envelope_view.proofs.Common.{sym, ap, subst, arith, exit_err, sources_of, summary_of, reads_err, reads_more}
+use Rattle.envelope_view.proofs.Common.{reads_none, IsInBlock, stretch_blocks}
 use Rattle.envelope_view.proofs.AheadLaws.{block_read, blocks_one, gaps_read, named_one}
+use Rattle.envelope_view.proofs.{BlockReads.hits_none, KeptLaws.block_pages}
 use Rattle.envelope_view.proofs.sweep.summarize_stretch.Goals as goal
 
 pub returns-in-Gaps-clause-read : goal.returns-in-Gaps-clause-read
@@ -21,18 +18,30 @@ pub returns-in_ok-summary-in-Block-clause-read : goal.returns-in_ok-summary-in-B
 returns-in_ok-summary-in-Block-clause-read g c = λ told whole.
     block_read (g.S.Store.reads c.args.reader.now.store) c.args.stretch _ _ _ c.args.count _ c.in-Block.is
     (subst IsInBlock c.in-Block.is c.requires.stretch) c.requires.within (omega arith)
-    whole (c.in_ok-summary-in-Block.ensures.read told)
+    whole (c.in_ok-summary-in-Block.ensures.sum.read told)
 
 pub returns-in_ok-summary-in-Block-clause-reads : goal.returns-in_ok-summary-in-Block-clause-reads
 returns-in_ok-summary-in-Block-clause-reads g c =
     reads_more _ (stretch_blocks c.args.stretch) (blocks_one c.args.stretch _ _ c.in-Block.is)
-    c.in_ok-summary-in-Block.ensures.reads
+    c.in_ok-summary-in-Block.ensures.sum.reads
 
 pub returns-in_err-summary-in-Block-clause-reads : goal.returns-in_err-summary-in-Block-clause-reads
 returns-in_err-summary-in-Block-clause-reads g c =
     rw (exit_err c.from_residual.result c.from_residual.ensures.1) (reads_err
     (reads_more _ (stretch_blocks c.args.stretch) (blocks_one c.args.stretch _ _ c.in-Block.is)
-    c.in_err-summary-in-Block.ensures.reads))
+    c.in_err-summary-in-Block.ensures.sum.reads))
 
 pub returns-in-Gaps-clause-reads : goal.returns-in-Gaps-clause-reads
 returns-in-Gaps-clause-reads g c = reads_none _ (g.met.S.Store.may_fewer _)
+
+pub returns-in-Gaps-clause-hit : goal.returns-in-Gaps-clause-hit
+returns-in-Gaps-clause-hit g c = hits_none
+
+pub returns-in_ok-summary-in-Block-clause-hit : goal.returns-in_ok-summary-in-Block-clause-hit
+returns-in_ok-summary-in-Block-clause-hit g c = λ has. c.in_ok-summary-in-Block.ensures.sum.hit
+    (block_pages _ c.args.stretch _ _ _ c.args.count c.args.reach c.in-Block.is (omega arith) has)
+
+pub returns-in_err-summary-in-Block-clause-hit : goal.returns-in_err-summary-in-Block-clause-hit
+returns-in_err-summary-in-Block-clause-hit g c =
+    rw (exit_err c.from_residual.result c.from_residual.ensures.1) (λ has. c.in_err-summary-in-Block.ensures.sum.hit
+    (block_pages _ c.args.stretch _ _ _ c.args.count c.args.reach c.in-Block.is (omega arith) has))

@@ -1,19 +1,15 @@
 -- Some cells more, and what is left where all of them are swept or none is left.
-use Rattle.std.proofs.Common.{◌≡◌, ◌∷◌, ◌-◌, ◌≤◌, ℕ, ℤ, List, [], ◌++◌, take, drop, refl, sym, ap, subst, ◌∙◌, arith}
+use Rattle.envelope_view.proofs.Common.{◌≡◌, ◌∷◌, ◌+◌, ◌-◌, ◌≤◌, ℕ, ℤ, List, [], ◌++◌, take, drop, refl, sym, ap, subst}
+use Rattle.envelope_view.proofs.Common.{◌∙◌, arith, Contains, exit_err, Files, BlockRef, Cell, Sources, sources_of}
+use Rattle.envelope_view.proofs.Common.{reads_err, reads_more, reads_none, reads_ok, reads_then, told_on, samples_among}
+use Rattle.envelope_view.proofs.Common.{Summary, summary_of, Stretch, strip_blocks, strip_cells, stretch_item}
+use Rattle.envelope_view.proofs.Common.{IsInBlock, ahead_blocks, ahead_cells, stretch_blocks, stretch_cells}
+use Rattle.envelope_view.proofs.Common.{stretch_len, ahead_items, IsKnown, AreWhole, same_none}
 use Rattle.std.proofs.lemmas.List.Elements.{Contains-append_left}
-use Rattle.std.specs.Prelude.{Contains}
-use Rattle.pcm_base.proofs.Exits.{exit_err}
-use Rattle.disk_model.specs.Disk.{Files}
-use Rattle.pcm_base.specs.{declared.block.BlockRef.BlockRef, declared.sound.Cell.Cell, Pieces.Sources}
-use Rattle.sample_block.specs.Sources.{sources_of}
-use Rattle.block_cache.proofs.ReaderLaws.{reads_err, reads_more, reads_none, reads_ok, reads_then, told_on}
-use Rattle.block_store.specs.Scans.{samples_among}
-use Rattle.peak_summary.specs.{declared.stretch.Summary.Summary, Peaks.summary_of}
-use Rattle.clip_track.specs.{declared.rest.Stretch.Stretch, Items.strip_blocks, Items.strip_cells, Rests.stretch_item}
-use Rattle.envelope_view.specs.Ahead.{IsInBlock, ahead_blocks, ahead_cells, stretch_blocks, stretch_cells, stretch_len}
-use Rattle.envelope_view.specs.{Halves.IsKnown, Named.AreWhole}
 use Rattle.envelope_view.proofs.AheadLaws.{among_few, front_fits, step_heard, step_passed, none_heard, none_passed}
 use Rattle.envelope_view.proofs.Running.{Running, running_start, running_more, running_end}
+use Rattle.envelope_view.proofs.{BlockReads.hits_none, BlockReads.hits_then, KeptLaws.items_on, KeptLaws.rest_pages}
+use Rattle.envelope_view.proofs.{KeptLaws.stretch_pages}
 use Rattle.envelope_view.proofs.sweep.sweep.Goals as goal
 
 pub stretches-init : goal.stretches-init
@@ -23,6 +19,8 @@ stretches-init g c = record {
   blocks = λ b there. there;
   passed = λ src. refl;
   reads = reads_none tt (g.met.S.Store.may_fewer _);
+  hit = hits_none;
+  kept = λ a n has. has;
   known = c.requires.known;
   read = λ told whole. running_start _ _;
 }
@@ -75,6 +73,11 @@ stretches-preserved g c =
           (reads_ok {y = tt} (reads_more (stretch_blocks s) (ahead_blocks c.args.ahead.now)
           (λ b is. there b (Contains-append_left (stretch_blocks s) (strip_blocks rest) b is))
           c.in_ok-part.ensures.reads));
+      hit = hits_then (λ has. has) (λ has kept. stretch_pages c.args.reader.now.cache _ left size c.args.reach s
+          c.next.new.self.stretch rest kept within same (c.next.ensures.kept c.args.reader.now.cache
+          (left + c.args.reach) (inv.kept c.args.reader.now.cache c.args.reach has))) inv.hit c.in_ok-part.ensures.hit;
+      kept = λ a n has. rest_pages a left size n s c.behind-ahead.result c.next.new.self.stretch rest within part same
+          c.behind-ahead.ensures.item (c.next.ensures.kept a (left + n) (inv.kept a n has));
       known = λ told.
           subst (λ (f : Files). IsKnown f c.summarize_stretch.new.known) inv.reads.kept.same_reads
           (c.summarize_stretch.ensures.known (told_on inv.reads told));
@@ -148,3 +151,29 @@ returns-in_default-clause-reads g c = reads_ok {x = tt} c.stretches.invariant.re
 
 pub returns-clause-reads : goal.returns-clause-reads
 returns-clause-reads g c = reads_ok {x = tt} c.stretches.invariant.reads
+
+pub returns-in_err-part-clause-hit : goal.returns-in_err-part-clause-hit
+returns-in_err-part-clause-hit g c =
+    let inv = c.stretches.invariant in
+    let old = c.args.reader.now.cache in
+    rw (exit_err c.from_residual.result c.from_residual.ensures.1) (hits_then (λ has. has) (λ has kept.
+    stretch_pages old _ c.stretches.left c.min-size.result c.args.reach c.in-Some.stretch c.next.new.self.stretch
+    c.next.new.self.rest kept (omega (arith, c.min-size.ensures)) c.in-Some.ensures.found.0
+    (c.next.ensures.kept old (c.stretches.left + c.args.reach) (inv.kept old c.args.reach has)))
+    inv.hit c.in_err-part.ensures.hit)
+
+pub returns-in_default-clause-hit : goal.returns-in_default-clause-hit
+returns-in_default-clause-hit g c = c.stretches.invariant.hit
+
+pub returns-clause-hit : goal.returns-clause-hit
+returns-clause-hit g c = c.stretches.invariant.hit
+
+pub returns-in_default-clause-kept : goal.returns-in_default-clause-kept
+returns-in_default-clause-kept g c = λ a n has. items_on a a 0 (c.stretches.left + n) 0 n (ahead_items
+    c.next.new.self) (same_none a) (omega arith)
+    (omega arith) (c.next.ensures.kept a (c.stretches.left + n) (c.stretches.invariant.kept a n has))
+
+pub returns-clause-kept : goal.returns-clause-kept
+returns-clause-kept g c = λ a n has. items_on a a 0 (c.stretches.left + n) 0 n (ahead_items c.stretches.ahead)
+    (same_none a) (omega arith)
+    (omega arith) (c.stretches.invariant.kept a n has)

@@ -1,11 +1,6 @@
 -- The points of the header, or none.
-use Rattle.std.proofs.Common.{◌≡◌, ◌≤◌, ◌∙◌, ℕ, [], sym, ap, subst, arith}
-use Rattle.std.specs.Prelude.{MatchResult}
-use Rattle.disk_model.proofs.Frames.{kept_none}
-use Rattle.project_journal.specs.declared.base.Base.{Base}
-use Rattle.project_state.specs.Numbers.{unnumbered_history}
-use Rattle.record_body.specs.Saved.{new_project}
-use Rattle.journal_replay.specs.Folds.{saved_of}
+use Rattle.journal_replay.proofs.Common.{◌≡◌, ◌≤◌, ◌∙◌, ℕ, [], sym, ap, subst, arith, MatchResult, kept_none, Base}
+use Rattle.journal_replay.proofs.Common.{unnumbered_history, new_project, saved_of}
 use Rattle.journal_replay.proofs.{Based.brings_none, Based.brings_headed, Few.none_draw, Pointed.heading_base}
 use Rattle.journal_replay.proofs.{Pointed.heading_format}
 use Rattle.project_journal.specs.declared.fault.JournalFault.TheVariants as journal

@@ -1,6 +1,5 @@
 -- The project of the header, and then the records.
-use Rattle.std.proofs.Common.{[], arith}
-use Rattle.disk_model.proofs.Frames.{kept_turn}
+use Rattle.journal_replay.proofs.Common.{[], arith, kept_turn}
 use Rattle.journal_replay.proofs.Pointed.{heading_format}
 use Rattle.journal_replay.proofs.folding.fold_journal.Goals as goal
 

@@ -1,11 +1,8 @@
 -- One record more at each pass.
-use Rattle.std.proofs.Common.{ℕ, ◌∙◌, ap, subst, arith}
-use Rattle.pcm_base.proofs.Exits.{exit_err}
-use Rattle.disk_model.proofs.Frames.{kept_none, kept_turn}
-use Rattle.project_journal.specs.declared.records.Next.{Next}
-use Rattle.project_journal.specs.Reader.{Goes, Rises, last_record, reader_form}
-use Rattle.record_body.specs.Saved.{Saved, version_of}
-use Rattle.journal_replay.specs.{Faults.says, Folds.saved_of}
+use Rattle.journal_replay.proofs.Common.{ℕ, ◌∙◌, ap, subst, arith, exit_err, kept_none, kept_turn, Next, Goes}
+use Rattle.journal_replay.proofs.Common.{last_record, reader_form, Saved, version_of, saved_of}
+use Rattle.project_journal.specs.Reader.{Rises}
+use Rattle.journal_replay.specs.{Faults.says}
 use Rattle.journal_replay.proofs.Journals.{so_none, so_more, so_done, so_early, so_fault, none_here, none_turn}
 use Rattle.journal_replay.proofs.Journals.{later_none, later_turn, step_of, fault_of}
 use Rattle.journal_replay.proofs.{Few.few_more, Few.few_most, Stepping.after_commit}

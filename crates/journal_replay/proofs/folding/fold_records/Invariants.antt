@@ -1,9 +1,7 @@
 -- How far the fold has come.
-use Rattle.std.proofs.Common.{◌≤◌, ◌+◌, ◌-◌, ◌^◌}
+use Rattle.journal_replay.proofs.Common.{◌≤◌, ◌+◌, ◌-◌, ◌^◌, NoFault, IsPlaced, IsLater, reader_form, version_of}
+use Rattle.journal_replay.proofs.Common.{saved_of, HasLayoutNumbers, DrawsFew}
 use Rattle.disk_model.specs.Frames.{Kept as IsKept}
-use Rattle.project_journal.specs.{Answer.NoFault, Reader.IsPlaced, Reader.IsLater, Reader.reader_form}
-use Rattle.record_body.specs.Saved.{version_of}
-use Rattle.journal_replay.specs.{Folds.saved_of, Folds.HasLayoutNumbers, Heads.DrawsFew}
 use Rattle.journal_replay.proofs.Journals.{FoldedSoFar}
 use Rattle.journal_replay.proofs.folding.fold_records.Given as goal
 

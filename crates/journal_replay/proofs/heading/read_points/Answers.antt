@@ -1,20 +1,13 @@
 -- One point more at each pass.
-use Rattle.pcm_base.proofs.Exits.{exit_err}
-use Rattle.std.proofs.Common.{◌≡◌, ◌+◌, ◌<◌, ◌∙◌, ◌++◌, ⊎_elim, ℕ, List, [], ◌∷◌, length, map, sym, ap, subst, arith}
-use Rattle.std.proofs.Common.{length-append}
-use Rattle.std.proofs.lemmas.List.{length-map}
-use Rattle.disk_model.proofs.Frames.{kept_turn}
-use Rattle.pcm_base.specs.History.{History, at_cursor}
-use Rattle.project_journal.specs.{declared.base.Base.Base, Reader.last_record, Reader.reader_form}
-use Rattle.project_state.specs.declared.track.Track.{Track}
-use Rattle.project_state.specs.Numbers.{AreUnnumbered, unnumbered, unnumbered_history}
+use Rattle.journal_replay.proofs.Common.{exit_err, ◌≡◌, ◌+◌, ◌<◌, ◌∙◌, ◌++◌, ⊎_elim, ℕ, List, [], ◌∷◌, length, map, sym}
+use Rattle.journal_replay.proofs.Common.{ap, subst, arith, length-append, length-map, kept_turn, History, at_cursor}
+use Rattle.journal_replay.proofs.Common.{Base, last_record, reader_form, Track, AreUnnumbered, unnumbered}
+use Rattle.journal_replay.proofs.Common.{unnumbered_history, point_count, tracks_unnumbered, HasPoints}
 use Rattle.undo_history.specs.Stored.{Stored}
-use Rattle.record_body.specs.PointTests.{point_count}
-use Rattle.record_body.proofs.ValidBodies.{tracks_unnumbered}
-use Rattle.journal_replay.specs.Heads.{HasPoints}
 use Rattle.journal_replay.proofs.Pointed.{PointsSoFar, heading_at, heading_counts, heading_format, points_all}
 use Rattle.journal_replay.proofs.Pointed.{points_count, points_err, points_err_first, points_first, points_more}
 use Rattle.journal_replay.proofs.{Few.point_size, Journals.later_turn, Journals.none_turn, Numbered.moved_numbers}
+use Rattle.journal_replay.proofs.heading.read_points.Goals.{After-take_point-in-loop}
 use Rattle.journal_replay.proofs.heading.read_points.Goals as goal
 
 abbrev Tagged : Type 0
@@ -36,6 +29,23 @@ longer g h p same = omega (
   ap (λ (x : History (List Track)). length x.points) same,
   length-append (unnumbered_history h).points (p ∷ []),
 )
+
+-- there are points left
+is_fewer : (g : _) (c : After-take_point-in-loop g)
+    → length c.loop.invariant.so_far.points < c.loop.reader.base.count
+is_fewer g c =
+    let inv = c.loop.invariant in
+    let h : History (List Track) = c.loop.numbered.history.history in
+    omega (
+      arith,
+      points_count g.S.Store c.loop.store c.loop.reader c.args.m (reader_form c.args.reader.now).header_size
+          c.args.reader.now.base (unnumbered_history h).points inv.so_far,
+      as_many h,
+      inv.count,
+      c.loop-test.true,
+      ap (λ (b : Base). b.count) c.base-base.ensures,
+      ap (λ (b : Base). b.count) inv.later.base,
+    )
 
 pub first_point-requires-clause-depth : goal.first_point-requires-clause-depth
 first_point-requires-clause-depth g c =
@@ -91,15 +101,7 @@ returns-in_err-point-2-clause-brings g c =
     let h : History (List Track) = c.loop.numbered.history.history in
     let ps = (unnumbered_history h).points in
     let so = inv.so_far in
-    let fewer : length so.points < c.loop.reader.base.count = omega (
-      arith,
-      points_count g.S.Store c.loop.store c.loop.reader c.args.m size old.base ps so,
-      as_many h,
-      inv.count,
-      c.loop-test.true,
-      ap (λ (b : Base). b.count) c.base-base.ensures,
-      ap (λ (b : Base). b.count) inv.later.base,
-    ) in
+    let fewer = is_fewer g (goal.at.returns-in_err-point-2-clause-brings g c).After-take_point-in-loop in
     rw (exit_err c.from_residual-in_err-point-2.result c.from_residual-in_err-point-2.ensures.1)
     (points_err g.S.Store c.loop.store c.take_point-in-loop.new.store c.loop.reader
     c.take_point-in-loop.new.reader c.args.m size old.base ps so c.in_err-point-2.field-0.0
@@ -126,20 +128,8 @@ add_point-requires-clause-numbered g c = c.loop.invariant.numbers
 
 pub add_point-requires-clause-plain : goal.add_point-requires-clause-plain
 add_point-requires-clause-plain g c =
-    let inv = c.loop.invariant in
-    let old = c.args.reader.now in
-    let h : History (List Track) = c.loop.numbered.history.history in
-    let so = inv.so_far in
-    let fewer : length so.points < c.loop.reader.base.count = omega (
-      arith,
-      points_count g.S.Store c.loop.store c.loop.reader c.args.m (reader_form old).header_size old.base
-          (unnumbered_history h).points so,
-      as_many h,
-      inv.count,
-      c.loop-test.true,
-      ap (λ (b : Base). b.count) c.base-base.ensures,
-      ap (λ (b : Base). b.count) inv.later.base,
-    ) in
+    let so = c.loop.invariant.so_far in
+    let fewer = is_fewer g (goal.at.add_point-requires-clause-plain g c).After-take_point-in-loop in
     let takes = c.in_ok-point-2.ensures.takes so.points so.heading fewer in
     let bytes = (last_record c.take_point-in-loop.new.reader).1 in
     subst AreUnnumbered (sym (ap (λ (p : Tagged). p.0) takes.1.is)) (tracks_unnumbered (point_count bytes) 12 bytes)
@@ -159,15 +149,7 @@ loop-preserved g c =
     let ps = (unnumbered_history h).points in
     let so = inv.so_far in
     let p : Tagged = (c.in_ok-point-2.point, c.in_ok-point-2.tag) in
-    let fewer : length so.points < was.base.count = omega (
-      arith,
-      points_count g.S.Store c.loop.store was c.args.m size old.base ps so,
-      as_many h,
-      inv.count,
-      c.loop-test.true,
-      ap (λ (b : Base). b.count) c.base-base.ensures,
-      ap (λ (b : Base). b.count) inv.later.base,
-    ) in
+    let fewer = is_fewer g (goal.at.loop-preserved g c).After-take_point-in-loop in
     let takes = c.in_ok-point-2.ensures.takes so.points so.heading fewer in
     let later = c.in_ok-point-2.ensures.later in
     let one = points_more g.S.Store c.loop.store c.take_point-in-loop.new.store was new c.args.m size old.base

@@ -1,9 +1,7 @@
 -- How far the points were read. Their layouts have numbers, for each of which the header has 9 bytes so far.
-use Rattle.std.proofs.Common.{◌≡◌, ◌+◌, ◌*◌, ◌≤◌, length}
+use Rattle.journal_replay.proofs.Common.{◌≡◌, ◌+◌, ◌*◌, ◌≤◌, length, NoFault, IsLater, reader_form, unnumbered_history}
+use Rattle.journal_replay.proofs.Common.{IsNumbered}
 use Rattle.disk_model.specs.Frames.{Kept as IsKept}
-use Rattle.project_journal.specs.{Answer.NoFault, Reader.IsLater, Reader.reader_form}
-use Rattle.project_state.specs.Numbers.{unnumbered_history}
-use Rattle.layout_uses.specs.Drawing.{IsNumbered}
 use Rattle.journal_replay.proofs.Pointed.{PointsSoFar}
 use Rattle.journal_replay.proofs.heading.read_points.Given as goal
 

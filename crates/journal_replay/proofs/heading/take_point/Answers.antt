@@ -1,6 +1,6 @@
 -- The point that was met, or where the file ends.
-use Rattle.std.proofs.Common.{◌∙◌, ap, ℕ, inl, refl, subst}
-use Rattle.project_journal.specs.{declared.records.Next.Next, Reader.GoesOn}
+use Rattle.journal_replay.proofs.Common.{◌∙◌, ap, ℕ, inl, refl, subst, Next}
+use Rattle.project_journal.specs.{Reader.GoesOn}
 use Rattle.journal_replay.proofs.{Journals.later_on, Pointed.takes}
 use Rattle.project_journal.specs.declared.fault.JournalFault.TheVariants as journal
 use Rattle.journal_replay.proofs.heading.take_point.Goals as goal

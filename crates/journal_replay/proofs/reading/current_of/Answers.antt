@@ -1,5 +1,5 @@
 -- The point at the cursor is the first after those before it.
-use Rattle.std.proofs.Common.{sym, ap, ◌∙◌, slice_get}
+use Rattle.journal_replay.proofs.Common.{sym, ap, ◌∙◌, slice_get}
 use Rattle.pcm_base.specs.History.{points_of}
 use Rattle.record_body.proofs.SavedBounds.{at_cursor}
 use Rattle.journal_replay.proofs.reading.current_of.Goals as goal

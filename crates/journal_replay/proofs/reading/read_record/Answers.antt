@@ -1,6 +1,5 @@
 -- By the version.
-use Rattle.std.proofs.Common.{arith, map}
-use Rattle.project_state.specs.Numbers.{unnumbered}
+use Rattle.journal_replay.proofs.Common.{arith, map, unnumbered}
 use Rattle.record_body.proofs.ShortEnds.{valid_half}
 use Rattle.journal_replay.proofs.Versions.{reads_old, reads_diff, shares_old}
 use Rattle.journal_replay.proofs.reading.read_record.Goals as goal

@@ -1,7 +1,5 @@
 -- The first test that fails is the one that is told.
-use Rattle.std.proofs.Common.{◌≡◌, ◌∙◌, ap}
-use Rattle.pcm_base.specs.History.{purged}
-use Rattle.journal_replay.specs.Faults.{out_of_range}
+use Rattle.journal_replay.proofs.Common.{◌≡◌, ◌∙◌, ap, purged, out_of_range}
 use Rattle.journal_replay.proofs.Valid.{purge_finds}
 use Rattle.record_body.specs.declared.limits.BadBody.TheVariants as bad
 use Rattle.journal_replay.proofs.steps.drop_oldest.Goals as goal

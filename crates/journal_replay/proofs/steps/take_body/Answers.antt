@@ -1,7 +1,5 @@
 -- By the kind of the record.
-use Rattle.std.proofs.Common.{List, subst}
-use Rattle.project_state.specs.declared.track.Track.{Track}
-use Rattle.record_body.specs.{declared.body.Body.Body, Saved.current_tracks, Told.BodyShares}
+use Rattle.journal_replay.proofs.Common.{List, subst, Track, Body, current_tracks, BodyShares}
 use Rattle.journal_replay.proofs.steps.take_body.Goals as goal
 
 pub take_edit-requires-clause-shared : goal.take_edit-requires-clause-shared

@@ -1,8 +1,6 @@
 -- The point is recorded with its numbers.
-use Rattle.std.proofs.Common.{◌+◌, List, sym, subst}
-use Rattle.pcm_base.specs.History.{History}
-use Rattle.project_state.specs.{declared.track.Track.Track, Numbers.AreNewOrCurrent}
-use Rattle.journal_replay.specs.declared.project.Project.{Project}
+use Rattle.journal_replay.proofs.Common.{◌+◌, List, sym, subst, History, Track, Project}
+use Rattle.project_state.specs.{Numbers.AreNewOrCurrent}
 use Rattle.journal_replay.proofs.Versions.{at_cursor}
 use Rattle.journal_replay.proofs.steps.take_edit.Goals as goal
 

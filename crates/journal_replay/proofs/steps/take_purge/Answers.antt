@@ -1,9 +1,6 @@
 -- The oldest points went.
-use Rattle.std.proofs.Common.{◌+◌, List, ap, ◌∙◌, arith}
-use Rattle.pcm_base.specs.History.{History}
-use Rattle.project_state.specs.{declared.track.Track.Track, Numbers.unnumbered_history}
+use Rattle.journal_replay.proofs.Common.{◌+◌, List, ap, ◌∙◌, arith, History, Track, unnumbered_history, Project}
 use Rattle.record_body.proofs.Unnumbered.{purged_alike}
-use Rattle.journal_replay.specs.declared.project.Project.{Project}
 use Rattle.journal_replay.proofs.Numbered.{left_numbers}
 use Rattle.journal_replay.proofs.steps.take_purge.Goals as goal
 

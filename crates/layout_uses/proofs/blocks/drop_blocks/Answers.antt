@@ -1,9 +1,5 @@
 -- The blocks so far are dropped.
-use Rattle.std.proofs.{Common.sym, Common.subst, Common.take, lemmas.Option.slice_get-get_or}
-use Rattle.pcm_base.specs.declared.block.BlockRef.{BlockRef}
-use Rattle.block_ledger.specs.Entries.{count_of}
-use Rattle.project_state.proofs.Points.{take_some}
-use Rattle.layout_uses.specs.Occurrences.{Dropped}
+use Rattle.layout_uses.proofs.Common.{sym, subst, take, slice_get-get_or, BlockRef, count_of, take_some, Dropped}
 use Rattle.layout_uses.proofs.{Times.dropped_more, Turns.next_named}
 use Rattle.layout_uses.proofs.blocks.drop_blocks.Goals as goal
 

@@ -1,9 +1,5 @@
 -- The blocks so far are held.
-use Rattle.std.proofs.{Common.sym, Common.subst, Common.inl, Common.take, lemmas.Option.slice_get-get_or}
-use Rattle.pcm_base.specs.declared.block.BlockRef.{BlockRef}
-use Rattle.block_ledger.specs.Entries.{count_of}
-use Rattle.project_state.proofs.Points.{take_some}
-use Rattle.layout_uses.specs.Occurrences.{Held}
+use Rattle.layout_uses.proofs.Common.{sym, subst, inl, take, slice_get-get_or, BlockRef, count_of, take_some, Held}
 use Rattle.layout_uses.proofs.{Times.held_more, Turns.next_there, Turns.next_few}
 use Rattle.layout_uses.proofs.blocks.hold_blocks.Goals as goal
 

@@ -1,6 +1,5 @@
 -- A track more has a current one's number: it is that one, or it has that one's layout.
-use Rattle.std.proofs.Common.{inl, refl, sym, ap, ◌∙◌}
-use Rattle.project_state.specs.declared.track.Track.{Track}
+use Rattle.layout_uses.proofs.Common.{inl, refl, sym, ap, ◌∙◌, Track}
 use Rattle.layout_uses.proofs.Draws.{at_among, same_but_number}
 use Rattle.layout_uses.proofs.drawing.draw_new.Goals as goal
 

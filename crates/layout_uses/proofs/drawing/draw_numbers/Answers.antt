@@ -1,9 +1,7 @@
 -- One track more has its number.
-use Rattle.std.proofs.Common.{sym, subst, ap, ◌∙◌, List, ◌++◌, ◌∷◌, [], map, take, arith}
-use Rattle.std.proofs.lemmas.List.{length-take, map-append}
-use Rattle.project_state.specs.{declared.track.Track.Track, Numbers.unnumbered}
-use Rattle.project_state.proofs.Points.{take_some, taken_below}
-use Rattle.layout_uses.specs.Drawing.{Draws, HasNumbers}
+use Rattle.layout_uses.proofs.Common.{sym, subst, ap, ◌∙◌, List, ◌++◌, ◌∷◌, [], map, take, arith, length-take}
+use Rattle.layout_uses.proofs.Common.{map-append, Track, unnumbered, take_some, Draws, HasNumbers}
+use Rattle.project_state.proofs.Points.{taken_below}
 use Rattle.layout_uses.proofs.Draws.{below_same, numbers_more, numbers_none, same_length}
 use Rattle.layout_uses.proofs.drawing.draw_numbers.Goals as goal
 

@@ -1,7 +1,5 @@
 -- The tracks so far have their numbers.
-use Rattle.std.proofs.Common.{◌≡◌, ◌+◌, ◌≤◌, map, take}
-use Rattle.project_state.specs.Numbers.{unnumbered}
-use Rattle.layout_uses.specs.Drawing.{HasNumbers}
+use Rattle.layout_uses.proofs.Common.{◌≡◌, ◌+◌, ◌≤◌, map, take, unnumbered, HasNumbers}
 use Rattle.layout_uses.proofs.drawing.draw_numbers.Given as goal
 
 abbrev pub invariant-loop-i : goal.invariant-loop-i

@@ -1,6 +1,5 @@
 -- A track that has a number is the current one.
-use Rattle.std.proofs.Common.{inl, refl, sym, subst, ◌∙◌}
-use Rattle.project_state.specs.{declared.track.Track.Track, Tracks.AllBelow}
+use Rattle.layout_uses.proofs.Common.{inl, refl, sym, subst, ◌∙◌, Track, AllBelow}
 use Rattle.project_state.proofs.Points.{some_is}
 use Rattle.layout_uses.proofs.Draws.{kept_among}
 use Rattle.layout_uses.proofs.drawing.draw_track.Goals as goal

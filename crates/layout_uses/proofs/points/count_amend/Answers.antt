@@ -1,7 +1,5 @@
 -- A point comes in the place of the current one, and those after it go.
-use Rattle.std.proofs.Common.{sym, subst, ℕ, take, drop}
-use Rattle.pcm_base.specs.History.{points_of}
-use Rattle.layout_uses.specs.{Layouts.points_tracks, Tallies.Goes, Tallies.Has}
+use Rattle.layout_uses.proofs.Common.{sym, subst, ℕ, take, drop, points_of, points_tracks, Goes, Has}
 use Rattle.layout_uses.proofs.Histories.{became_amended, has_last, rest_is}
 use Rattle.layout_uses.proofs.points.count_amend.Goals as goal
 

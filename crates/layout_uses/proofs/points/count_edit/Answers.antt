@@ -1,8 +1,7 @@
 -- A point comes after the current one, and others go.
-use Rattle.std.proofs.Common.{◌≡◌, sym, subst, ◌∙◌, ap, ℕ, ◌+◌, ◌-◌, ◌≤◌, take, drop, arith}
-use Rattle.pcm_base.specs.History.{points_of}
-use Rattle.layout_uses.specs.{Layouts.points_tracks, Tallies.Goes, Tallies.Has}
-use Rattle.layout_uses.proofs.Histories.{became_edited, has_last, has_oldest, rest_is}
+use Rattle.layout_uses.proofs.Common.{◌≡◌, sym, subst, ◌∙◌, ap, ℕ, ◌+◌, ◌-◌, take, drop, arith, points_of}
+use Rattle.layout_uses.proofs.Common.{points_tracks, Has}
+use Rattle.layout_uses.proofs.Histories.{became_edited, goes_rest, has_last, has_oldest, rest_is}
 use Rattle.layout_uses.proofs.points.count_edit.Goals as goal
 
 pub leave_points-requires-clause-all : goal.leave_points-requires-clause-all
@@ -19,36 +18,24 @@ pub leave_points-requires-2-clause-all : goal.leave_points-requires-2-clause-all
 leave_points-requires-2-clause-all c =
     let h = c.args.history.now.history in
     let n = c.cursor-kept.result + 1 in
-    let went = subst (λ z. Goes z c.use_point.new.self c.leave_points.new.tally) (rest_is h n)
-    (subst (λ (k : ℕ). Goes (points_tracks (drop n (take k (points_of h)))) c.use_point.new.self
-    c.leave_points.new.tally) c.len-len.ensures.len c.leave_points.ensures) in
-    let le : c.saturating_sub.result ≤ n = omega (
-      arith,
-      c.saturating_sub.ensures,
-      c.depth-depth.ensures.whole.current,
-      c.depth-depth.ensures.whole.few,
-      c.depth-depth.ensures.depth,
-    ) in
+    let went = goes_rest h n _ c.use_point.new.self c.leave_points.new.tally c.len-len.ensures.len
+    c.leave_points.ensures in
+    let whole = c.depth-depth.ensures.whole in
     has_oldest h c.cursor-kept.ensures.whole c.args.point.now n c.args.tally.now c.use_point.new.self
-    c.use_point.ensures c.leave_points.new.tally went c.saturating_sub.result le c.requires.counted
+    c.use_point.ensures c.leave_points.new.tally went c.saturating_sub.result
+    (omega (arith, c.saturating_sub.ensures, whole.current, whole.few, c.depth-depth.ensures.depth)) c.requires.counted
 
 pub returns : goal.returns
 returns c tag =
     let h = c.args.history.now.history in
     let n = c.cursor-kept.result + 1 in
-    let went = subst (λ z. Goes z c.use_point.new.self c.leave_points.new.tally) (rest_is h n)
-    (subst (λ (k : ℕ). Goes (points_tracks (drop n (take k (points_of h)))) c.use_point.new.self
-    c.leave_points.new.tally) c.len-len.ensures.len c.leave_points.ensures) in
-    let le : c.saturating_sub.result ≤ n = omega (
-      arith,
-      c.saturating_sub.ensures,
-      c.depth-depth.ensures.whole.current,
-      c.depth-depth.ensures.whole.few,
-      c.depth-depth.ensures.depth,
-    ) in
+    let went = goes_rest h n _ c.use_point.new.self c.leave_points.new.tally c.len-len.ensures.len
+    c.leave_points.ensures in
+    let d = c.depth-depth.ensures in
     let at : n ≡ h.cursor + 1 = ap (λ (k : ℕ). k + 1) c.cursor-kept.ensures.cursor in
     let away : c.saturating_sub.result ≡ h.cursor + 1 + 1 - h.depth =
     c.saturating_sub.ensures ∙ (λ i. c.cursor-kept.ensures.cursor i + 1 + 1 - c.depth-depth.ensures.depth i) in
     became_edited h c.cursor-kept.ensures.whole c.args.point.now n c.args.tally.now c.use_point.new.self
-    c.use_point.ensures c.leave_points.new.tally went c.saturating_sub.result le c.leave_points-2.new.tally tag
+    c.use_point.ensures c.leave_points.new.tally went c.saturating_sub.result
+    (omega (arith, c.saturating_sub.ensures, d.whole.current, d.whole.few, d.depth)) c.leave_points-2.new.tally tag
     c.leave_points-2.ensures at away

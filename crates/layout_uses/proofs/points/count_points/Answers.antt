@@ -1,7 +1,5 @@
 -- One point more is counted.
-use Rattle.std.proofs.Common.{◌≡◌, subst, ℕ, ◌+◌, ◌-◌, drop, arith}
-use Rattle.pcm_base.specs.History.{points_of}
-use Rattle.layout_uses.specs.{Layouts.points_tracks, Tallies.Comes}
+use Rattle.layout_uses.proofs.Common.{◌≡◌, subst, ℕ, ◌+◌, ◌-◌, drop, arith, points_of, points_tracks, Comes}
 use Rattle.layout_uses.proofs.{Histories.point_came, Histories.point_few, Histories.point_there, Onward.came_roomy}
 use Rattle.layout_uses.proofs.points.count_points.Goals as goal
 

@@ -1,7 +1,6 @@
 -- Calls in order by file leave the same disk.
-use Rattle.std.proofs.Common.{List, length, sym, ◌∙◌, ap, subst}
-use Rattle.memory_disk.specs.Calls.{AllHeld, history_of}
-use Rattle.memory_disk.specs.{Images.image_of, ByFile.IsByFile, declared.call.Call.Call}
+use Rattle.memory_disk.proofs.Common.{List, length, sym, ◌∙◌, ap, subst, AllHeld, history_of, image_of, Call}
+use Rattle.memory_disk.specs.{ByFile.IsByFile}
 use Rattle.memory_disk.proofs.FileCalls.{image_alike}
 use Rattle.memory_disk.proofs.build.build.Goals as goal
 

@@ -1,7 +1,6 @@
 -- One file more.
-use Rattle.std.proofs.Common.{rules, ◌≡◌, [], ℕ, List, length, get_or, refl, sym, ◌∙◌, subst, arith}
-use Rattle.memory_disk.specs.Calls.{AllHeld, history_of, items_of}
-use Rattle.memory_disk.specs.{Images.IsLeft, Images.image_of, ByFile.calls_of, declared.call.Call.Call}
+use Rattle.memory_disk.proofs.Common.{rules, ◌≡◌, [], ℕ, List, length, get_or, refl, sym, ◌∙◌, subst, arith, AllHeld}
+use Rattle.memory_disk.proofs.Common.{history_of, items_of, IsLeft, image_of, calls_of, Call}
 use Rattle.memory_disk.proofs.{Builds.held_start, Builds.built_start, Builds.built_next, FileCalls.held_own}
 use Rattle.memory_disk.proofs.{FileCalls.is_left_own, Rising.starts, Rising.goes_on, Rising.is_image}
 use Rattle.memory_disk.proofs.build.build_all.Goals as goal

@@ -1,6 +1,6 @@
 -- The files so far are as in the image, and the generator stands where the next file's draws begin.
-use Rattle.std.proofs.Common.{◌≡◌, ℕ, ◌≤◌, ◌<◌, length, get_or}
-use Rattle.memory_disk.specs.{Images.state_at, Images.image_of, Calls.AllHeld, Calls.history_of, Settled.IsBuilt}
+use Rattle.memory_disk.proofs.Common.{◌≡◌, ℕ, ◌≤◌, ◌<◌, length, get_or, image_of, AllHeld, history_of, IsBuilt}
+use Rattle.memory_disk.specs.{Images.state_at}
 use Rattle.memory_disk.proofs.build.build_all.Given as goal
 
 abbrev pub invariant-loop-file : goal.invariant-loop-file

@@ -1,6 +1,6 @@
 -- The files that are named are all that the image has.
-use Rattle.std.proofs.Common.{◌∙◌, ap}
-use Rattle.memory_disk.specs.{Images.Left, Images.image_of, Images.state_at, Calls.history_of}
+use Rattle.memory_disk.proofs.Common.{◌∙◌, ap, Left, image_of, history_of}
+use Rattle.memory_disk.specs.{Images.state_at}
 use Rattle.memory_disk.proofs.Names.{built_all, not_listed}
 use Rattle.memory_disk.proofs.build.build_sorted.Goals as goal
 

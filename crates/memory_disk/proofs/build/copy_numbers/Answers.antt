@@ -1,5 +1,5 @@
 -- The keys rise.
-use Rattle.std.proofs.Common.{◌≡◌, rules}
+use Rattle.memory_disk.proofs.Common.{◌≡◌, rules}
 use Rattle.memory_disk.proofs.Names.{keys_rise}
 use Rattle.memory_disk.proofs.build.copy_numbers.Goals as goal
 

@@ -1,5 +1,5 @@
 -- What was copied and what is left are the keys.
-use Rattle.std.proofs.Common.{◌≡◌, ◌++◌}
+use Rattle.memory_disk.proofs.Common.{◌≡◌, ◌++◌}
 use Rattle.memory_disk.proofs.build.copy_numbers.Given as goal
 
 abbrev pub invariant-loop-file : goal.invariant-loop-file

@@ -1,6 +1,5 @@
 -- One call more.
-use Rattle.std.proofs.Common.{◌≡◌, None, List, sym, subst, arith}
-use Rattle.memory_disk.specs.{History.Step, History.reads_of, Images.IsUnnamed}
+use Rattle.memory_disk.proofs.Common.{◌≡◌, None, List, sym, subst, arith, Step, reads_of, IsUnnamed}
 use Rattle.memory_disk.proofs.CallsLemmas.{history_next}
 use Rattle.memory_disk.proofs.build.named.Goals as goal
 

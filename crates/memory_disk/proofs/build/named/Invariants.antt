@@ -1,7 +1,5 @@
 -- No other file was written or removed so far.
-use Rattle.std.proofs.Common.{◌≡◌, ℕ, None, false, take}
-use Rattle.std.specs.{Ordering.nat_cmp, BTreeSet.contains}
-use Rattle.memory_disk.specs.{History.reads_of, Images.IsUnnamed, Calls.history_of}
+use Rattle.memory_disk.proofs.Common.{◌≡◌, ℕ, None, false, take, nat_cmp, contains, reads_of, IsUnnamed, history_of}
 use Rattle.memory_disk.proofs.build.named.Given as goal
 
 abbrev pub invariant-loop-call : goal.invariant-loop-call

@@ -1,7 +1,6 @@
 -- The file is removed, written and synced.
-use Rattle.std.proofs.Common.{◌≡◌, ◌∷◌, ℕ, Option, List, sym, subst, ap, ◌∙◌}
-use Rattle.memory_disk.specs.History.{Wrote, Synced, Removed}
-use Rattle.memory_disk.specs.{Calls.history_of, Calls.items_of, Settled.SetsFile, declared.call.Call.Call}
+use Rattle.memory_disk.proofs.Common.{◌≡◌, ◌∷◌, ℕ, Option, List, sym, subst, ap, ◌∙◌, Wrote, Synced, Removed}
+use Rattle.memory_disk.proofs.Common.{history_of, items_of, SetsFile, Call}
 use Rattle.memory_disk.proofs.Builds.{sets_written}
 use Rattle.memory_disk.proofs.build.set_file.Goals as goal
 

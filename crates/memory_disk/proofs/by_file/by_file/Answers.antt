@@ -1,7 +1,6 @@
 -- The sort is stable.
-use Rattle.std.proofs.Common.{◌≡◌, List, sym, ◌∙◌, ap, subst, rules}
+use Rattle.memory_disk.proofs.Common.{◌≡◌, List, sym, ◌∙◌, ap, subst, rules, Held, AllHeld, calls_of, Call}
 use Rattle.std.proofs.lemmas.List.Sorted.{answers_always, IsNonDecreasingBy-from_sort_by_key, All-permutation}
-use Rattle.memory_disk.specs.{Calls.Held, Calls.AllHeld, ByFile.calls_of, declared.call.Call.Call}
 use Rattle.memory_disk.proofs.FileCalls.{stable_calls, each_held, all_held}
 use Rattle.memory_disk.proofs.by_file.by_file.Goals as goal
 

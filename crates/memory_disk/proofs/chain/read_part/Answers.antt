@@ -1,9 +1,6 @@
 -- A window within the file is a part of it.
-use Rattle.std.proofs.Common.{◌≡◌, ◌++◌, ℕ, List, drop, length, ap, ◌∙◌, arith}
-use Rattle.std.proofs.lemmas.List.{length-take-le}
-use Rattle.std.specs.Option.{option_map, unwrap_or}
-use Rattle.disk_model.specs.Disk.{Files, bytes_of}
-use Rattle.memory_disk.specs.{History.reads_of, Calls.history_of}
+use Rattle.memory_disk.proofs.Common.{◌≡◌, ◌++◌, ℕ, List, drop, length, ap, ◌∙◌, arith, length-take-le, option_map}
+use Rattle.memory_disk.proofs.Common.{unwrap_or, Files, bytes_of, reads_of, history_of}
 use Rattle.memory_disk.proofs.{Windows.window_part, Windows.size_of_absent, ReadChain.reads_all}
 use Rattle.memory_disk.proofs.chain.read_part.Goals as goal
 

@@ -1,7 +1,5 @@
 -- One call of the file more, and the last.
-use Rattle.std.proofs.Common.{◌≡◌, ℕ, Option, List, sym, subst, arith}
-use Rattle.disk_model.specs.Disk.{bytes_of}
-use Rattle.memory_disk.specs.{Calls.IsWindow, Index.reads_at, Index.no_call}
+use Rattle.memory_disk.proofs.Common.{◌≡◌, ℕ, Option, List, sym, subst, arith, bytes_of, IsWindow, reads_at, no_call}
 use Rattle.memory_disk.proofs.{CallsLemmas.held_at, ReadChain.shows_next, ReadChain.shows_all}
 use Rattle.memory_disk.proofs.chain.show_chain.Goals as goal
 

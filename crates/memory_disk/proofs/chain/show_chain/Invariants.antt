@@ -1,7 +1,5 @@
 -- The window shows the file before its next call.
-use Rattle.std.proofs.Common.{◌≡◌, ◌≤◌, ◌-◌}
-use Rattle.disk_model.specs.Disk.{bytes_of}
-use Rattle.memory_disk.specs.{Calls.IsWindow, Index.reads_at, Index.file_at}
+use Rattle.memory_disk.proofs.Common.{◌≡◌, ◌≤◌, ◌-◌, bytes_of, IsWindow, reads_at, file_at}
 use Rattle.memory_disk.proofs.chain.show_chain.Given as goal
 
 abbrev pub invariant-loop-next : goal.invariant-loop-next

@@ -1,5 +1,6 @@
 -- The product may wrap before the sum.
-use Rattle.std.proofs.{Common.ℕ, Common.◌*◌, Common.◌^◌, Common.ap, Common.◌∙◌, Common.arith, Math.Nat.add-mod-mod}
+use Rattle.memory_disk.proofs.Common.{ℕ, ◌^◌, ap, ◌∙◌, arith}
+use Rattle.std.proofs.{Common.◌*◌, Math.Nat.add-mod-mod}
 use Rattle.std.specs.Prelude.{◌%◌}
 use Rattle.memory_disk.specs.Images.{next_state}
 use Rattle.memory_disk.proofs.draws.next.Goals as goal

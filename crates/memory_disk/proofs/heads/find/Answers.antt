@@ -1,6 +1,5 @@
 -- The head at its place, or nowhere.
-use Rattle.std.proofs.Common.{refl, sym, arith}
-use Rattle.memory_disk.specs.Index.{no_head}
+use Rattle.memory_disk.proofs.Common.{refl, sym, arith, no_head}
 use Rattle.memory_disk.proofs.HeadLists.{head_found, head_nowhere}
 use Rattle.memory_disk.proofs.heads.find.Goals as goal
 

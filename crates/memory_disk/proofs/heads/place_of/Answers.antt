@@ -1,7 +1,6 @@
 -- The heads below the file come first.
-use Rattle.std.proofs.{Common.ltb, Common.ltb-true, Common.arith, Common.rules, lemmas.Bool.ltb-false}
-use Rattle.std.proofs.{lemmas.List.Sorted.IsPartitionPoint-from_clause, lemmas.List.Sorted.IsPartitionedBy-ltb}
-use Rattle.memory_disk.specs.declared.heads.Head.{Head}
+use Rattle.memory_disk.proofs.Common.{ltb, ltb-true, arith, rules, ltb-false, IsPartitionPoint-from_clause}
+use Rattle.memory_disk.proofs.Common.{IsPartitionedBy-ltb, Head}
 use Rattle.memory_disk.proofs.HeadLists.{not_falling}
 use Rattle.memory_disk.proofs.heads.place_of.Goals as goal
 

@@ -1,8 +1,6 @@
 -- The head takes the place of the old one, or comes among the others.
-use Rattle.std.proofs.Common.{◌≡◌, ◌≢◌, ℕ, ◌≤◌, ◌<◌, Option, None, List, length, get_or, refl, sym, ap, subst, ◌∙◌}
-use Rattle.std.proofs.Common.{arith}
-use Rattle.std.specs.Prelude.{IsSome}
-use Rattle.memory_disk.specs.{Index.AreRising, Index.head_of, Index.no_head, declared.heads.Head.Head}
+use Rattle.memory_disk.proofs.Common.{◌≡◌, ◌≢◌, ℕ, ◌≤◌, ◌<◌, Option, None, List, length, get_or, refl, sym, ap, subst}
+use Rattle.memory_disk.proofs.Common.{◌∙◌, arith, IsSome, AreRising, head_of, no_head, Head}
 use Rattle.memory_disk.proofs.HeadLists.{not_falling, head_nowhere, head_replaced, head_inserted, rising_replaced}
 use Rattle.memory_disk.proofs.HeadLists.{rising_inserted}
 use Rattle.memory_disk.proofs.heads.put.Goals as goal

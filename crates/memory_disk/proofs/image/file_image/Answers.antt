@@ -1,6 +1,5 @@
 -- The calls up to the last sync and those from there on.
-use Rattle.std.proofs.Common.{Option, List, ℕ, sym, subst, take}
-use Rattle.memory_disk.specs.{Images.IsLeft, Calls.history_of}
+use Rattle.memory_disk.proofs.Common.{Option, List, ℕ, sym, subst, take, IsLeft, history_of}
 use Rattle.memory_disk.proofs.{CallsLemmas.held_take, LeftCalls.held_rest, LeftCalls.left_parts}
 use Rattle.memory_disk.proofs.image.file_image.Goals as goal
 

@@ -1,7 +1,5 @@
 -- One call more.
-use Rattle.std.proofs.Common.{ℕ, take, sym, ◌∙◌, subst, arith}
-use Rattle.memory_disk.specs.Calls.{history_on, items_of}
-use Rattle.memory_disk.specs.{declared.call.Call.Call, declared.call.Kind.TheVariants.Write, Images.IsLeft}
+use Rattle.memory_disk.proofs.Common.{ℕ, take, sym, ◌∙◌, subst, arith, history_on, items_of, Call, Write, IsLeft}
 use Rattle.memory_disk.proofs.{CallsLemmas.held_at, LeftCalls.left_next}
 use Rattle.memory_disk.proofs.image.leave_calls.Goals as goal
 

@@ -1,6 +1,5 @@
 -- What is left after the calls so far.
-use Rattle.std.proofs.Common.{◌≡◌, ℕ, List, take}
-use Rattle.memory_disk.specs.{History.Step, Images.IsLeft, Calls.history_on, Calls.items_of}
+use Rattle.memory_disk.proofs.Common.{◌≡◌, ℕ, List, take, Step, IsLeft, history_on, items_of}
 use Rattle.memory_disk.proofs.image.leave_calls.Given as goal
 
 abbrev pub invariant-loop-call : goal.invariant-loop-call

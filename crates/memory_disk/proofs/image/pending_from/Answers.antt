@@ -1,5 +1,5 @@
 -- The call before is a sync of the file.
-use Rattle.std.proofs.Common.{refl}
+use Rattle.memory_disk.proofs.Common.{refl}
 use Rattle.memory_disk.proofs.LeftCalls.{after_sync}
 use Rattle.memory_disk.proofs.image.pending_from.Goals as goal
 

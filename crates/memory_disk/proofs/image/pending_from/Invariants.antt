@@ -1,5 +1,5 @@
 -- No call from here on is a sync of the file.
-use Rattle.std.proofs.Common.{◌≤◌, length, drop}
+use Rattle.memory_disk.proofs.Common.{◌≤◌, length, drop}
 use Rattle.std.specs.Prelude.{All}
 use Rattle.memory_disk.specs.Calls.{IsNoSync}
 use Rattle.memory_disk.proofs.image.pending_from.Given as goal

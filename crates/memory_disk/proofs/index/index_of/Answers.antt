@@ -1,7 +1,6 @@
 -- One call more, until all are there.
-use Rattle.std.proofs.Common.{◌≡◌, ℕ, length, List, sym, subst, arith}
-use Rattle.std.specs.Prelude.{vec_len}
-use Rattle.memory_disk.specs.{Index.IsIndexed, Index.reads_at, Index.file_at, declared.heads.Head.Head}
+use Rattle.memory_disk.proofs.Common.{◌≡◌, ℕ, length, List, sym, subst, arith, vec_len, IsIndexed, reads_at, file_at}
+use Rattle.memory_disk.proofs.Common.{Head}
 use Rattle.memory_disk.proofs.Noted.{indexed_none}
 use Rattle.memory_disk.proofs.index.index_of.Goals as goal
 

@@ -1,7 +1,5 @@
 -- The calls so far have their index.
-use Rattle.std.proofs.Common.{◌≤◌, ◌-◌, length}
-use Rattle.std.specs.Prelude.{vec_len}
-use Rattle.memory_disk.specs.Index.{IsIndexed, reads_at, file_at}
+use Rattle.memory_disk.proofs.Common.{◌≤◌, ◌-◌, length, vec_len, IsIndexed, reads_at, file_at}
 use Rattle.memory_disk.proofs.index.index_of.Given as goal
 
 abbrev pub invariant-loop-index : goal.invariant-loop-index

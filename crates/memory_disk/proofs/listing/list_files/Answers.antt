@@ -1,7 +1,5 @@
 -- What is listed is what is there.
-use Rattle.std.proofs.{Common.map, Common.ap, Common.◌∙◌, Common.arith, Common.List, lemmas.List.take_all}
-use Rattle.std.specs.{List.filter, Prelude.is_some}
-use Rattle.memory_disk.specs.declared.heads.Head.{Head}
+use Rattle.memory_disk.proofs.Common.{map, ap, ◌∙◌, arith, List, take_all, filter, is_some, Head}
 use Rattle.memory_disk.proofs.Listings.{files_listed, files_rise}
 use Rattle.memory_disk.proofs.listing.list_files.Goals as goal
 

@@ -1,7 +1,5 @@
 -- The files so far that are there.
-use Rattle.std.proofs.Common.{◌≡◌, map, take}
-use Rattle.std.specs.{Prelude.is_some, List.filter}
-use Rattle.memory_disk.specs.declared.heads.Head.{Head}
+use Rattle.memory_disk.proofs.Common.{◌≡◌, map, take, is_some, filter, Head}
 use Rattle.memory_disk.proofs.listing.list_files.Given as goal
 
 abbrev pub invariant-loop-head : goal.invariant-loop-head

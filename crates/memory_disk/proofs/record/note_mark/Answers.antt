@@ -1,5 +1,5 @@
 -- One call more, without bytes.
-use Rattle.std.proofs.Common.{arith}
+use Rattle.memory_disk.proofs.Common.{arith}
 use Rattle.memory_disk.proofs.CallsLemmas.{history_mark, held_mark}
 use Rattle.memory_disk.proofs.record.note_mark.Goals as goal
 

@@ -1,5 +1,5 @@
 -- One call more, whose bytes are the newest.
-use Rattle.std.proofs.Common.{length, ap, arith, length-append}
+use Rattle.memory_disk.proofs.Common.{length, ap, arith, length-append}
 use Rattle.memory_disk.proofs.CallsLemmas.{history_write, held_mark}
 use Rattle.memory_disk.proofs.record.note_write.Goals as goal
 

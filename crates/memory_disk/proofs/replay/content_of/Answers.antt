@@ -1,6 +1,5 @@
 -- A window on all of a file is the file.
-use Rattle.std.proofs.Common.{arith}
-use Rattle.memory_disk.specs.{History.reads_of, Calls.history_of}
+use Rattle.memory_disk.proofs.Common.{arith, reads_of, history_of}
 use Rattle.memory_disk.proofs.Windows.{window_whole}
 use Rattle.memory_disk.proofs.replay.content_of.Goals as goal
 

@@ -1,7 +1,5 @@
 -- One call more.
-use Rattle.std.proofs.Common.{sym, subst, List, arith}
-use Rattle.disk_model.specs.Disk.{bytes_of}
-use Rattle.memory_disk.specs.{History.Step, History.reads_of, Calls.IsWindow}
+use Rattle.memory_disk.proofs.Common.{sym, subst, List, arith, bytes_of, Step, reads_of, IsWindow}
 use Rattle.memory_disk.proofs.CallsLemmas.{held_at, history_next}
 use Rattle.memory_disk.proofs.replay.read_window.Goals as goal
 

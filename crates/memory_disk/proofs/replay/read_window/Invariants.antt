@@ -1,7 +1,5 @@
 -- The window shows the file after the calls so far.
-use Rattle.std.proofs.Common.{take}
-use Rattle.disk_model.specs.Disk.{bytes_of}
-use Rattle.memory_disk.specs.{History.reads_of, Calls.history_of, Calls.IsWindow}
+use Rattle.memory_disk.proofs.Common.{take, bytes_of, reads_of, history_of, IsWindow}
 use Rattle.memory_disk.proofs.replay.read_window.Given as goal
 
 abbrev pub invariant-loop-call : goal.invariant-loop-call

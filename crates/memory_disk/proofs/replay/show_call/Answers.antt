@@ -1,7 +1,5 @@
 -- A write as the window shows it.
-use Rattle.std.proofs.Common.{ℕ, List, sym, subst, ap, ◌∙◌, arith}
-use Rattle.disk_model.specs.Disk.{bytes_of, written}
-use Rattle.memory_disk.specs.{History.reads_of, Calls.IsWindow}
+use Rattle.memory_disk.proofs.Common.{ℕ, List, sym, subst, ap, ◌∙◌, arith, bytes_of, written, reads_of, IsWindow}
 use Rattle.memory_disk.proofs.Windows.{window_written, reads_call}
 use Rattle.memory_disk.proofs.replay.show_call.Goals as goal
 

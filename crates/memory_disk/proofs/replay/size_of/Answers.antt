@@ -1,7 +1,5 @@
 -- One call more.
-use Rattle.std.proofs.Common.{length, sym, ap, ◌∙◌, List, arith}
-use Rattle.std.specs.Option.{option_map}
-use Rattle.memory_disk.specs.History.{Step, reads_of}
+use Rattle.memory_disk.proofs.Common.{length, sym, ap, ◌∙◌, List, arith, option_map, Step, reads_of}
 use Rattle.memory_disk.proofs.CallsLemmas.{held_at, history_next}
 use Rattle.memory_disk.proofs.replay.size_of.Goals as goal
 

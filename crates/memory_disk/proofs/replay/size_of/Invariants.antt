@@ -1,7 +1,5 @@
 -- The size after the calls so far.
-use Rattle.std.proofs.Common.{◌≡◌, ◌≤◌, ◌^◌, IfSome, length, take}
-use Rattle.std.specs.Option.{option_map}
-use Rattle.memory_disk.specs.{History.reads_of, Calls.history_of}
+use Rattle.memory_disk.proofs.Common.{◌≡◌, ◌≤◌, ◌^◌, IfSome, length, take, option_map, reads_of, history_of}
 use Rattle.memory_disk.proofs.replay.size_of.Given as goal
 
 abbrev pub invariant-loop-call : goal.invariant-loop-call

@@ -1,16 +1,9 @@
 -- One stretch more is mixed.
-use Rattle.std.proofs.Common.{◌≡◌, ℕ, ◌+◌, ◌-◌, ◌≤◌, List, length, take, drop, map, refl, sym, ap, subst, ◌∙◌, Err, Ok}
-use Rattle.std.proofs.Common.{arith, length-drop}
-use Rattle.std.proofs.lemmas.List.{length-take}
-use Rattle.disk_model.specs.Disk.{Files}
-use Rattle.pcm_base.specs.{declared.sound.Frame.Frame, Arithmetic.counted_from, Mix.frame_at}
-use Rattle.project_state.specs.{declared.track.Track.Track, Meaning.meant, Meaning.point_blocks}
-use Rattle.block_cache.specs.Readers.{Reads}
-use Rattle.block_cache.specs.Caches.{Entries, SameCache}
-use Rattle.block_cache.proofs.CacheLaws.{same_none, same_turn}
-use Rattle.block_cache.proofs.ReaderLaws.{reads_none, reads_then, told_on}
-use Rattle.cell_reader.specs.Stored.{stored_of}
-use Rattle.mix_reader.specs.Heard.{HasHeard}
+use Rattle.mix_reader.proofs.Common.{◌≡◌, ℕ, ◌+◌, ◌-◌, ◌≤◌, List, length, take, drop, map, refl, sym, ap, subst, ◌∙◌}
+use Rattle.mix_reader.proofs.Common.{Ok, arith, length-drop, length-take, Files, Frame, counted_from, frame_at, Track}
+use Rattle.mix_reader.proofs.Common.{meant, point_blocks, Reads, Entries, SameCache, same_none, same_turn, reads_none}
+use Rattle.mix_reader.proofs.Common.{reads_then, told_on, stored_of, HasHeard}
+use Rattle.std.proofs.Common.{Err}
 use Rattle.mix_reader.proofs.{CountLaws.made_more, PageLaws.heard_on, PageLaws.heard_part}
 use Rattle.mix_reader.proofs.frames.mix_stretches.Goals as goal
 

@@ -1,11 +1,7 @@
 -- The frames so far are those of the mix, and the reader stands after them.
-use Rattle.std.proofs.Common.{◌≡◌, ◌≤◌, ◌+◌, ◌-◌, length, take, map, Ok}
-use Rattle.std.specs.Prelude.{IsTrue}
-use Rattle.pcm_base.specs.{Arithmetic.counted_from, Mix.frame_at}
-use Rattle.project_state.specs.Meaning.{meant, point_blocks}
-use Rattle.block_cache.specs.{Caches.SameCache, Readers.Reads}
-use Rattle.cell_reader.specs.Stored.{stored_of}
-use Rattle.mix_reader.specs.{Heard.HasHeard, Readers.IsReader}
+use Rattle.mix_reader.proofs.Common.{◌≡◌, ◌≤◌, ◌+◌, ◌-◌, length, take, map, Ok, IsTrue, counted_from, frame_at, meant}
+use Rattle.mix_reader.proofs.Common.{point_blocks, SameCache, Reads, stored_of, HasHeard}
+use Rattle.mix_reader.specs.{Readers.IsReader}
 use Rattle.mix_reader.proofs.frames.mix_stretches.Given as goal
 
 abbrev pub invariant-stretches : goal.invariant-stretches

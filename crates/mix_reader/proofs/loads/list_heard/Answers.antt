@@ -1,8 +1,6 @@
 -- One track more is listed.
-use Rattle.std.proofs.Common.{ℕ, List, [], ◌∷◌, ◌++◌, take, ap, sym, ◌∙◌}
-use Rattle.project_state.specs.declared.track.Track.{Track}
-use Rattle.project_state.proofs.Points.{take_some}
-use Rattle.mix_reader.specs.Heard.{heard_gains, heard_sides}
+use Rattle.mix_reader.proofs.Common.{ℕ, List, [], ◌∷◌, ◌++◌, take, ap, sym, ◌∙◌, Track, take_some, heard_gains}
+use Rattle.mix_reader.proofs.Common.{heard_sides}
 use Rattle.mix_reader.proofs.HeardLaws.{gains_append, sides_append}
 use Rattle.mix_reader.proofs.loads.list_heard.Goals as goal
 

@@ -1,6 +1,5 @@
 -- The tracks so far are listed.
-use Rattle.std.proofs.Common.{◌≡◌, take}
-use Rattle.mix_reader.specs.Heard.{heard_gains, heard_sides}
+use Rattle.mix_reader.proofs.Common.{◌≡◌, take, heard_gains, heard_sides}
 use Rattle.mix_reader.proofs.loads.list_heard.Given as goal
 
 abbrev pub invariant-rows : goal.invariant-rows

@@ -1,10 +1,6 @@
 -- What is loaded is what the tracks mean.
-use Rattle.std.proofs.Common.{◌≤◌, ◌+◌, ◌∙◌, subst, refl, arith}
-use Rattle.pcm_base.proofs.Exits.{exit_err}
-use Rattle.pcm_base.specs.Cells.{Project}
-use Rattle.project_state.specs.Meaning.{point_blocks}
-use Rattle.block_cache.proofs.{CacheLaws.same_none, ReaderLaws.reads_err, ReaderLaws.reads_none, ReaderLaws.reads_ok}
-use Rattle.cell_reader.proofs.SeenLaws.{valid_in}
+use Rattle.mix_reader.proofs.Common.{◌≤◌, ◌+◌, ◌∙◌, subst, refl, arith, exit_err, Project, point_blocks, same_none}
+use Rattle.mix_reader.proofs.Common.{reads_err, reads_none, reads_ok, valid_in}
 use Rattle.mixdown.specs.Loads.{Shows}
 use Rattle.mix_reader.proofs.{PageLaws.heard_part, TrackLaws.stored_meant}
 use Rattle.mix_reader.proofs.loads.load_stretch.Goals as goal

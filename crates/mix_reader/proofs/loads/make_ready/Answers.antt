@@ -1,6 +1,5 @@
 -- There are at most 64, and room for each.
-use Rattle.std.proofs.Common.{◌≤◌, ◌*◌, length, ap, sym, ◌∙◌, arith}
-use Rattle.std.proofs.Math.Nat.{mul-le-mul_right}
+use Rattle.mix_reader.proofs.Common.{◌≤◌, ◌*◌, length, ap, sym, ◌∙◌, arith, mul-le-mul_right}
 use Rattle.mix_reader.proofs.HeardLaws.{count_gains, count_sides, count_most}
 use Rattle.mix_reader.proofs.loads.make_ready.Goals as goal
 
@@ -19,7 +18,7 @@ returns-clause-loaded c =
     record {
       few = omega (arith, gains, count_most c.args.point.now, c.list_heard.ensures.few);
       sides = sides ∙ sym gains;
-      cells = omega (
+      samples = omega (
         arith,
         ap (λ n. n * c.args.count) (c.len.ensures ∙ c.list_heard.new.gains.ok.0),
         c.in_ok-make_room.ensures,

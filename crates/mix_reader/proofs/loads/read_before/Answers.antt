@@ -1,16 +1,8 @@
 -- A track that is heard stands before the others, and of a muted one nothing is read.
-use Rattle.std.proofs.Common.{◌≡◌, ℕ, ◌+◌, ◌-◌, ◌*◌, ◌≤◌, Bool, List, length, take, drop, sym, ap, subst, ◌∙◌, arith}
-use Rattle.std.proofs.Common.{length-drop, false, refl}
-use Rattle.std.proofs.lemmas.List.{drop-drop, length-take}
-use Rattle.std.specs.Prelude.{if◌then◌else◌}
-use Rattle.pcm_base.proofs.Exits.{exit_err}
-use Rattle.disk_model.specs.Disk.{Files}
-use Rattle.pcm_base.specs.{declared.sound.Cell.Cell, Mix.unmuted}
-use Rattle.project_state.specs.Meaning.{meant_track}
-use Rattle.block_cache.proofs.{CacheLaws.same_none, ReaderLaws.reads_err, ReaderLaws.reads_none, ReaderLaws.reads_ok}
-use Rattle.cell_reader.specs.Stored.{stored_of}
-use Rattle.cell_reader.proofs.KeptLaws.{seen_part}
-use Rattle.mixdown.specs.Stretches.{IsStretch, AreStretches}
+use Rattle.mix_reader.proofs.Common.{ℤ, ◌≡◌, ℕ, ◌+◌, ◌-◌, ◌*◌, ◌≤◌, Bool, List, length, take, drop, sym, ap, subst, ◌∙◌}
+use Rattle.mix_reader.proofs.Common.{arith, length-drop, false, refl, drop-drop, length-take, if◌then◌else◌, exit_err}
+use Rattle.mix_reader.proofs.Common.{Files, unmuted, meant_track, same_none, reads_err, reads_none, reads_ok, stored_of}
+use Rattle.mix_reader.proofs.Common.{seen_part, IsStretch, AreStretches}
 use Rattle.mix_reader.proofs.TrackLaws.{stretch_put, unmuted_loud}
 use borrow.Rule.Slice.PartMut.{put_mid}
 use Rattle.pcm_base.specs.Cells as cells
@@ -20,7 +12,7 @@ pub returns-then-track-clause-reads : goal.returns-then-track-clause-reads
 returns-then-track-clause-reads g c = reads_none _ (g.met.S.Store.may_fewer _)
 
 -- a stretch is as long as it has to be
-size_of : (len end at : ℕ) (mute : Bool) (xs : List Cell) → mute ≡ false → (if mute then 0 else 1) * len ≤ end
+size_of : (len end at : ℕ) (mute : Bool) (xs : List ℤ) → mute ≡ false → (if mute then 0 else 1) * len ≤ end
     → end ≤ length xs → at ≡ end - len → length (take (end - at) (drop at xs)) ≡ len
 size_of len end at mute xs loud room within place =
     let heard : (if mute then 0 else 1) * len ≡ 1 * len = ap (λ (b : Bool). (if b then 0 else 1) * len) loud in
@@ -31,7 +23,7 @@ returns-clause-stored g c = λ told ts are.
     let len : ℕ = c.args.len in
     let end : ℕ = c.args.end in
     let at : ℕ = end - len in
-    let xs : List Cell = c.args.cells.now in
+    let xs : List ℤ = c.args.samples.now in
     let files : Files = g.S.Store.reads c.args.reader.now.store in
     let t : cells.Track = meant_track (stored_of files) c.args.track.now in
     let heard : (if c.args.track.now.mute then 0 else 1) * len ≡ 1 * len =
@@ -41,7 +33,7 @@ returns-clause-stored g c = λ told ts are.
     size_of len end at c.args.track.now.mute xs c.if-track.false c.requires.room c.requires.within refl in
     let Q : ℕ → Type 0 = λ n. IsStretch c.args.from n t c.read_once.new.out in
     let place : at + len ≡ end = omega (arith, fits) in
-    let R : List Cell → Type 0 = λ cs. AreStretches c.args.from len (unmuted ts) cs in
+    let R : List ℤ → Type 0 = λ cs. AreStretches c.args.from len (unmuted ts) cs in
     let back : drop end xs ≡ drop len (drop at xs) =
     ap (λ n. drop n xs) (sym place) ∙ sym (drop-drop len at xs) in
     let S : cells.Project → Type 0 =
@@ -65,7 +57,7 @@ pub returns-in_err-read_once-clause-hit : goal.returns-in_err-read_once-clause-h
 returns-in_err-read_once-clause-hit g c =
     let a = c.args in
     let at : ℕ = a.end - a.len in
-    let xs : List Cell = a.cells.now in
+    let xs : List ℤ = a.samples.now in
     let size = size_of a.len a.end at a.track.now.mute xs c.if-track.false c.requires.room c.requires.within refl in
     rw (exit_err c.from_residual.result c.from_residual.ensures.1)
     (λ has. c.in_err-read_once.ensures.hit (seen_part a.reader.now.cache a.from (a.from + a.len)
@@ -76,7 +68,7 @@ pub returns-clause-hit : goal.returns-clause-hit
 returns-clause-hit g c = λ has.
     let a = c.args in
     let at : ℕ = a.end - a.len in
-    let xs : List Cell = a.cells.now in
+    let xs : List ℤ = a.samples.now in
     let size = size_of a.len a.end at a.track.now.mute xs c.if-track.false c.requires.room c.requires.within refl in
     c.in_ok-read_once.ensures.hit (seen_part a.reader.now.cache a.from (a.from + a.len)
     a.from (a.from + length (take (a.end - at) (drop at xs))) a.track.now.layout (omega arith)

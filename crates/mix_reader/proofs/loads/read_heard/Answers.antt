@@ -1,18 +1,9 @@
 -- One track more is read, from the last to the first.
-use Rattle.std.proofs.Common.{◌≡◌, ℕ, ◌+◌, ◌-◌, ◌*◌, ◌≤◌, List, ◌∷◌, length, drop, sym, ap, subst, ◌∙◌}
-use Rattle.std.proofs.Common.{arith, refl}
-use Rattle.std.proofs.{Math.Nat.mul-le-mul_right, lemmas.List.drop_all}
-use Rattle.std.specs.Prelude.{if◌then◌else◌}
-use Rattle.disk_model.specs.Disk.{Files}
-use Rattle.pcm_base.specs.Mix.{unmuted}
-use Rattle.clip_track.specs.Clips.{layout_blocks}
-use Rattle.project_state.specs.{declared.track.Track.Track, Meaning.meant, Meaning.meant_track, Meaning.point_blocks}
-use Rattle.project_state.proofs.Points.{drop_some}
-use Rattle.block_cache.proofs.CacheLaws.{same_none, same_turn}
-use Rattle.block_cache.proofs.ReaderLaws.{reads_err, reads_more, reads_none, reads_ok, reads_then, told_on}
-use Rattle.cell_reader.specs.Stored.{stored_of}
-use Rattle.mixdown.specs.Stretches.{AreStretches}
-use Rattle.mix_reader.specs.Heard.{heard_count}
+use Rattle.mix_reader.proofs.Common.{◌≡◌, ℕ, ◌+◌, ◌-◌, ◌*◌, ◌≤◌, List, ◌∷◌, length, drop, sym, ap, subst, ◌∙◌, arith}
+use Rattle.mix_reader.proofs.Common.{refl, mul-le-mul_right, drop_all, if◌then◌else◌, Files, unmuted, layout_blocks}
+use Rattle.mix_reader.proofs.Common.{Track, meant, meant_track, point_blocks, drop_some, same_none, same_turn}
+use Rattle.mix_reader.proofs.Common.{reads_err, reads_more, reads_none, reads_ok, reads_then, told_on, stored_of}
+use Rattle.mix_reader.proofs.Common.{AreStretches, heard_count}
 use Rattle.mix_reader.proofs.{HeardLaws.count_drop, HeardLaws.named_at, PageLaws.heard_at, TrackLaws.blocks_at}
 use Rattle.mix_reader.proofs.loads.read_heard.Goals as goal
 
@@ -24,7 +15,7 @@ rows-init g c =
     let none : heard_count (drop c.len-i.result ts) * len ≡ 0 * len = ap (λ us. heard_count us * len) all in
     let P : List Track → Type 0 =
     λ us. AreStretches c.args.from len (unmuted (meant (stored_of (g.S.Store.reads c.args.reader.now.store)) us))
-    (drop (length c.args.cells.now) c.args.cells.now) in
+    (drop (length c.args.samples.now) c.args.samples.now) in
     record {
       within = omega (arith, c.len-i.ensures.value);
       place = omega (arith, none, c.requires.room);
@@ -85,9 +76,9 @@ rows-preserved g c =
           let still = told_on inv.reads told in
           let P : Files → Type 0 = λ f. AreStretches c.args.from len
           (unmuted (meant_track (stored_of f) t ∷ meant (stored_of files) (drop c.rows.i ts)))
-          (drop c.in-Ok.at c.read_before.new.cells) in
+          (drop c.in-Ok.at c.read_before.new.samples) in
           let S : List Track → Type 0 = λ us. AreStretches c.args.from len (unmuted (meant (stored_of files) us))
-          (drop c.in-Ok.at c.read_before.new.cells) in
+          (drop c.in-Ok.at c.read_before.new.samples) in
           subst S (sym e) (subst P inv.reads.kept.same_reads
           (ens.stored still (meant (stored_of files) (drop c.rows.i ts)) (inv.stored told)));
     }

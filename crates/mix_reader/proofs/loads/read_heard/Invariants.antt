@@ -1,12 +1,6 @@
 -- The stretches of the tracks after it are read.
-use Rattle.std.proofs.Common.{◌≡◌, ◌≤◌, ◌+◌, ◌*◌, length, drop, Ok}
-use Rattle.std.specs.Prelude.{IsTrue}
-use Rattle.pcm_base.specs.Mix.{unmuted}
-use Rattle.project_state.specs.Meaning.{meant, point_blocks}
-use Rattle.block_cache.specs.{Caches.SameCache, Readers.Reads}
-use Rattle.cell_reader.specs.Stored.{stored_of}
-use Rattle.mixdown.specs.Stretches.{AreStretches}
-use Rattle.mix_reader.specs.Heard.{heard_count, HasHeard}
+use Rattle.mix_reader.proofs.Common.{◌≡◌, ◌≤◌, ◌+◌, ◌*◌, length, drop, Ok, IsTrue, unmuted, meant, point_blocks}
+use Rattle.mix_reader.proofs.Common.{SameCache, Reads, stored_of, AreStretches, heard_count, HasHeard}
 use Rattle.mix_reader.proofs.loads.read_heard.Given as goal
 
 abbrev pub invariant-rows : goal.invariant-rows
@@ -18,7 +12,7 @@ invariant-rows g l = record {
       → (l.reader.store ≡ l.fn.reader.store) × SameCache l.fn.reader.cache l.reader.cache;
   stored : IsTrue (g.S.Store.tells l.fn.reader.store)
       → AreStretches l.from l.len (unmuted (meant (stored_of (g.S.Store.reads l.fn.reader.store)) (drop l.i l.point)))
-      (drop l.end l.cells);
+      (drop l.end l.samples);
 }
 
 abbrev pub decreases-rows : goal.decreases-rows

@@ -1,13 +1,9 @@
 -- One more is put.
-use Rattle.std.proofs.Common.{◌≡◌, ℕ, ◌+◌, ◌-◌, List, ◌∷◌, drop, ap, refl, sym, subst, ◌∙◌, arith}
-use Rattle.std.proofs.lemmas.List.{drop-set, drop_all, length-set}
+use Rattle.mix_reader.proofs.Common.{◌≡◌, ℕ, ◌+◌, ◌-◌, List, ◌∷◌, drop, ap, refl, sym, subst, ◌∙◌, arith, drop_all}
+use Rattle.mix_reader.proofs.Common.{length-set, Track, point_blocks, drop_some, layout_blocks, AllNamed, named_front}
+use Rattle.mix_reader.proofs.Common.{TrackPass, AreRestsOf}
+use Rattle.std.proofs.lemmas.List.{drop-set}
 use Rattle.std.specs.Prelude.{replicate}
-use Rattle.project_state.specs.{declared.track.Track.Track, Meaning.point_blocks}
-use Rattle.project_state.proofs.Points.{drop_some}
-use Rattle.clip_track.specs.Clips.{layout_blocks}
-use Rattle.sample_block.specs.Sources.{AllNamed}
-use Rattle.cell_reader.proofs.SeenLaws.{named_front}
-use Rattle.mix_reader.specs.{declared.passes.TrackPass.TrackPass, Readers.AreRestsOf}
 use Rattle.mix_reader.proofs.TrackLaws.{named_drop}
 use Rattle.mix_reader.proofs.passes.passes_from.Goals as goal
 

@@ -1,6 +1,5 @@
 -- The passes over the tracks after are put.
-use Rattle.std.proofs.Common.{◌≡◌, ◌≤◌, length, drop}
-use Rattle.mix_reader.specs.Readers.{AreRestsOf}
+use Rattle.mix_reader.proofs.Common.{◌≡◌, ◌≤◌, length, drop, AreRestsOf}
 use Rattle.mix_reader.proofs.passes.passes_from.Given as goal
 
 abbrev pub invariant-rows : goal.invariant-rows

@@ -1,19 +1,11 @@
 -- One track more is read, from the last to the first.
-use Rattle.std.proofs.Common.{◌≡◌, ℕ, ◌+◌, ◌-◌, ◌*◌, ◌≤◌, ◌<◌, List, ◌∷◌, length, take, drop, get_or, sym, ap, subst}
-use Rattle.std.proofs.Common.{◌∙◌, arith, length-drop, slice_get, Some, false, refl}
-use Rattle.std.proofs.lemmas.List.{drop_all, drop-drop, length-take, take_all}
+use Rattle.mix_reader.proofs.Common.{ℤ, ◌≡◌, ℕ, ◌+◌, ◌-◌, ◌*◌, ◌≤◌, ◌<◌, List, ◌∷◌, length, take, drop, get_or, sym, ap}
+use Rattle.mix_reader.proofs.Common.{subst, ◌∙◌, arith, length-drop, slice_get, Some, false, refl, drop_all, drop-drop}
+use Rattle.mix_reader.proofs.Common.{length-take, take_all, Files, Project, unmuted, layout_blocks, Track, meant}
+use Rattle.mix_reader.proofs.Common.{meant_track, point_blocks, drop_some, same_none, same_turn, reads_more, reads_none}
+use Rattle.mix_reader.proofs.Common.{reads_then, told_on, stored_of, IsRestOf, TrackPass, heard_tracks, IsStretch}
+use Rattle.mix_reader.proofs.Common.{AreStretches, seen_part}
 use Rattle.std.proofs.lemmas.Option.{get_or_from_slice_get}
-use Rattle.disk_model.specs.Disk.{Files}
-use Rattle.pcm_base.specs.{declared.sound.Cell.Cell, Cells.Project, Mix.unmuted}
-use Rattle.clip_track.specs.Clips.{layout_blocks}
-use Rattle.project_state.specs.{declared.track.Track.Track, Meaning.meant, Meaning.meant_track, Meaning.point_blocks}
-use Rattle.project_state.proofs.Points.{drop_some}
-use Rattle.block_cache.proofs.CacheLaws.{same_none, same_turn}
-use Rattle.block_cache.proofs.ReaderLaws.{reads_more, reads_none, reads_then, told_on}
-use Rattle.cell_reader.specs.{Stored.stored_of, Rests.IsRestOf}
-use Rattle.mix_reader.specs.{declared.passes.TrackPass.TrackPass, Tracks.heard_tracks}
-use Rattle.mixdown.specs.Stretches.{IsStretch, AreStretches}
-use Rattle.cell_reader.proofs.KeptLaws.{seen_part}
 use Rattle.mix_reader.proofs.PageLaws.{heard_at}
 use Rattle.mix_reader.proofs.TrackLaws.{blocks_at, rests_at, rests_set, stretch_put, heard_count_more, heard_count_same}
 use Rattle.mix_reader.proofs.TrackLaws.{unmuted_loud, unmuted_silent}
@@ -34,7 +26,7 @@ rows-init g c =
     let P : List Track
     → Type 0 = λ ts. AreStretches c.args.from c.args.len
     (unmuted (meant (stored_of (g.S.Store.reads c.args.reader.now.store)) ts))
-    (drop (length c.args.cells.now) c.args.cells.now) in
+    (drop (length c.args.samples.now) c.args.samples.now) in
     record {
       within = omega (arith, c.len-i.ensures.value);
       place = c.requires.room
@@ -101,9 +93,9 @@ rows-preserved g c =
     let e : drop k ts ≡ t ∷ drop c.rows.i ts =
     drop_some ts k t c.track_at-track.ensures ∙ ap (λ n. t ∷ drop n ts) next in
     let place = track_place ts c.rows.i k c.rows.at len t c.track_at-track.ensures loud next inv.place in
-    let fits : at + len ≤ length c.rows.cells = omega (arith, place, inv.fits) in
-    let size : length (take (at + len - at) (drop at c.rows.cells)) ≡ len =
-    omega (arith, length-take (at + len - at) (drop at c.rows.cells), length-drop at c.rows.cells, fits) in
+    let fits : at + len ≤ length c.rows.samples = omega (arith, place, inv.fits) in
+    let size : length (take (at + len - at) (drop at c.rows.samples)) ≡ len =
+    omega (arith, length-take (at + len - at) (drop at c.rows.samples), length-drop at c.rows.samples, fits) in
     let I : Track → Type 0 = λ u. IsRestOf c.args.from u.layout c.read_track.new.left.rest in
     record {
       within = omega (arith, below);
@@ -117,28 +109,28 @@ rows-preserved g c =
       hit = λ has.
           let before = inv.hit has in
           let on = c.in_default.ensures.hit (seen_part c.rows.reader.cache c.args.from (c.args.from + len) c.args.from
-          (c.args.from + length (take (at + len - at) (drop at c.rows.cells))) t.layout (omega arith)
+          (c.args.from + length (take (at + len - at) (drop at c.rows.samples))) t.layout (omega arith)
           (omega (arith, size)) (heard_at _ _ c.args.from (c.args.from + len) k ts (drop (k + 1) ts) t
           (drop_some ts k t c.track_at-track.ensures) before.1 has loud)) in
           (on.1 ∙ before.0, same_turn _ _ _ before.1 on.2);
       stored = λ told.
           let still = told_on inv.reads told in
           let P : Files → Type 0 =
-          λ f. IsStretch c.args.from (length (take (at + len - at) (drop at c.rows.cells)))
+          λ f. IsStretch c.args.from (length (take (at + len - at) (drop at c.rows.samples)))
           (meant_track (stored_of f) t) c.read_track.new.out in
           let one = subst P inv.reads.kept.same_reads (c.in_default.ensures.stored still) in
           let Q : ℕ → Type 0 = λ n. IsStretch c.args.from n (meant_track (stored_of files) t) c.read_track.new.out in
-          let from : drop c.rows.at c.rows.cells ≡ drop len (drop at c.rows.cells) =
+          let from : drop c.rows.at c.rows.samples ≡ drop len (drop at c.rows.samples) =
           (let start : c.rows.at ≡ at + len = omega (arith, place) in
-          ap (λ n. drop n c.rows.cells) start ∙ sym (drop-drop len at c.rows.cells)) in
+          ap (λ n. drop n c.rows.samples) start ∙ sym (drop-drop len at c.rows.samples)) in
           let rest : Project = unmuted (meant (stored_of files) (drop c.rows.i ts)) in
-          let R : List Cell → Type 0 = λ cs. AreStretches c.args.from len rest cs in
-          let all = stretch_put c.args.from len at (at + len - at) c.rows.cells c.read_track.new.out
+          let R : List ℤ → Type 0 = λ cs. AreStretches c.args.from len rest cs in
+          let all = stretch_put c.args.from len at (at + len - at) c.rows.samples c.read_track.new.out
           (meant_track (stored_of files) t) rest
           (omega (arith, fits)) (omega (arith, c.read_track.auto.out, size)) (omega arith) (subst Q size one)
           (subst R from (inv.stored told)) in
           let S : Project → Type 0 = λ p. AreStretches c.args.from len p
-          (drop at (put_mid at (at + len - at) c.rows.cells c.read_track.new.out)) in
+          (drop at (put_mid at (at + len - at) c.rows.samples c.read_track.new.out)) in
           subst S (sym (ap (λ us. unmuted (meant (stored_of files) us)) e
           ∙ unmuted_loud (stored_of files) t (meant (stored_of files) (drop c.rows.i ts)) loud)) all;
     }
@@ -154,7 +146,7 @@ rows-preserved-then-track g c =
     let next : k + 1 ≡ c.rows.i = omega (arith, c.rows-test.true) in
     let e : drop k ts ≡ t ∷ drop c.rows.i ts =
     drop_some ts k t c.track_at-track.ensures ∙ ap (λ n. t ∷ drop n ts) next in
-    let S : Project → Type 0 = λ p. AreStretches c.args.from c.args.len p (drop c.rows.at c.rows.cells) in
+    let S : Project → Type 0 = λ p. AreStretches c.args.from c.args.len p (drop c.rows.at c.rows.samples) in
     record {
       within = omega (arith, inv.within);
       place = inv.place ∙ ap (λ (n : ℕ). length (heard_tracks (take n ts)) * c.args.len) (sym next)
@@ -176,9 +168,9 @@ returns-clause-stored g c = λ told.
     omega (arith, c.rows.invariant.place, ap (λ (n : ℕ). n * c.args.len) first) in
     let P : ℕ → Type 0 = λ n. AreStretches c.args.from c.args.len
     (unmuted (meant (stored_of (g.S.Store.reads c.args.reader.now.store)) (drop n c.args.point.now)))
-    (drop c.rows.at c.rows.cells) in
+    (drop c.rows.at c.rows.samples) in
     let Q : ℕ → Type 0 = λ n. AreStretches c.args.from c.args.len
-    (unmuted (meant (stored_of (g.S.Store.reads c.args.reader.now.store)) c.args.point.now)) (drop n c.rows.cells) in
+    (unmuted (meant (stored_of (g.S.Store.reads c.args.reader.now.store)) c.args.point.now)) (drop n c.rows.samples) in
     subst Q start (subst P none (c.rows.invariant.stored told))
 
 pub returns-in-Err-clause-reads : goal.returns-in-Err-clause-reads
@@ -200,12 +192,12 @@ returns-in-Err-clause-hit g c = λ has.
     let loud = c.if-track.false in
     let next : k + 1 ≡ c.rows.i = omega (arith, c.rows-test.true) in
     let place = track_place ts c.rows.i k c.rows.at len t c.track_at-track.ensures loud next c.rows.invariant.place in
-    let fits : at + len ≤ length c.rows.cells = omega (arith, place, c.rows.invariant.fits) in
-    let size : length (take (at + len - at) (drop at c.rows.cells)) ≡ len =
-    omega (arith, length-take (at + len - at) (drop at c.rows.cells), length-drop at c.rows.cells, fits) in
+    let fits : at + len ≤ length c.rows.samples = omega (arith, place, c.rows.invariant.fits) in
+    let size : length (take (at + len - at) (drop at c.rows.samples)) ≡ len =
+    omega (arith, length-take (at + len - at) (drop at c.rows.samples), length-drop at c.rows.samples, fits) in
     let before = c.rows.invariant.hit has in
     let on = c.in-Err.ensures.hit (seen_part c.rows.reader.cache c.args.from (c.args.from + len) c.args.from
-    (c.args.from + length (take (at + len - at) (drop at c.rows.cells))) t.layout (omega arith)
+    (c.args.from + length (take (at + len - at) (drop at c.rows.samples))) t.layout (omega arith)
     (omega (arith, size)) (heard_at _ _ c.args.from (c.args.from + len) k ts (drop (k + 1) ts) t
     (drop_some ts k t c.track_at-track.ensures) before.1 has loud)) in
     (on.0, on.1 ∙ before.0, same_turn _ _ _ before.1 on.2)

@@ -1,8 +1,7 @@
 -- One more is put, where it is heard.
-use Rattle.std.proofs.Common.{◌≡◌, ◌<◌, List, [], ◌∷◌, ◌++◌, length, take, ap, sym, ◌∙◌, arith}
-use Rattle.std.proofs.lemmas.List.{length-set, map-append, take_all, take_more_set}
-use Rattle.project_state.specs.declared.track.Track.{Track}
-use Rattle.mix_reader.specs.Tracks.{heard_tracks, track_gains, track_sides}
+use Rattle.mix_reader.proofs.Common.{◌≡◌, ◌<◌, List, [], ◌∷◌, ◌++◌, length, take, ap, sym, ◌∙◌, arith, length-set}
+use Rattle.mix_reader.proofs.Common.{map-append, take_all, Track, heard_tracks, track_gains, track_sides}
+use Rattle.std.proofs.lemmas.List.{take_more_set}
 use Rattle.mix_reader.proofs.TrackLaws.{heard_count_more, heard_more, heard_same}
 use Rattle.mix_reader.proofs.tracks.heard_of.Goals as goal
 

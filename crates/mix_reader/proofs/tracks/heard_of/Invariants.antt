@@ -1,6 +1,5 @@
 -- Those of the first tracks that are heard are put.
-use Rattle.std.proofs.Common.{◌≡◌, ◌≤◌, length, take}
-use Rattle.mix_reader.specs.Tracks.{heard_tracks, track_gains, track_sides}
+use Rattle.mix_reader.proofs.Common.{◌≡◌, ◌≤◌, length, take, heard_tracks, track_gains, track_sides}
 use Rattle.mix_reader.proofs.tracks.heard_of.Given as goal
 
 abbrev pub invariant-rows : goal.invariant-rows

@@ -1,10 +1,6 @@
 -- One track more.
-use Rattle.std.proofs.Common.{◌≡◌, ◌+◌, List, [], ◌∷◌, drop, ap, arith}
-use Rattle.std.proofs.lemmas.List.{drop_all}
-use Rattle.pcm_base.specs.Mix.{mix_length}
-use Rattle.project_state.specs.{Meaning.meant, declared.track.Track.Track}
-use Rattle.project_state.proofs.Points.{drop_some}
-use Rattle.mix_reader.specs.Tracks.{mix_length_of}
+use Rattle.mix_reader.proofs.Common.{◌≡◌, ◌+◌, List, [], ◌∷◌, drop, ap, arith, drop_all, mix_length, meant, Track}
+use Rattle.mix_reader.proofs.Common.{drop_some, mix_length_of}
 use Rattle.mix_reader.proofs.TrackLaws.{longest_first}
 use Rattle.mix_reader.proofs.tracks.mix_len.Goals as goal
 

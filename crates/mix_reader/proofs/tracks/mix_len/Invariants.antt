@@ -1,8 +1,6 @@
 -- The greatest length so far, and those that are left.
-use Rattle.std.proofs.Common.{◌≡◌, ◌≤◌, ◌^◌, drop, max}
-use Rattle.pcm_base.specs.{Pieces.Sources, Mix.mix_length}
-use Rattle.project_state.specs.Meaning.{meant}
-use Rattle.mix_reader.specs.Tracks.{mix_length_of}
+use Rattle.mix_reader.proofs.Common.{◌≡◌, ◌≤◌, drop, max, Sources, mix_length, meant, mix_length_of}
+use Rattle.std.proofs.Common.{◌^◌}
 use Rattle.mix_reader.proofs.tracks.mix_len.Given as goal
 
 abbrev pub invariant-rows : goal.invariant-rows

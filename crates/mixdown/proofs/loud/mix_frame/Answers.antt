@@ -1,9 +1,7 @@
 -- One track more is summed.
-use Rattle.std.proofs.Common.{◌≡◌, ◌*◌, ◌≤◌, ◌+◌, ◌^◌, ℕ, ℤ, pos, length, refl, arith, ap, ap₂, ◌∙◌, to_z, of_z, w64}
-use Rattle.std.proofs.{Math.Nat.mul-le-mul_right, lemmas.Int.ints}
-use Rattle.pcm_base.specs.{declared.sound.Cell.TheVariants.Gap, declared.sound.Side.TheVariants.Both}
-use Rattle.std.specs.Prelude.{nat_abs}
-use Rattle.mixdown.specs.Sums.{limited}
+use Rattle.mixdown.proofs.Common.{◌≡◌, ◌*◌, ◌≤◌, ◌+◌, ◌^◌, ℕ, ℤ, pos, length, refl, arith, ap, ap₂, ◌∙◌, to_z, of_z}
+use Rattle.mixdown.proofs.Common.{get_or, w16, mul-le-mul_right, ints, Both, scaled, nat_abs, limited}
+use Rattle.std.proofs.Common.{w64}
 use Rattle.mixdown.proofs.LaidLaws.{left_start, left_more, left_end, right_start, right_more, right_end}
 use Rattle.mixdown.proofs.loud.mix_frame.Goals as goal
 
@@ -38,7 +36,11 @@ loop-t-preserved c =
     let w : ℤ = c.weigh-weight.result in
     let l : ℤ = c.add_left-left.result in
     let r : ℤ = c.add_right-right.result in
-    let weight : to_z w64 (of_z w64 w) ≡ w = omega (arith, ints, c.weigh-weight.ensures.bound) in
+    let g : ℕ = get_or c.args.gains.now c.loop-t.t 0 in
+    let s : ℤ = get_or c.args.stretches.now (c.loop-t.t * c.args.len + c.args.at) (pos 0) in
+    let sample : to_z w16 (of_z w16 s) ≡ s = omega (arith, ints) in
+    let weight : to_z w64 (of_z w64 w) ≡ scaled g s =
+    omega (arith, ints, c.weigh-weight.ensures.bound) ∙ c.weigh-weight.ensures.value ∙ ap (scaled g) sample in
     let left : to_z w64 (of_z w64 l) ≡ l =
     omega (arith, ints, c.add_left-left.ensures.bound, c.loop-t.invariant.left_bound, c.requires.few) in
     let right : to_z w64 (of_z w64 r) ≡ r =
@@ -46,14 +48,14 @@ loop-t-preserved c =
     record {
       left =
           left_more c.args.len c.loop-t.t c.args.at (c.loop-t.t * c.args.len + c.args.at) c.args.stretches.now
-          c.args.gains.now c.args.sides.now Gap Both _ (to_z w64 (of_z w64 l)) (to_z w64 (of_z w64 w)) _
+          c.args.gains.now c.args.sides.now (pos 0) Both _ (to_z w64 (of_z w64 l)) (to_z w64 (of_z w64 w)) _
           c.loop-t-test.true c.requires.sides c.requires.within refl c.requires.stretches
-          (weight ∙ c.weigh-weight.ensures.value) c.loop-t.invariant.left (left ∙ c.add_left-left.ensures.value);
+          weight c.loop-t.invariant.left (left ∙ c.add_left-left.ensures.value);
       right =
           right_more c.args.len c.loop-t.t c.args.at (c.loop-t.t * c.args.len + c.args.at) c.args.stretches.now
-          c.args.gains.now c.args.sides.now Gap Both _ (to_z w64 (of_z w64 r)) (to_z w64 (of_z w64 w)) _
+          c.args.gains.now c.args.sides.now (pos 0) Both _ (to_z w64 (of_z w64 r)) (to_z w64 (of_z w64 w)) _
           c.loop-t-test.true c.requires.sides c.requires.within refl c.requires.stretches
-          (weight ∙ c.weigh-weight.ensures.value) c.loop-t.invariant.right (right ∙ c.add_right-right.ensures.value);
+          weight c.loop-t.invariant.right (right ∙ c.add_right-right.ensures.value);
       left_bound =
           grown (to_z w64 (of_z w64 l)) l (to_z w64 c.loop-t.left-bits) c.loop-t.t left c.add_left-left.ensures.bound
           c.loop-t.invariant.left_bound;

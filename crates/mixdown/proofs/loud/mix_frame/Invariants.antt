@@ -1,7 +1,5 @@
 -- What is summed so far and what is left make the whole.
-use Rattle.std.proofs.Common.{◌≡◌, ◌≤◌, ◌*◌, ◌^◌, drop}
-use Rattle.std.specs.Prelude.{◌+ℤ◌, nat_abs}
-use Rattle.mixdown.specs.Laid.{laid, left_sum, right_sum}
+use Rattle.mixdown.proofs.Common.{◌≡◌, ◌≤◌, ◌*◌, ◌^◌, drop, ◌+ℤ◌, nat_abs, laid, left_sum, right_sum}
 use Rattle.mixdown.proofs.loud.mix_frame.Given as goal
 
 abbrev pub invariant-loop-t : goal.invariant-loop-t

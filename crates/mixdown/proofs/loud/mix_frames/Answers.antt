@@ -1,8 +1,5 @@
 -- One frame more is stored.
-use Rattle.std.proofs.Common.{◌+◌, arith, ◌∙◌}
-use Rattle.std.proofs.{lemmas.List.take_more_set, lemmas.List.FromFn.map-range_with_len_more}
-use Rattle.pcm_base.specs.Mix.{frame_at}
-use Rattle.mixdown.specs.Laid.{laid}
+use Rattle.mixdown.proofs.Common.{◌+◌, arith, take_more_set, map-range_with_len_more, frame_at, laid}
 use Rattle.mixdown.proofs.loud.mix_frames.Goals as goal
 
 pub loop-k-preserved : goal.loop-k-preserved

@@ -1,7 +1,5 @@
 -- Stretches of a project's tracks are mixed to the project's frames.
-use Rattle.std.proofs.Common.{ℕ, List, length, map, ap₂, ◌∙◌}
-use Rattle.pcm_base.specs.{declared.sound.Side.Side, Arithmetic.counted_from, Mix.frame_at}
-use Rattle.mixdown.specs.Laid.{laid}
+use Rattle.mixdown.proofs.Common.{ℕ, List, length, map, ap₂, ◌∙◌, Side, counted_from, frame_at, laid}
 use Rattle.mixdown.proofs.StretchLaws.{stretches_frames, unmuted_frames}
 use Rattle.mixdown.proofs.mix.mix_into.Goals as goal
 

@@ -1,14 +1,11 @@
 -- One track more is summed.
-use Rattle.std.proofs.Common.{◌≡◌, ◌<◌, ◌≤◌, ◌+◌, ◌*◌, ◌^◌, ℕ, ℤ, pos, ◌-◌, List, [], length, take, drop, replicate}
-use Rattle.std.proofs.Common.{get_or, length-drop, arith, refl, ap, ◌∙◌}
-use Rattle.std.proofs.lemmas.List.{get_or-replicate, get_or-take, get_or-drop, length-take, drop_all}
-use Rattle.std.proofs.{Math.Nat.mul-le-mul_right, lemmas.Int.ints}
-use Rattle.std.specs.Prelude.{◌+ℤ◌, nat_abs}
-use Rattle.pcm_base.specs.{declared.sound.Cell.Cell, declared.sound.Cell.TheVariants.Gap, declared.sound.Side.Side}
-use Rattle.pcm_base.specs.{declared.sound.Side.TheVariants.Both, Cells.Project, Mix.weight, Mix.frame_at}
+use Rattle.mixdown.proofs.Common.{◌≡◌, ◌<◌, ◌≤◌, ◌+◌, ◌*◌, ◌^◌, ℕ, ℤ, pos, ◌-◌, List, length, take, drop, get_or}
+use Rattle.mixdown.proofs.Common.{length-drop, arith, refl, ap, ◌∙◌, get_or-take, get_or-drop, length-take}
+use Rattle.mixdown.proofs.Common.{mul-le-mul_right, ◌+ℤ◌, nat_abs, scaled, Both, Project, frame_at, laid, left_sum}
+use Rattle.mixdown.proofs.Common.{right_sum, sum_in, weight_in, limited, frame_in}
+use Rattle.std.proofs.Common.{replicate}
+use Rattle.std.proofs.lemmas.List.{get_or-replicate}
 use Rattle.mixdown.specs.declared.sums.TheConstants.{PIECE}
-use Rattle.mixdown.specs.Laid.{laid, left_sum, right_sum}
-use Rattle.mixdown.specs.Sums.{sum_in, weight_in, limited, frame_in}
 use Rattle.mixdown.proofs.LaidLaws.{left_start, left_more, left_end, right_start, right_more, right_end}
 use Rattle.mixdown.proofs.PieceLaws.{same_piece}
 use Rattle.mixdown.proofs.mix.mix_piece.Goals as goal
@@ -20,15 +17,15 @@ bound_more t a b grown so_far = omega (arith, grown, so_far)
 nothing_in : (xs : List ℤ) (n k : ℕ) → k < n → xs ≡ replicate n (pos 0) → sum_in xs k ≡ pos 0
 nothing_in xs n k lt is = ap (λ (ys : List ℤ). sum_in ys k) is ∙ get_or-replicate n k (pos 0) (pos 0) lt
 
--- what a cell of a part weighs
-weighs_part : (g from n k at : ℕ) (S : List Cell) → k < n → from + k ≡ at
-    → weight_in g (take (from + n - from) (drop from S)) k ≡ weight g (get_or S at Gap)
+-- what a sample of a part weighs
+weighs_part : (g from n k at : ℕ) (S : List ℤ) → k < n → from + k ≡ at
+    → weight_in g (take (from + n - from) (drop from S)) k ≡ scaled g (get_or S at (pos 0))
 weighs_part g from n k at S lt e =
     let size : from + n - from ≡ n = omega arith in
-    ap (weight g) (get_or-take (from + n - from) (drop from S) k Gap (omega (arith, size, lt))
-    ∙ get_or-drop from S k Gap ∙ ap (λ (j : ℕ). get_or S j Gap) e)
+    ap (scaled g) (get_or-take (from + n - from) (drop from S) k (pos 0) (omega (arith, size, lt))
+    ∙ get_or-drop from S k (pos 0) ∙ ap (λ (j : ℕ). get_or S j (pos 0)) e)
 
-within_part : (from n k : ℕ) (S : List Cell) → k < n → from + n ≤ length S
+within_part : (from n k : ℕ) (S : List ℤ) → k < n → from + n ≤ length S
     → k < length (take (from + n - from) (drop from S))
 within_part from n k S lt le = omega (arith, lt, le, length-take (from + n - from) (drop from S), length-drop from S)
 
@@ -73,13 +70,13 @@ loop-t-preserved c =
     record {
       left = λ k lt.
           left_more c.args.len c.loop-t.t (c.args.at + k) (c.loop-t.t * c.args.len + (c.args.at + k))
-          c.args.stretches.now c.args.gains.now c.args.sides.now Gap Both _ _ _ _ c.loop-t-test.true
+          c.args.stretches.now c.args.gains.now c.args.sides.now (pos 0) Both _ _ _ _ c.loop-t-test.true
           c.requires.sides (omega (arith, lt, c.requires.within)) refl c.requires.stretches
           (weighs_part gain from n k (c.loop-t.t * c.args.len + (c.args.at + k)) c.args.stretches.now lt (omega arith))
           (c.loop-t.invariant.left k lt) (c.add.ensures.left k (within_part from n k c.args.stretches.now lt fits));
       right = λ k lt.
           right_more c.args.len c.loop-t.t (c.args.at + k) (c.loop-t.t * c.args.len + (c.args.at + k))
-          c.args.stretches.now c.args.gains.now c.args.sides.now Gap Both _ _ _ _ c.loop-t-test.true
+          c.args.stretches.now c.args.gains.now c.args.sides.now (pos 0) Both _ _ _ _ c.loop-t-test.true
           c.requires.sides (omega (arith, lt, c.requires.within)) refl c.requires.stretches
           (weighs_part gain from n k (c.loop-t.t * c.args.len + (c.args.at + k)) c.args.stretches.now lt (omega arith))
           (c.loop-t.invariant.right k lt) (c.add.ensures.right k (within_part from n k c.args.stretches.now lt fits));

@@ -1,7 +1,6 @@
 -- What is summed so far and what is left make the whole.
-use Rattle.std.proofs.Common.{◌≡◌, ◌<◌, ◌+◌, ◌*◌, ◌^◌, ℕ, drop, length}
-use Rattle.std.specs.Prelude.{◌+ℤ◌}
-use Rattle.mixdown.specs.{Laid.laid, Laid.left_sum, Laid.right_sum, Sums.sum_in, Sums.AreWithin}
+use Rattle.mixdown.proofs.Common.{◌≡◌, ◌<◌, ◌+◌, ◌*◌, ◌^◌, ℕ, drop, length, ◌+ℤ◌, laid, left_sum, right_sum, sum_in}
+use Rattle.mixdown.specs.{Sums.AreWithin}
 use Rattle.mixdown.proofs.mix.mix_piece.Given as goal
 
 abbrev pub invariant-loop-t : goal.invariant-loop-t

@@ -1,7 +1,6 @@
 -- One piece more is mixed.
-use Rattle.std.proofs.{Common.arith, lemmas.Grind.common_steps}
-use Rattle.pcm_base.specs.Mix.{frame_at}
-use Rattle.mixdown.specs.Laid.{laid}
+use Rattle.mixdown.proofs.Common.{arith, frame_at, laid}
+use Rattle.std.proofs.{lemmas.Grind.common_steps}
 use Rattle.mixdown.proofs.PieceLaws.{piece_more}
 use Rattle.mixdown.proofs.mix.mix_pieces.Goals as goal
 

@@ -1,8 +1,5 @@
 -- The frames so far are those of the mix.
-use Rattle.std.proofs.Common.{◌≡◌, ◌≤◌, ◌-◌, map, take}
-use Rattle.std.specs.List.{range_with_len}
-use Rattle.pcm_base.specs.Mix.{frame_at}
-use Rattle.mixdown.specs.Laid.{laid}
+use Rattle.mixdown.proofs.Common.{◌≡◌, ◌≤◌, ◌-◌, map, take, range_with_len, frame_at, laid}
 use Rattle.mixdown.proofs.mix.mix_pieces.Given as goal
 
 abbrev pub invariant-pieces : goal.invariant-pieces

@@ -1,5 +1,5 @@
 -- The first k gains are such.
-use Rattle.std.proofs.Common.{◌≤◌, ◌<◌, ℕ, get_or}
+use Rattle.mixdown.proofs.Common.{◌≤◌, ◌<◌, ℕ, get_or}
 use Rattle.pcm_base.specs.declared.limits.TheConstants.{MAX_GAIN}
 use Rattle.mixdown.proofs.weights.are_usual.Given as goal
 

@@ -1,6 +1,6 @@
 -- Each test has its field.
-use Rattle.std.proofs.Common.{◌-◌, ◌^◌, min, max, ◌∷◌, [], ap, arith}
-use Rattle.project_journal.specs.{declared.base.Base.Base, Fields.field, Header.base_tests_in}
+use Rattle.project_journal.proofs.Common.{◌-◌, ◌^◌, min, max, ◌∷◌, [], ap, arith, Base, field}
+use Rattle.project_journal.specs.{Header.base_tests_in}
 use Rattle.project_journal.proofs.Padded.{told_as}
 use Rattle.project_journal.proofs.base_header.base_tests_of.Goals as goal
 

@@ -1,5 +1,5 @@
 -- Bytes copied over zeros.
-use Rattle.std.proofs.Common.{arith}
+use Rattle.project_journal.proofs.Common.{arith}
 use Rattle.project_journal.proofs.Padded.{padded_is}
 use Rattle.project_journal.proofs.base_header.fill_head.Goals as goal
 

@@ -1,7 +1,6 @@
 -- The rows are records more.
-use Rattle.std.proofs.Common.{◌∙◌, refl, arith}
-use Rattle.disk_model.proofs.Frames.{changed_none, changed_wider}
-use Rattle.project_journal.proofs.Together.{tail_is, tail_length}
+use Rattle.project_journal.proofs.Common.{◌∙◌, refl, arith, changed_none}
+use Rattle.project_journal.proofs.{Changes.append_changed, Together.tail_is, Together.row_length}
 use Rattle.project_journal.proofs.Together as together
 use Rattle.project_journal.proofs.batches.append_records.Goals as goal
 
@@ -28,19 +27,9 @@ pub returns-in_err-extend_from_slice-clause-changed : goal.returns-in_err-extend
 returns-in_err-extend_from_slice-clause-changed g c = changed_none _ (λ d o ne. refl) (g.met.S.Store.may_fewer _)
 
 pub returns-in_err-add-clause-changed : goal.returns-in_err-add-clause-changed
-returns-in_err-add-clause-changed g c =
-    let size = tail_length _ _ (c.deref.ensures.value ∙ c.in_ok-extend_from_slice.ensures.items) in
-    changed_wider (λ d e s. s) (record {
-      files = omega arith;
-      bytes = omega (arith, size, c.requires);
-      calls = omega arith;
-    }) c.add.ensures.changed
+returns-in_err-add-clause-changed g c = append_changed _
+    (row_length _ _ (c.deref.ensures.value ∙ c.in_ok-extend_from_slice.ensures.items) c.requires) c.add.ensures.changed
 
 pub returns-clause-changed : goal.returns-clause-changed
-returns-clause-changed g c =
-    let size = tail_length _ _ (c.deref.ensures.value ∙ c.in_ok-extend_from_slice.ensures.items) in
-    changed_wider (λ d e s. s) (record {
-      files = omega arith;
-      bytes = omega (arith, size, c.requires);
-      calls = omega arith;
-    }) c.add.ensures.changed
+returns-clause-changed g c = append_changed _
+    (row_length _ _ (c.deref.ensures.value ∙ c.in_ok-extend_from_slice.ensures.items) c.requires) c.add.ensures.changed

@@ -1,7 +1,6 @@
 -- The numbers, and then the zeros.
-use Rattle.std.proofs.Common.{◌≡◌, subst, None, Some, List}
-use Rattle.project_journal.specs.declared.fault.Damaged.{Damaged}
-use Rattle.project_journal.specs.Header.{number_tests, the_zeros, first_failed}
+use Rattle.project_journal.proofs.Common.{◌≡◌, subst, None, Some, List, Damaged, first_failed}
+use Rattle.project_journal.specs.Header.{number_tests, the_zeros}
 use Rattle.project_journal.proofs.Headers.{tested_more, some_first}
 use Rattle.project_journal.proofs.header.test_first.Goals as goal
 

@@ -1,6 +1,5 @@
 -- The fields of the padded bytes are those of all.
-use Rattle.std.proofs.{Common.◌∙◌, Common.ap, Common.arith, lemmas.Bool.le-ltb}
-use Rattle.project_journal.specs.Header.{base_fields}
+use Rattle.project_journal.proofs.Common.{◌∙◌, ap, arith, le-ltb, base_fields}
 use Rattle.project_journal.proofs.Padded.{padded_base}
 use Rattle.project_journal.proofs.opening.base_in.Goals as goal
 

@@ -1,8 +1,5 @@
 -- By the front of each file.
-use Rattle.std.proofs.{Common.◌≡◌, Common.◌∙◌, Common.ap, Common.arith, Common.take, lemmas.List.length-take}
-use Rattle.pcm_base.proofs.Exits.{exit_err}
-use Rattle.disk_model.specs.Disk.{Files, bytes_of}
-use Rattle.project_journal.specs.Opening.{two_files}
+use Rattle.project_journal.proofs.Common.{◌≡◌, ◌∙◌, ap, arith, take, length-take, exit_err, Files, bytes_of, two_files}
 use Rattle.project_journal.proofs.Choices.{chooses_fault, chooses_front, front_read, two_few, two_fronts}
 use Rattle.project_journal.proofs.Starts.{causes_same}
 use Rattle.project_journal.proofs.opening.choose_file.Goals as goal

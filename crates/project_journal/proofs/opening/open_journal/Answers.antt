@@ -1,7 +1,5 @@
 -- The syncs, and then reads alone.
-use Rattle.std.proofs.Common.{refl, arith}
-use Rattle.pcm_base.proofs.Exits.{exit_err}
-use Rattle.disk_model.proofs.Frames.{changed_kept, changed_then_stays}
+use Rattle.project_journal.proofs.Common.{refl, arith, exit_err, changed_kept, changed_then_stays}
 use Rattle.project_journal.proofs.Choices.{opens_fault}
 use Rattle.project_journal.proofs.opening.open_journal.Goals as goal
 

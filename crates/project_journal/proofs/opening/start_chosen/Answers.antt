@@ -1,6 +1,5 @@
 -- The chosen file is one of the two.
-use Rattle.std.proofs.Common.{ℕ, Ok, Option, subst}
-use Rattle.project_journal.specs.Opening.{Chooses}
+use Rattle.project_journal.proofs.Common.{ℕ, Ok, Option, subst, Chooses}
 use Rattle.project_journal.proofs.Choices.{opens_some}
 use Rattle.project_journal.proofs.opening.start_chosen.Goals as goal
 

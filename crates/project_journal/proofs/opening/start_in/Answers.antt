@@ -1,7 +1,5 @@
 -- By the front of the file.
-use Rattle.std.proofs.Common.{ℕ, ◌∙◌, sym, subst, arith}
-use Rattle.disk_model.specs.Disk.{Files, bytes_of}
-use Rattle.project_journal.specs.Windows.{IsView}
+use Rattle.project_journal.proofs.Common.{ℕ, ◌∙◌, sym, subst, arith, Files, bytes_of, IsView}
 use Rattle.project_journal.proofs.FirstReadings.{opened, starts_window}
 use Rattle.project_journal.proofs.opening.start_in.Goals as goal
 

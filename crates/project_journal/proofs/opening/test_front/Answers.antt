@@ -1,5 +1,5 @@
 -- The first test that fails is told of the file.
-use Rattle.std.proofs.Common.{refl}
+use Rattle.project_journal.proofs.Common.{refl}
 use Rattle.project_journal.proofs.opening.test_front.Goals as goal
 
 pub returns-in-Err-clause-starts : goal.returns-in-Err-clause-starts

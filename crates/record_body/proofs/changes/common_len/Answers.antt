@@ -1,5 +1,5 @@
 -- One of the two has no more blocks.
-use Rattle.std.proofs.Common.{arith}
+use Rattle.record_body.proofs.Common.{arith}
 use Rattle.record_body.proofs.Commons.{common_ends}
 use Rattle.record_body.proofs.changes.common_len.Goals as goal
 

@@ -1,6 +1,5 @@
 -- The blocks so far are common, and so are those that are found after them.
-use Rattle.std.proofs.Common.{◌≡◌, ◌+◌, drop}
-use Rattle.record_body.specs.Changes.{common}
+use Rattle.record_body.proofs.Common.{◌≡◌, ◌+◌, drop, common}
 use Rattle.record_body.proofs.changes.common_len.Given as goal
 
 abbrev pub invariant-loop-i : goal.invariant-loop-i

@@ -1,7 +1,5 @@
 -- The last clip is the one at the last place.
-use Rattle.std.proofs.Common.{sym, ap, subst, ◌∙◌, arith, length}
-use Rattle.pcm_base.specs.Blocks.{NoneEmpty, blocks_len}
-use Rattle.clip_track.specs.declared.clips.Clip.{Clip}
+use Rattle.record_body.proofs.Common.{sym, ap, subst, ◌∙◌, arith, length, NoneEmpty, blocks_len, Clip}
 use Rattle.record_body.proofs.{Commons.last_at, Parts.blocks_few}
 use Rattle.record_body.proofs.changes.last_blocks.Goals as goal
 

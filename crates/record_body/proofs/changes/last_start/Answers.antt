@@ -1,6 +1,5 @@
 -- The last clip is the one at the last place.
-use Rattle.std.proofs.Common.{sym, ap, ◌∙◌}
-use Rattle.clip_track.specs.declared.clips.Clip.{Clip}
+use Rattle.record_body.proofs.Common.{sym, ap, ◌∙◌, Clip}
 use Rattle.record_body.proofs.Commons.{last_at}
 use Rattle.record_body.proofs.changes.last_start.Goals as goal
 

@@ -1,5 +1,5 @@
 -- Lists of other lengths are not the same.
-use Rattle.std.proofs.Common.{sym}
+use Rattle.record_body.proofs.Common.{sym}
 use Rattle.record_body.proofs.Commons.{clips_unlike}
 use Rattle.record_body.proofs.changes.same_clips.Goals as goal
 

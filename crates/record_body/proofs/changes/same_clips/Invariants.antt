@@ -1,6 +1,5 @@
 -- The clips so far are the same, so those that are left decide.
-use Rattle.std.proofs.Common.{◌≡◌, drop}
-use Rattle.record_body.specs.Changes.{same_clips}
+use Rattle.record_body.proofs.Common.{◌≡◌, drop, same_clips}
 use Rattle.record_body.proofs.changes.same_clips.Given as goal
 
 abbrev pub invariant-loop-i : goal.invariant-loop-i

@@ -1,5 +1,5 @@
 -- Layouts of one number are the same.
-use Rattle.std.proofs.Common.{◌∙◌, sym}
+use Rattle.record_body.proofs.Common.{◌∙◌, sym}
 use Rattle.record_body.proofs.Agreeing.{alike_are_same}
 use Rattle.record_body.proofs.changes.same_layout.Goals as goal
 

@@ -1,6 +1,6 @@
 -- Id and mark, and what belongs to the mark.
-use Rattle.std.proofs.Common.{◌≡◌, ◌+◌, ◌-◌, [], ◌∷◌, length, arith, subst}
-use Rattle.record_body.specs.{ChangePlaces.marked_widths, Widths.Reaches}
+use Rattle.record_body.proofs.Common.{◌≡◌, ◌+◌, ◌-◌, [], ◌∷◌, length, arith, subst, Reaches}
+use Rattle.record_body.specs.{ChangePlaces.marked_widths}
 use Rattle.record_body.proofs.Reaching.{reaches_on}
 use Rattle.record_body.proofs.changes_measuring.fit_diff.Goals as goal
 

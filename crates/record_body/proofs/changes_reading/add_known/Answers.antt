@@ -1,39 +1,37 @@
 -- By the mark: the current track, one that is written out, or one whose end is another.
-use Rattle.pcm_base.proofs.Exits.{exit_err}
-use Rattle.std.proofs.Common.{◌≡◌, ℕ, ◌+◌, ◌*◌, Option, Some, Ok, refl, sym, subst, ◌∙◌, arith}
-use Rattle.std.proofs.lemmas.Result.{err_from_is_err_and}
-use Rattle.project_journal.specs.{Fields.field, Header.first_failed}
-use Rattle.project_state.specs.{declared.track.Track.Track, Tracks.AllBelow}
-use Rattle.record_body.specs.ChangePlaces.{fresh_at, mark_at, diff_size}
-use Rattle.record_body.specs.{ChangeTests.change_tests, Places.track_size}
-use Rattle.record_body.proofs.ToldAdds.{adds_found, adds_same, adds_tail, adds_whole, mark_fails, marks_pass}
+use Rattle.record_body.proofs.Common.{exit_err, ◌≡◌, ℕ, ◌+◌, ◌*◌, ◌<◌, length, List, Option, None, Some, Result, Ok}
+use Rattle.record_body.proofs.Common.{IfOk, refl, sym, subst, ◌∙◌, arith, field, first_failed, Damaged, Track, AllBelow}
+use Rattle.record_body.proofs.Common.{track_of, last_blocks, last_start, tailed, fresh_at, gone_at, mark_at, diff_size}
+use Rattle.record_body.proofs.Common.{change_tests, mark_tests, mark_want, tail_tests, whole_tests, blocks_at, track_at}
+use Rattle.record_body.proofs.Common.{track_size, BadBody, Finds}
+use Rattle.record_body.proofs.ToldAdds.{adds_found, adds_same, adds_tail, adds_whole, below_read, mark_fails}
+use Rattle.record_body.proofs.ToldAdds.{marks_pass}
 use Rattle.record_body.proofs.{DiffValid.has_clips, DiffTracks.found_id, DiffTracks.found_in}
 use Rattle.record_body.proofs.changes_reading.add_known.Goals as goal
 
 pub returns-in_err-test_mark : goal.returns-in_err-test_mark
 returns-in_err-test_mark c =
-    let p = err_from_is_err_and c.from_residual.result c.from_residual.ensures.1 in
-    let l = c.args.limits in
-    let at = c.args.at in
+    let l = c.args.start.limits in
+    let at = c.args.start.at in
     let bytes = c.args.bytes.now in
     let old : Track = c.track_at-old.result.now in
     let fault = c.in_err-test_mark.field-0.0 in
     rw (exit_err c.from_residual.result c.from_residual.ensures.1)
     (subst (λ (o : Option Track). first_failed (change_tests l o at bytes) ≡ Some fault)
     (sym (c.requires.found old c.track_at-old.ensures))
-    (mark_fails l at bytes old c.place.result c.wanted_mark.result c.u8_at-mark.result fault c.place.ensures
-    c.wanted_mark.ensures c.u8_at-mark.ensures c.in_err-test_mark.ensures))
+    (mark_fails l at bytes old c.place-mark_place.result c.wanted_mark.result c.u8_at-mark.result fault
+    c.place-mark_place.ensures c.wanted_mark.ensures c.u8_at-mark.ensures c.in_err-test_mark.ensures))
 
 pub share-requires-clause-above : goal.share-requires-clause-above
 share-requires-clause-above c = λ t here.
     subst (λ (n : ℕ). AllBelow n c.args.point.now)
-    (sym (found_id (field c.args.at 8 c.args.bytes.now) c.args.current.now t (c.requires.found t here)))
+    (sym (found_id (field c.args.start.at 8 c.args.bytes.now) c.args.current.now t (c.requires.found t here)))
     c.requires.above
 
 pub returns-then-mark-eq0 : goal.returns-then-mark-eq0
 returns-then-mark-eq0 c =
-    let l = c.args.limits in
-    let at = c.args.at in
+    let l = c.args.start.limits in
+    let at = c.args.start.at in
     let bytes = c.args.bytes.now in
     let now = c.args.current.now in
     let old : Track = c.track_at-old.result.now in
@@ -44,80 +42,97 @@ returns-then-mark-eq0 c =
     (adds_same l now at bytes c.args.point.now c.share.new.self old found (found_id (field at 8 bytes) now old found)
     none (c.in_ok-share.ensures.added old here))
 
-pub add_whole-requires-clause-within : goal.add_whole-requires-clause-within
-add_whole-requires-clause-within c =
-    let at = c.args.at in
+pub read_whole-track-requires : goal.read_whole-track-requires
+read_whole-track-requires c =
+    let at = c.args.start.at in
     let bytes = c.args.bytes.now in
     let one : mark_at at bytes ≡ 1 = sym c.u8_at-mark.ensures ∙ c.if-mark-eq1.true in
     let size : diff_size at bytes ≡ 1 + track_size (at + 1) bytes = rw one refl in
-    omega (arith, size, c.requires.within.1 (omega (arith, one)))
+    record { within = omega (arith, size, c.requires.within.1 (omega (arith, one))) }
 
-pub add_whole-requires-clause-above : goal.add_whole-requires-clause-above
-add_whole-requires-clause-above c =
-    let old : Track = c.track_at-old.result.now in
-    let found = c.requires.found old c.track_at-old.ensures in
-    subst (λ (n : ℕ). AllBelow n c.args.point.now)
-    (sym (found_id (field c.args.at 8 c.args.bytes.now) c.args.current.now old found)) c.requires.above
+-- the id of the track, which is above those before
+module _ (id : ℕ) (now before : List Track) (old : Track) (found : track_of id now ≡ Some old) where
+  below : (tests : List Damaged) (t : Track) (r : Result Track BadBody) → t.id ≡ old.id → AllBelow id before
+      → Finds tests (λ x. x ≡ t) r → IfOk r (λ x. AllBelow x.id before)
+  below tests t r same above h = below_read tests t id before r h (same ∙ found_id id now old found) above
+
+pub add_read-requires-clause-above : goal.add_read-requires-clause-above
+add_read-requires-clause-above c =
+    let at = c.args.start.at in
+    let bytes = c.args.bytes.now in
+    below (field at 8 bytes) c.args.current.now c.args.point.now c.track_at-old.result.now
+    (c.requires.found c.track_at-old.result.now c.track_at-old.ensures) (whole_tests c.args.start.limits (at + 1) bytes)
+    (record (track_at (at + 1) bytes) { id = c.track_at-old.result.now.id })
+    c.read_whole-track.result refl c.requires.above c.read_whole-track.ensures
 
 pub returns-then-mark-eq1 : goal.returns-then-mark-eq1
 returns-then-mark-eq1 c =
-    let l = c.args.limits in
-    let at = c.args.at in
+    let l = c.args.start.limits in
+    let at = c.args.start.at in
     let bytes = c.args.bytes.now in
     let now = c.args.current.now in
     let old : Track = c.track_at-old.result.now in
     let found = c.requires.found old c.track_at-old.ensures in
     let one : mark_at at bytes ≡ 1 = sym c.u8_at-mark.ensures ∙ c.if-mark-eq1.true in
-    adds_found l now at bytes c.args.point.now c.add_whole.new.point (Some old) c.add_whole.result found
-    (adds_whole l now at bytes c.args.point.now c.add_whole.new.point old c.add_whole.result
-    (found_id (field at 8 bytes) now old found) one c.add_whole.ensures)
+    adds_found l now at bytes c.args.point.now c.add_read.new.point (Some old) c.add_read.result found
+    (adds_whole l now at bytes c.args.point.now c.add_read.new.point old c.add_read.result
+    (found_id (field at 8 bytes) now old found) one
+    (c.add_read.ensures (whole_tests l (at + 1) bytes) (record (track_at (at + 1) bytes) { id = old.id })
+    c.read_whole-track.ensures))
 
-pub add_tail-requires-clause-within : goal.add_tail-requires-clause-within
-add_tail-requires-clause-within c =
-    let at = c.args.at in
+-- a mark that passes, and is neither of the others
+is_two : (old : Track) (at want mark : ℕ) → first_failed (mark_tests at want mark) ≡ None
+    → want ≡ mark_want (Some old) mark → (mark ≡ 0 → ⊥) → (mark ≡ 1 → ⊥) → (mark ≡ 2) × (0 < length old.layout)
+is_two old at want mark none is not_same not_whole =
+    let known = marks_pass old at want mark none is in
+    let two : mark ≡ 2 = omega (arith, known.0, not_same, not_whole) in
+    (two, has_clips old mark two known.1)
+
+pub read_tail-requires-clause-within : goal.read_tail-requires-clause-within
+read_tail-requires-clause-within c =
+    let at = c.args.start.at in
     let bytes = c.args.bytes.now in
-    let known = marks_pass c.track_at-old.result.now c.place.result c.wanted_mark.result c.u8_at-mark.result
-    c.in_ok-test_mark.ensures.0 c.wanted_mark.ensures in
-    let two : mark_at at bytes ≡ 2 =
-    omega (arith, known.0, c.if-mark-eq0.false, c.if-mark-eq1.false, c.u8_at-mark.ensures) in
+    let mark = is_two c.track_at-old.result.now c.place-mark_place.result c.wanted_mark.result c.u8_at-mark.result
+    c.in_ok-test_mark.ensures.0 c.wanted_mark.ensures c.if-mark-eq0.false c.if-mark-eq1.false in
+    let two : mark_at at bytes ≡ 2 = sym c.u8_at-mark.ensures ∙ mark.0 in
     let size : diff_size at bytes ≡ 17 + 12 * fresh_at at bytes = rw two refl in
     omega (arith, size, c.requires.within.1 (omega (arith, two)))
 
-pub add_tail-requires-clause-some : goal.add_tail-requires-clause-some
-add_tail-requires-clause-some c =
-    let old : Track = c.track_at-old.result.now in
-    let mark = c.u8_at-mark.result in
-    let known = marks_pass old c.place.result c.wanted_mark.result mark c.in_ok-test_mark.ensures.0
-    c.wanted_mark.ensures in
-    let two : mark ≡ 2 = omega (arith, known.0, c.if-mark-eq0.false, c.if-mark-eq1.false) in
-    has_clips old mark two known.1
+pub read_tail-requires-clause-some : goal.read_tail-requires-clause-some
+read_tail-requires-clause-some c =
+    let mark = is_two c.track_at-old.result.now c.place-mark_place.result c.wanted_mark.result c.u8_at-mark.result
+    c.in_ok-test_mark.ensures.0 c.wanted_mark.ensures c.if-mark-eq0.false c.if-mark-eq1.false in
+    mark.1
 
-pub add_tail-requires-clause-half_full : goal.add_tail-requires-clause-half_full
-add_tail-requires-clause-half_full c =
+pub read_tail-requires-clause-half_full : goal.read_tail-requires-clause-half_full
+read_tail-requires-clause-half_full c =
     let old : Track = c.track_at-old.result.now in
-    let is = found_in (field c.args.at 8 c.args.bytes.now) c.args.limits.block_size c.args.current.now old
+    let is = found_in (field c.args.start.at 8 c.args.bytes.now) c.args.start.limits.block_size c.args.current.now old
     c.requires.half_full (c.requires.found old c.track_at-old.ensures) in
     is.half_full
 
-pub add_tail-requires-clause-above : goal.add_tail-requires-clause-above
-add_tail-requires-clause-above c =
+pub add_read-requires-2-clause-above : goal.add_read-requires-2-clause-above
+add_read-requires-2-clause-above c =
+    let at = c.args.start.at in
+    let bytes = c.args.bytes.now in
     let old : Track = c.track_at-old.result.now in
-    let found = c.requires.found old c.track_at-old.ensures in
-    subst (λ (n : ℕ). AllBelow n c.args.point.now)
-    (sym (found_id (field c.args.at 8 c.args.bytes.now) c.args.current.now old found)) c.requires.above
+    below (field at 8 bytes) c.args.current.now c.args.point.now old (c.requires.found old c.track_at-old.ensures)
+    (tail_tests c.args.start.limits (last_start old.layout) (last_blocks old.layout) at bytes)
+    (tailed (gone_at at bytes) (blocks_at (fresh_at at bytes) (at + 17) bytes) old)
+    c.read_tail.result refl c.requires.above c.read_tail.ensures
 
 pub returns : goal.returns
 returns c =
-    let l = c.args.limits in
-    let at = c.args.at in
+    let l = c.args.start.limits in
+    let at = c.args.start.at in
     let bytes = c.args.bytes.now in
     let now = c.args.current.now in
     let old : Track = c.track_at-old.result.now in
-    let mark = c.u8_at-mark.result in
-    let found = c.requires.found old c.track_at-old.ensures in
-    let known = marks_pass old c.place.result c.wanted_mark.result mark c.in_ok-test_mark.ensures.0
-    c.wanted_mark.ensures in
-    let two : mark ≡ 2 = omega (arith, known.0, c.if-mark-eq0.false, c.if-mark-eq1.false) in
-    adds_found l now at bytes c.args.point.now c.add_tail.new.point (Some old) c.add_tail.result found
-    (adds_tail l now at bytes c.args.point.now c.add_tail.new.point old c.add_tail.result
-    (sym c.u8_at-mark.ensures ∙ two) (has_clips old mark two known.1) c.add_tail.ensures)
+    let mark = is_two old c.place-mark_place.result c.wanted_mark.result c.u8_at-mark.result
+    c.in_ok-test_mark.ensures.0 c.wanted_mark.ensures c.if-mark-eq0.false c.if-mark-eq1.false in
+    let point = c.add_read-2.new.point in
+    let result = c.add_read-2.result in
+    adds_found l now at bytes c.args.point.now point (Some old) result (c.requires.found old c.track_at-old.ensures)
+    (adds_tail l now at bytes c.args.point.now point old result (sym c.u8_at-mark.ensures ∙ mark.0) mark.1
+    (c.add_read-2.ensures (tail_tests l (last_start old.layout) (last_blocks old.layout) at bytes)
+    (tailed (gone_at at bytes) (blocks_at (fresh_at at bytes) (at + 17) bytes) old) c.read_tail.ensures))

@@ -1,6 +1,5 @@
 -- A track that is written out has its bytes after the mark.
-use Rattle.std.proofs.Common.{◌≡◌, ◌+◌, sym, ap, ◌∙◌, arith, length}
-use Rattle.record_body.specs.{ChangePlaces.mark_at, Spelling.track_bytes}
+use Rattle.record_body.proofs.Common.{◌≡◌, ◌+◌, sym, ap, ◌∙◌, arith, length, mark_at, track_bytes}
 use Rattle.record_body.proofs.Sizes.{size_of_track}
 use Rattle.record_body.proofs.changes_reading.diff_len_at.Goals as goal
 

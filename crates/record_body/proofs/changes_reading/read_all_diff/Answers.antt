@@ -1,19 +1,13 @@
 -- The track at hand stands in front of those that are left.
-use Rattle.pcm_base.proofs.Exits.{exit_err}
-use Rattle.std.proofs.Common.{◌≡◌, List, ◌+◌, ◌-◌, ◌<◌, ◌++◌, ◌∷◌, [], Option, Some, length, map, refl, sym, ap, ap₂}
-use Rattle.std.proofs.Common.{subst, ◌∙◌, arith, length-append}
-use Rattle.std.proofs.lemmas.Result.{err_from_is_err_and}
-use Rattle.project_journal.specs.Fields.{field}
-use Rattle.project_state.specs.Numbers.{AreNewOrCurrent, IsNewOrCurrent, unnumbered}
-use Rattle.project_state.specs.{declared.track.Track.Track, Tracks.AllBelow, Tracks.track_of}
-use Rattle.record_body.specs.ChangePlaces.{all_diff_at, diff_at, diff_size}
-use Rattle.record_body.specs.{ChangeTests.diff_tests, ChangeTests.all_diff_tests, Told.AddsTold, Told.AreDiff}
+use Rattle.record_body.proofs.Common.{exit_err, ◌≡◌, List, ◌+◌, ◌-◌, ◌<◌, ◌∷◌, [], Some, length, refl, sym, ap, subst}
+use Rattle.record_body.proofs.Common.{◌∙◌, arith, length-append, field, AreNewOrCurrent, unnumbered, Track, AllBelow}
+use Rattle.record_body.proofs.Common.{track_of, diff_size, diff_tests, AddsTold, AreDiff, all_pass, AllBelow-higher}
+use Rattle.record_body.proofs.Common.{AllBelow-push}
+use Rattle.project_state.specs.Numbers.{IsNewOrCurrent}
 use Rattle.record_body.proofs.SavedBounds.{all_append}
-use Rattle.record_body.proofs.Steps.{step_passes, step_finds, finds_alike, step_adds}
-use Rattle.record_body.proofs.ToldAdds.{last_is, passed_all, said_all, said_more}
+use Rattle.record_body.proofs.Steps.{row_next, row_passes, row_stops, row_values}
+use Rattle.record_body.proofs.ToldAdds.{last_is, said_more}
 use Rattle.record_body.proofs.DiffTracks.{have_first, have_rest, known_mark, id_bounds, diff_id, diff_whole}
-use Rattle.project_journal.proofs.AnyFormats.{all_pass}
-use Rattle.project_state.proofs.Points.{AllBelow-higher, AllBelow-push}
 use Rattle.record_body.proofs.changes_reading.read_all_diff.Goals as goal
 
 pub add_told-requires-clause-within : goal.add_told-requires-clause-within
@@ -22,22 +16,15 @@ add_told-requires-clause-within c = have_first (c.args.count - c.loop.counter) c
 
 pub returns-in_err-add_told : goal.returns-in_err-add_told
 returns-in_err-add_told c =
-    let p = err_from_is_err_and c.from_residual.result c.from_residual.ensures.1 in
     let bytes = c.args.bytes.now in
-    let l = c.args.limits in
     let now = c.args.current.now in
     let at = c.loop.next in
-    let from = c.loop.from in
-    let n = c.args.count - c.loop.counter in
     let adds : Unit {0} → Type 0 =
     λ _. AddsTold now (track_of (field at 8 bytes) now) at bytes c.loop.point c.add_told.new.point in
     let all : List Track → Type 0 = λ p. AreDiff now c.args.count c.args.at bytes p in
-    let here = step_finds (λ j. all_diff_tests l now j from at bytes) (λ j. all_diff_tests l now j
-    (field at 8 bytes + 1) (at + diff_size at bytes) bytes) (diff_tests l now from at bytes) (λ j. refl)
-    adds all n c.in_err-add_told.field-0.0 (omega (arith, c.loop-test.true)) c.in_err-add_told.ensures in
     rw (exit_err c.from_residual.result c.from_residual.ensures.1)
-    (finds_alike all all (all_diff_tests l now n from at bytes)
-    (all_diff_tests l now c.args.count 0 c.args.at bytes) c.in_err-add_told.field-0.0 c.loop.invariant.tests here)
+    (row_stops _ _ _ _ _ _ _ _ c.loop.invariant.told (λ n. refl) adds all c.in_err-add_told.field-0.0
+    (omega (arith, c.loop-test.true)) c.in_err-add_told.ensures)
 
 pub overflow_sub-last : goal.overflow_sub-last
 overflow_sub-last c =
@@ -102,34 +89,25 @@ loop-preserved c =
     let at = c.loop.next in
     let one = c.in_ok-add_told.ensures.1 in
     let new : Track = one.track in
-    let plain : Track = unnumbered one.track in
     let track : Track = c.track_at-track.result.now in
     let same : track ≡ new = last_is c.loop.point c.add_told.new.point new track c.len-last.result one.added
     c.len-last.ensures.value c.track_at-track.ensures in
     let n = c.args.count - c.loop.counter in
     let k = c.args.count - (c.loop.counter + 1) in
-    let next = at + c.diff_len_at-next.result in
     let some : 0 < n = omega (arith, c.loop-test.true) in
     let less : k ≡ n - 1 = omega arith in
-    let behind : at + diff_size at bytes ≡ next = ap (λ i. at + i) (sym c.diff_len_at-next.ensures) in
-    let told : diff_at now at bytes ≡ Some plain = one.said in
+    let ends : at + diff_size at bytes ≡ at + c.diff_len_at-next.result =
+    ap (λ i. at + i) (sym c.diff_len_at-next.ensures) in
     let id : field at 8 bytes ≡ track.id =
-    sym (diff_id now at bytes plain told) ∙ ap (λ (t : Track). t.id) (sym same) in
+    sym (diff_id now at bytes (unnumbered new) one.said) ∙ ap (λ (t : Track). t.id) (sym same) in
     let pass = all_pass (diff_tests l now c.loop.from at bytes) c.in_ok-add_told.ensures.0 in
     let bounds = id_bounds l now c.loop.from at bytes pass in
-    let adds = step_adds (λ j. all_diff_at now j at bytes) (λ j. all_diff_at now j next bytes) (Some plain)
-    (λ j. ap₂ (λ (x : Option Track) a. x ∷ all_diff_at now j a bytes) told behind)
-    (map Some (map unnumbered c.loop.point)) n k some less in
-    let passes = step_passes (λ j. all_diff_tests l now j c.loop.from at bytes)
-    (λ j. all_diff_tests l now j (track.id + 1) next bytes) (diff_tests l now c.loop.from at bytes)
-    (λ j. ap₂ (λ b a. diff_tests l now c.loop.from at bytes ++ all_diff_tests l now j (b + 1) a bytes) id behind) n k
-    some less c.in_ok-add_told.ensures.0 in
-    let more = said_more c.loop.point c.add_told.new.point new one.added in
     record {
-      told = ap (λ xs. xs ++ all_diff_at now k next bytes) more ∙ adds ∙ c.loop.invariant.told;
-      tests = passes ∙ c.loop.invariant.tests;
-      within = have_rest n k at next bytes some less (sym behind) (known_mark l now c.loop.from at bytes pass)
-          c.loop.invariant.within;
+      told = row_next _ _ _ _ _ _ _ _ c.loop.invariant.told (λ j. refl) (λ j. refl) k _ _ (Some (unnumbered new)) _ some
+          less c.in_ok-add_told.ensures.0 one.said (ap (λ i. i + 1) id) ends
+          (said_more c.loop.point c.add_told.new.point new one.added);
+      within = have_rest n k at (at + c.diff_len_at-next.result) bytes some less (sym ends)
+          (known_mark l now c.loop.from at bytes pass) c.loop.invariant.within;
       below = subst (AllBelow (track.id + 1)) (sym one.added) (AllBelow-push (track.id + 1) c.loop.point new
           (AllBelow-higher c.loop.from (track.id + 1) c.loop.point (omega (arith, bounds.1, id))
           c.loop.invariant.below) (omega (arith, ap (λ (t : Track). t.id) same)));
@@ -140,14 +118,10 @@ loop-preserved c =
 
 pub returns : goal.returns
 returns c =
-    let bytes = c.args.bytes.now in
-    let l = c.args.limits in
-    let now = c.args.current.now in
-    let n = c.args.count - c.loop.counter in
-    let none : n ≡ 0 = omega (arith, c.loop-test.false) in (
-      passed_all l now n c.loop.from c.loop.next bytes _ none c.loop.invariant.tests,
+    let none : c.args.count - c.loop.counter ≡ 0 = omega (arith, c.loop-test.false) in (
+      row_passes _ _ _ _ _ _ _ _ none refl c.loop.invariant.told,
       record {
-        said = said_all now n c.loop.next bytes (map Some (map unnumbered c.loop.point)) _ none c.loop.invariant.told;
+        said = row_values _ _ _ _ _ _ _ _ none refl c.loop.invariant.told;
         numbers = c.loop.invariant.numbers;
       },
     )

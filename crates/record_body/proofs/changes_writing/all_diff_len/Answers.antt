@@ -1,8 +1,6 @@
 -- One track more is counted.
-use Rattle.std.proofs.Common.{arith}
-use Rattle.record_body.specs.Changes.{diff_bytes}
+use Rattle.record_body.proofs.Common.{arith, diff_bytes, drop_some}
 use Rattle.record_body.proofs.{Agreeing.agrees_at, Parts.parts_left}
-use Rattle.project_state.proofs.Points.{drop_some}
 use Rattle.record_body.proofs.changes_writing.all_diff_len.Goals as goal
 
 pub diff_len-len-requires : goal.diff_len-len-requires

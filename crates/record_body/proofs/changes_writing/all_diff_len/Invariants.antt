@@ -1,7 +1,5 @@
 -- The bytes of the tracks so far, and of those that are left; each has less than 2^38 of them.
-use Rattle.std.proofs.Common.{◌≡◌, ◌+◌, ◌*◌, ◌^◌, ◌≤◌, length, drop}
-use Rattle.std.specs.List.{flat_map}
-use Rattle.record_body.specs.Changes.{diff_bytes}
+use Rattle.record_body.proofs.Common.{◌≡◌, ◌+◌, ◌*◌, ◌^◌, ◌≤◌, length, drop, flat_map, diff_bytes}
 use Rattle.record_body.proofs.changes_writing.all_diff_len.Given as goal
 
 abbrev pub invariant-loop-i : goal.invariant-loop-i

@@ -1,6 +1,5 @@
 -- The track that was found is the one of the current point.
-use Rattle.std.proofs.Common.{Option, subst}
-use Rattle.project_state.specs.{declared.track.Track.Track, Numbers.AgreesIfAny}
+use Rattle.record_body.proofs.Common.{Option, subst, Track, AgreesIfAny}
 use Rattle.record_body.proofs.changes_writing.choice_in.Goals as goal
 
 pub choose-requires : goal.choose-requires

@@ -1,6 +1,5 @@
 -- A byte of mark a track, at most.
-use Rattle.std.proofs.Common.{arith, subst}
-use Rattle.record_body.specs.{declared.body.Body.Body, Numbers.BodyAgrees}
+use Rattle.record_body.proofs.Common.{arith, subst, Body, BodyAgrees}
 use Rattle.record_body.proofs.DeltaLengths.{all_diff_most}
 use Rattle.record_body.proofs.changes_writing.delta_len.Goals as goal
 

@@ -1,6 +1,5 @@
 -- The blocks that come have 12 bytes each.
-use Rattle.std.proofs.Common.{ap, arith, length, drop}
-use Rattle.record_body.specs.Changes.{change_bytes, last_blocks}
+use Rattle.record_body.proofs.Common.{ap, arith, length, drop, change_bytes, last_blocks}
 use Rattle.record_body.proofs.Parts.{length_blocks}
 use Rattle.record_body.proofs.changes_writing.diff_len.Goals as goal
 

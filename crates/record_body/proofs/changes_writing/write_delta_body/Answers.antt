@@ -1,6 +1,5 @@
 -- The tracks of an edit are those of its point.
-use Rattle.std.proofs.Common.{subst}
-use Rattle.record_body.specs.{declared.body.Body.Body, Numbers.BodyAgrees}
+use Rattle.record_body.proofs.Common.{subst, Body, BodyAgrees}
 use Rattle.record_body.proofs.changes_writing.write_delta_body.Goals as goal
 
 pub write_edit_by-requires-clause-numbers : goal.write_edit_by-requires-clause-numbers

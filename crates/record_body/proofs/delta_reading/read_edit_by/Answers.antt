@@ -1,75 +1,46 @@
 -- The fields in front, and the tracks.
-use Rattle.pcm_base.proofs.Exits.{exit_err}
-use Rattle.std.proofs.Common.{◌≡◌, ℕ, List, ap, ap₂, ◌∙◌, sym, arith}
-use Rattle.project_journal.specs.Header.{first_failed}
-use Rattle.record_body.specs.{declared.limits.Limits.Limits, ChangePlaces.all_diff_at, ChangeTests.all_diff_tests}
-use Rattle.record_body.specs.{ChangeTests.delta_edit_tests, FirstFault.head_tests, FirstFault.limits_at}
-use Rattle.record_body.specs.{Places.track_count, Told.AreDiff, Told.ReadsEdit}
-use Rattle.project_state.specs.declared.track.Track.{Track}
-use Rattle.project_journal.proofs.{AnyFormats.all_pass, Headers.none_first, Headers.some_first}
-use Rattle.record_body.proofs.{ValidBodies.few_tracks, Steps.finds_alike}
+use Rattle.record_body.proofs.Common.{exit_err, ℕ, List, ap, ap₂, ◌∙◌, sym, arith, first_failed, all_diff_at}
+use Rattle.record_body.proofs.Common.{all_diff_tests, head_tests, limits_at, track_count, AreDiff, ReadsEdit, Track}
+use Rattle.record_body.proofs.Common.{none_first, some_first}
+use Rattle.record_body.proofs.{ValidBodies.few_told, Steps.finds_after}
 use Rattle.record_body.proofs.delta_reading.read_edit_by.Goals as goal
 
-pub returns-in_err-test_head : goal.returns-in_err-test_head
-returns-in_err-test_head c =
+pub returns-in_err-limits : goal.returns-in_err-limits
+returns-in_err-limits c =
     let bytes = c.args.bytes.now in
     rw (exit_err c.from_residual.result c.from_residual.ensures.1)
     (some_first (head_tests c.args.before bytes) (all_diff_tests (limits_at c.args.m c.args.before bytes)
-    c.args.current.now (track_count bytes) 0 29 bytes) c.in_err-test_head.field-0.0 c.in_err-test_head.ensures)
+    c.args.current.now (track_count bytes) 0 29 bytes) c.in_err-limits.field-0.0 c.in_err-limits.ensures)
 
 pub read_all_diff-requires-clause-few : goal.read_all_diff-requires-clause-few
 read_all_diff-requires-clause-few c =
-    let bytes = c.args.bytes.now in
-    omega (
-      arith,
-      c.u32_at.ensures,
-      few_tracks c.args.before bytes (all_pass (head_tests c.args.before bytes) c.in_ok-test_head.ensures.0),
-    )
+    omega (arith, c.u32_at.ensures, few_told c.args.before c.args.bytes.now c.in_ok-limits.ensures.0)
 
 pub returns-in_err-point : goal.returns-in_err-point
 returns-in_err-point c =
     let bytes = c.args.bytes.now in
-    let before = c.args.before in
     let now = c.args.current.now in
-    let limits : ℕ → ℕ → Limits =
-    λ block track. record { base = before.at; block_size = c.args.m; next_block = block; next_track = track } in
-    let l = limits c.u64_at-next_block.result c.u64_at-next_track.result in
-    let same : l ≡ limits_at c.args.m before bytes =
-    ap₂ limits c.u64_at-next_block.ensures c.u64_at-next_track.ensures in
-    let tests = all_diff_tests l now c.u32_at.result 0 29 bytes in
-    let all : first_failed tests ≡ first_failed (delta_edit_tests c.args.m before now bytes) =
-    ap₂ (λ x n. first_failed (all_diff_tests x now n 0 29 bytes)) same c.u32_at.ensures
-    ∙ sym (none_first (head_tests before bytes)
-    (all_diff_tests (limits_at c.args.m before bytes) now (track_count bytes) 0 29 bytes) c.in_ok-test_head.ensures.0)
-    in
     let found : List Track → Type 0 = λ x. AreDiff now c.u32_at.result 29 bytes x in
     rw (exit_err c.from_residual-in_err-point.result c.from_residual-in_err-point.ensures.1)
-    (finds_alike found (ReadsEdit now bytes) tests
-    (delta_edit_tests c.args.m before now bytes) c.in_err-point.field-0.0 all c.in_err-point.ensures)
+    (finds_after found (ReadsEdit now bytes) (head_tests c.args.before bytes) _ _ c.in_err-point.field-0.0
+    c.in_ok-limits.ensures.0 (ap₂ (λ l n. all_diff_tests l now n 0 29 bytes) c.in_ok-limits.ensures.1 c.u32_at.ensures)
+    c.in_err-point.ensures)
 
 pub returns : goal.returns
 returns c =
     let bytes = c.args.bytes.now in
-    let before = c.args.before in
     let now = c.args.current.now in
-    let limits : ℕ → ℕ → Limits =
-    λ block track. record { base = before.at; block_size = c.args.m; next_block = block; next_track = track } in
-    let l = limits c.u64_at-next_block.result c.u64_at-next_track.result in
-    let same : l ≡ limits_at c.args.m before bytes =
-    ap₂ limits c.u64_at-next_block.ensures c.u64_at-next_track.ensures in
-    let tests = all_diff_tests l now c.u32_at.result 0 29 bytes in
-    let all : first_failed tests ≡ first_failed (delta_edit_tests c.args.m before now bytes) =
-    ap₂ (λ x n. first_failed (all_diff_tests x now n 0 29 bytes)) same c.u32_at.ensures
-    ∙ sym (none_first (head_tests before bytes)
-    (all_diff_tests (limits_at c.args.m before bytes) now (track_count bytes) 0 29 bytes) c.in_ok-test_head.ensures.0)
-    in
-    let told = c.in_ok-point.ensures.1 in (
-      sym all ∙ c.in_ok-point.ensures.0,
+    let limits = c.in_ok-limits.ensures.1 in
+    let told = c.in_ok-point.ensures.1 in
+    let tests = all_diff_tests (limits_at c.args.m c.args.before bytes) now (track_count bytes) 0 29 bytes in (
+      none_first (head_tests c.args.before bytes) tests c.in_ok-limits.ensures.0
+          ∙ sym (ap₂ (λ l n. first_failed (all_diff_tests l now n 0 29 bytes)) limits c.u32_at.ensures)
+          ∙ c.in_ok-point.ensures.0,
       (
         (
           c.u64_at.ensures,
-          c.u64_at-next_block.ensures,
-          c.u64_at-next_track.ensures,
+          ap (λ l. l.next_block) limits,
+          ap (λ l. l.next_track) limits,
           told.said ∙ ap (λ (n : ℕ). all_diff_at now n 29 bytes) c.u32_at.ensures,
         ),
         told.numbers,

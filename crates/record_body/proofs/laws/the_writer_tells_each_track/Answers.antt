@@ -1,5 +1,5 @@
 -- The laws of the lemmas.
-use Rattle.std.proofs.Common.{Some, None}
+use Rattle.record_body.proofs.Common.{Some, None}
 use Rattle.record_body.proofs.ChangeLaws.{choice_says, same_stays, fewest_gone}
 use Rattle.record_body.proofs.laws.the_writer_tells_each_track.Goals as goal
 

@@ -1,5 +1,5 @@
 -- The law of the lemmas.
-use Rattle.record_body.specs.Saved.{before_of, current_tracks}
+use Rattle.record_body.proofs.Common.{before_of, current_tracks}
 use Rattle.record_body.proofs.DiffValid.{delta_valid}
 use Rattle.record_body.proofs.laws.what_passes_may_come_next.Goals as goal
 

@@ -1,6 +1,6 @@
 -- The fields so far fit, and those that are left end where all of them do.
-use Rattle.std.proofs.Common.{◌≡◌, ◌+◌, ◌≤◌, drop, All}
-use Rattle.record_body.specs.Widths.{total_width, reach}
+use Rattle.record_body.proofs.Common.{◌≡◌, ◌+◌, ◌≤◌, drop, total_width, reach}
+use Rattle.std.proofs.Common.{All}
 use Rattle.record_body.proofs.measuring.fit_all.Given as goal
 
 abbrev pub invariant-loop-width : goal.invariant-loop-width

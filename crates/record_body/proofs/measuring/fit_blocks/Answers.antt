@@ -1,5 +1,5 @@
 -- So many blocks fit as there are 12 bytes for; one of the next block's two fields does not.
-use Rattle.std.proofs.Common.{◌-◌, ◌/◌, arith}
+use Rattle.record_body.proofs.Common.{◌-◌, ◌/◌, arith}
 use Rattle.record_body.proofs.Reaching.{sum_blocks, blocks_past}
 use Rattle.record_body.proofs.measuring.fit_blocks.Goals as goal
 

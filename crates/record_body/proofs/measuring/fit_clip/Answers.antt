@@ -1,18 +1,9 @@
 -- Two fields, and the blocks.
-use Rattle.std.proofs.Common.{◌≡◌, ◌+◌, ◌-◌, [], ◌∷◌, length, arith, ap, ◌∙◌, subst}
-use Rattle.project_journal.specs.Fields.{field}
-use Rattle.record_body.specs.Widths.{blocks_widths, Reaches}
-use Rattle.record_body.proofs.Reaching.{reaches_on}
+use Rattle.record_body.proofs.Common.{◌+◌, [], ◌∷◌, arith, blocks_widths}
+use Rattle.record_body.proofs.Reaching.{counted_on}
 use Rattle.record_body.proofs.measuring.fit_clip.Goals as goal
 
 pub returns : goal.returns
-returns c =
-    let len = length c.args.bytes.now in
-    let end : c.in_ok-end.end - 4 ≡ c.args.at + 8 = omega (arith, c.in_ok-end.ensures.0) in
-    let count : c.u32_at.result ≡ field (c.args.at + 8) 4 c.args.bytes.now =
-    c.u32_at.ensures ∙ ap (λ at. field at 4 c.args.bytes.now) end in
-    let blocks =
-    subst (λ n. Reaches len c.in_ok-end.end (blocks_widths n) c.fit_blocks.result) count c.fit_blocks.ensures in
-    reaches_on len c.args.at c.in_ok-end.end (8 ∷ 4 ∷ [])
-    (blocks_widths (field (c.args.at + 8) 4 c.args.bytes.now)) c.fit_blocks.result
-    (omega (arith, c.in_ok-end.ensures.0)) c.in_ok-end.ensures.1 blocks
+returns c = counted_on c.args.bytes.now (8 ∷ 4 ∷ []) (λ n at. blocks_widths n)
+    c.args.at (c.args.at + 8) (c.args.at + 12) _ _ c.fit_blocks.result (omega arith)
+    (omega arith) c.in_ok-end.ensures.0 c.in_ok-end.ensures.1 c.u32_at.ensures c.fit_blocks.ensures

@@ -1,5 +1,5 @@
 -- What the bytes say is valid, and they are its spelling.
-use Rattle.std.proofs.Common.{arith}
+use Rattle.record_body.proofs.Common.{arith}
 use Rattle.record_body.proofs.HeaderPoints.{point_found}
 use Rattle.record_body.proofs.point_reading.read_point.Goals as goal
 

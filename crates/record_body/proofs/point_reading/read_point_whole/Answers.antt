@@ -1,8 +1,6 @@
 -- The length, and then the fields.
-use Rattle.std.proofs.Common.{◌∷◌, [], arith}
-use Rattle.record_body.specs.PointTests.{point_length_test}
+use Rattle.record_body.proofs.Common.{◌∷◌, [], arith, point_length_test, all_pass}
 use Rattle.record_body.proofs.HeaderPoints.{point_size}
-use Rattle.project_journal.proofs.AnyFormats.{all_pass}
 use Rattle.record_body.proofs.point_reading.read_point_whole.Goals as goal
 
 pub read_point_fields-requires : goal.read_point_fields-requires

@@ -1,6 +1,4 @@
-use Rattle.std.proofs.Common.{◌∷◌, [], arith}
-use Rattle.record_body.specs.FirstFault.{length_test, kind_test}
-use Rattle.project_journal.proofs.AnyFormats.{all_pass}
+use Rattle.record_body.proofs.Common.{◌∷◌, [], arith, length_test, kind_test, all_pass}
 use Rattle.record_body.proofs.Reaching.{edit_size}
 use Rattle.record_body.proofs.reading.read_fields.Goals as goal
 

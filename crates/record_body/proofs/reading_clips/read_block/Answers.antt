@@ -1,7 +1,5 @@
 -- A block in its bounds passes its tests.
-use Rattle.std.proofs.Common.{◌≡◌, arith}
-use Rattle.pcm_base.specs.declared.block.BlockRef.{BlockRef}
-use Rattle.record_body.specs.{FirstFault.block_tests, Places.block_at}
+use Rattle.record_body.proofs.Common.{◌≡◌, arith, BlockRef, block_tests, block_at}
 use Rattle.record_body.proofs.Moved.{pass_none}
 use Rattle.record_body.proofs.reading_clips.read_block.Goals as goal
 

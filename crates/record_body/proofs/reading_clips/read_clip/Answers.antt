@@ -1,8 +1,6 @@
 -- All tests of the clip passed.
-use Rattle.std.proofs.Common.{◌+◌, ◌^◌, ◌≤◌, nat_lt, [], ◌∷◌, sym, ap, subst, arith}
-use Rattle.pcm_base.specs.Blocks.{NoneEmpty, IsHalfFull, block_lens, blocks_len}
-use Rattle.record_body.specs.FirstFault.{blocks_tests}
-use Rattle.project_journal.proofs.AnyFormats.{all_pass}
+use Rattle.record_body.proofs.Common.{◌+◌, ◌^◌, ◌≤◌, nat_lt, [], ◌∷◌, sym, ap, subst, arith, NoneEmpty, IsHalfFull}
+use Rattle.record_body.proofs.Common.{block_lens, blocks_len, blocks_tests, all_pass}
 use Rattle.record_body.proofs.ValidBodies.{valid_blocks, half_full, same_lens}
 use Rattle.record_body.proofs.reading_clips.read_clip.Goals as goal
 

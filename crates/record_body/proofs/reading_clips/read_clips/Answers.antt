@@ -1,92 +1,78 @@
 -- The clip at hand stands in front of those that are left.
-use Rattle.std.proofs.Common.{◌≡◌, List, ◌+◌, ◌-◌, ◌<◌, ◌++◌, ◌∷◌, length, None, refl, sym, ap, ap₂, subst, ◌∙◌, arith}
-use Rattle.std.proofs.Common.{append-nil}
-use Rattle.pcm_base.proofs.Exits.{exit_err}
-use Rattle.clip_track.specs.{declared.clips.Clip.Clip, Clips.IsLayout, Clips.clip_end}
-use Rattle.project_journal.specs.Header.{first_failed}
-use Rattle.record_body.specs.Places.{block_count, clip_at, clip_end_at, clip_size, clips_at}
-use Rattle.record_body.specs.{Spelling.clip_bytes, FirstFault.clip_tests, FirstFault.clips_tests}
-use Rattle.project_journal.proofs.AnyFormats.{all_pass}
-use Rattle.record_body.proofs.{Reaching.clips_behind, Sizes.size_of_clip, Steps.step_passes, Steps.step_finds}
-use Rattle.record_body.proofs.{Steps.finds_alike, Steps.step_adds, ValidBodies.same_lens, ValidBodies.valid_clips}
+use Rattle.record_body.proofs.Common.{◌≡◌, ℕ, List, ◌+◌, ◌-◌, ◌<◌, ◌≤◌, length, None, refl, sym, ap, subst, ◌∙◌, arith}
+use Rattle.record_body.proofs.Common.{exit_err, Clip, IsLayout, clip_end, first_failed, block_count, clip_at}
+use Rattle.record_body.proofs.Common.{clip_end_at, clip_size, clips_at, clips_size, clip_bytes, clips_tests, all_pass}
+use Rattle.record_body.proofs.Steps.{row_next, row_passes, row_stops, row_values}
+use Rattle.record_body.proofs.{Reaching.first_within, Reaching.parts_behind, Sizes.size_of_clip}
+use Rattle.record_body.proofs.ValidBodies.{same_lens, valid_clips}
 use Rattle.record_body.proofs.reading_clips.read_clips.Goals as goal
+
+-- a clip has its bytes among those of the clips that are left
+here_within : (bytes : List ℕ) (at n : ℕ) → 0 < n → at + clip_size at bytes ≤ at + clips_size n at bytes
+here_within bytes at n some =
+    first_within (λ j a. clips_size j a bytes) (clip_size at bytes) at at (λ j. refl) n some
 
 pub read_clip-requires : goal.read_clip-requires
 read_clip-requires c =
-    let bytes = c.args.bytes.now in
-    let at = c.loop.next in
-    let behind = clips_behind at (c.args.count - c.loop.counter) (at + clip_size at bytes)
-    (c.args.count - c.loop.counter - 1) bytes (omega (arith, c.loop-test.true)) refl refl in
-    record { within = omega (arith, behind, c.loop.invariant.2, c.requires.within) }
+    let within = here_within c.args.bytes.now c.loop.next (c.args.count - c.loop.counter)
+    (omega (arith, c.loop-test.true)) in
+    record { within = omega (arith, within, c.loop.invariant.1, c.requires.within) }
 
 pub returns-in_err-clip : goal.returns-in_err-clip
 returns-in_err-clip c =
     let bytes = c.args.bytes.now in
-    let l = c.args.limits in
-    let at = c.loop.next in
-    let from = c.loop.from in
-    let n = c.args.count - c.loop.counter in
-    let found : Clip → Type 0 = λ x. x ≡ clip_at at bytes in
+    let found : Clip → Type 0 = λ x. x ≡ clip_at c.loop.next bytes in
     let all : List Clip → Type 0 = λ x. x ≡ clips_at c.args.count c.args.at bytes in
-    let here = step_finds (λ j. clips_tests l j from at bytes) (λ j. clips_tests l j (clip_end_at at bytes + 1)
-    (at + clip_size at bytes) bytes) (clip_tests l from at bytes) (λ j. refl)
-    found all n c.in_err-clip.field-0.0 (omega (arith, c.loop-test.true)) c.in_err-clip.ensures in
     rw (exit_err c.from_residual-in_err-clip.result c.from_residual-in_err-clip.ensures.1)
-    (finds_alike all all (clips_tests l n from at bytes)
-    (clips_tests l c.args.count 0 c.args.at bytes) c.in_err-clip.field-0.0 c.loop.invariant.1 here)
+    (row_stops _ _ _ _ _ _ _ _ c.loop.invariant.0 (λ n. refl) found all c.in_err-clip.field-0.0
+    (omega (arith, c.loop-test.true)) c.in_err-clip.ensures)
+
+-- the clip has as many bytes as its fields say
+size_of : (bytes : List ℕ) (at len : ℕ) (clip : Clip) → len ≡ length (clip_bytes clip) → clip ≡ clip_at at bytes
+    → clip_size at bytes ≡ len
+size_of bytes at len clip is same =
+    sym (is ∙ ap (λ x. length (clip_bytes x)) same ∙ size_of_clip bytes at)
 
 pub overflow_add-next : goal.overflow_add-next
 overflow_add-next c =
     let bytes = c.args.bytes.now in
-    let at = c.loop.next in
-    let behind = clips_behind at (c.args.count - c.loop.counter) (at + clip_size at bytes)
-    (c.args.count - c.loop.counter - 1) bytes (omega (arith, c.loop-test.true)) refl refl in
-    let size : c.clip_len.result ≡ clip_size at bytes =
-    c.clip_len.ensures ∙ ap (λ x. length (clip_bytes x)) c.in_ok-clip.ensures.1 ∙ size_of_clip bytes at in
-    omega (arith, size, behind, c.loop.invariant.2, c.requires.within)
+    let within = here_within bytes c.loop.next (c.args.count - c.loop.counter) (omega (arith, c.loop-test.true)) in
+    let size = size_of bytes c.loop.next _ c.in_ok-clip.clip c.clip_len.ensures c.in_ok-clip.ensures.1 in
+    omega (arith, size, within, c.loop.invariant.1, c.requires.within)
 
 pub loop-preserved : goal.loop-preserved
 loop-preserved c =
     let bytes = c.args.bytes.now in
-    let l = c.args.limits in
     let at = c.loop.next in
-    let clip = c.in_ok-clip.clip in
-    let n = c.args.count - c.loop.counter in
-    let k = c.args.count - (c.loop.counter + 1) in
-    let next = at + c.clip_len.result in
-    let from = clip.start + c.len.result + 1 in
-    let some : 0 < n = omega (arith, c.loop-test.true) in
-    let less : k ≡ n - 1 = omega arith in
-    let size : c.clip_len.result ≡ clip_size at bytes =
-    c.clip_len.ensures ∙ ap (λ x. length (clip_bytes x)) c.in_ok-clip.ensures.1 ∙ size_of_clip bytes at in
-    let behind : at + clip_size at bytes ≡ next = ap (λ i. at + i) (sym size) in
-    let end : clip_end_at at bytes + 1 ≡ from = omega (
+    let some : 0 < c.args.count - c.loop.counter = omega (arith, c.loop-test.true) in
+    let less : c.args.count - (c.loop.counter + 1) ≡ c.args.count - c.loop.counter - 1 = omega arith in
+    let ends : at + clip_size at bytes ≡ at + c.clip_len.result =
+    ap (λ n. at + n) (size_of bytes at _ c.in_ok-clip.clip c.clip_len.ensures c.in_ok-clip.ensures.1) in
+    let from : clip_end_at at bytes + 1 ≡ c.in_ok-clip.clip.start + c.len.result + 1 = omega (
       arith,
       same_lens (block_count at bytes) (at + 12) bytes,
       c.len.ensures.value,
       ap clip_end c.in_ok-clip.ensures.1,
-    ) in
-    let adds = step_adds (λ j. clips_at j at bytes) (λ j. clips_at j next bytes) clip
-    (λ j. ap₂ (λ x a. x ∷ clips_at j a bytes) (sym c.in_ok-clip.ensures.1) behind) c.loop.clips.items n k some less in
-    let passes = step_passes (λ j. clips_tests l j c.loop.from at bytes) (λ j. clips_tests l j from next bytes)
-    (clip_tests l c.loop.from at bytes)
-    (λ j. ap₂ (λ b a. clip_tests l c.loop.from at bytes ++ clips_tests l j b a bytes) end behind) n k some less
-    c.in_ok-clip.ensures.0 in (
-      ap (λ items. items ++ clips_at k next bytes) c.in_ok-push.ensures.items ∙ adds ∙ c.loop.invariant.0,
-      passes ∙ c.loop.invariant.1,
-      clips_behind at n next k bytes some (sym behind) less ∙ c.loop.invariant.2,
+    ) in (
+      row_next _ _ _ _ _ _ _ _ c.loop.invariant.0 (λ n. refl) (λ n. refl) _ _ _ _ _ some less c.in_ok-clip.ensures.0
+          (sym c.in_ok-clip.ensures.1) from ends c.in_ok-push.ensures.items,
+      parts_behind (λ j a. clips_size j a bytes) (clip_size at bytes) at _ (λ j. refl) _ _ some less ends
+          ∙ c.loop.invariant.1,
     )
 
 pub from_clips-requires : goal.from_clips-requires
 from_clips-requires c =
     let bytes = c.args.bytes.now in
-    let l = c.args.limits in
     let none : c.args.count - c.loop.counter ≡ 0 = omega (arith, c.loop-test.false) in
-    let all : c.loop.clips.items ≡ clips_at c.args.count c.args.at bytes =
-    sym (append-nil c.loop.clips.items) ∙ ap (λ j. c.loop.clips.items ++ clips_at j c.loop.next bytes) (sym none)
-    ∙ c.loop.invariant.0 in
-    let pass : first_failed (clips_tests l c.args.count 0 c.args.at bytes) ≡ None =
-    sym c.loop.invariant.1 ∙ ap (λ j. first_failed (clips_tests l j c.loop.from c.loop.next bytes)) none in
-    let valid = valid_clips l c.args.count 0 0 c.args.at bytes (omega arith)
-    (all_pass (clips_tests l c.args.count 0 c.args.at bytes) pass) in
-    subst IsLayout (sym all) (record { apart = valid.0; few = valid.1 })
+    let tests = clips_tests c.args.limits c.args.count 0 c.args.at bytes in
+    let pass : first_failed tests ≡ None = row_passes _ _ _ _ _ _ _ _ none refl c.loop.invariant.0 in
+    let valid = valid_clips c.args.limits c.args.count 0 0 c.args.at bytes (omega arith) (all_pass tests pass) in
+    subst IsLayout (sym (row_values _ _ _ _ _ _ _ _ none refl c.loop.invariant.0))
+    (record { apart = valid.0; few = valid.1 })
+
+pub returns : goal.returns
+returns c =
+    let none : c.args.count - c.loop.counter ≡ 0 = omega (arith, c.loop-test.false) in (
+      row_passes _ _ _ _ _ _ _ _ none refl c.loop.invariant.0,
+      c.in_ok-from_clips.ensures ∙ row_values _ _ _ _ _ _ _ _ none refl c.loop.invariant.0,
+    )

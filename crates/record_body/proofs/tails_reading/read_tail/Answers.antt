@@ -1,76 +1,60 @@
 -- All tests of the end passed.
-use Rattle.std.proofs.Common.{◌≡◌, ◌+◌, ◌^◌, ◌≤◌, sym, ap, subst, ◌∙◌, arith}
-use Rattle.pcm_base.specs.Blocks.{IsHalfFull, NoneEmpty, block_lens, blocks_len}
-use Rattle.clip_track.specs.Clips.{IsLayout}
-use Rattle.record_body.specs.{Changes.last_blocks, Changes.last_start, Changes.with_last, ChangeTests.tail_tests}
-use Rattle.project_journal.proofs.AnyFormats.{all_pass}
-use Rattle.record_body.proofs.Tails.{end_last, last_end, valid_tail, layout_with}
+use Rattle.record_body.proofs.Common.{◌≡◌, ℕ, ◌+◌, ◌^◌, ◌≤◌, ◌<◌, ◌++◌, None, List, length, sym, ap, subst, ◌∙◌, arith}
+use Rattle.record_body.proofs.Common.{BlockRef, IsHalfFull, NoneEmpty, block_lens, blocks_len, Clip, AllHalfFull}
+use Rattle.record_body.proofs.Common.{IsLayout, first_failed, fresh_at, gone_at, kept_blocks, tail_tests, last_blocks}
+use Rattle.record_body.proofs.Common.{last_start, with_last, blocks_at, Limits, all_pass}
+use Rattle.record_body.proofs.Tails.{IsTail, end_last, last_end, valid_tail, layout_with}
 use Rattle.record_body.proofs.tails_reading.read_tail.Goals as goal
 
+-- the last clip of a layout, by the start and the blocks that were read of it
+module _ (layout clips : List Clip) (start : ℕ) (olds : List BlockRef) (same : clips ≡ layout)
+    (is_start : start ≡ last_start clips) (are_olds : olds ≡ last_blocks clips) (is : IsLayout layout)
+    (some : 0 < length layout) where
+  of_layout : last_blocks layout ≡ olds
+  of_layout = sym (are_olds ∙ ap last_blocks same)
+
+  near : start + blocks_len olds ≤ 2 ^ 32
+  near = omega (
+    arith,
+    is_start ∙ ap last_start same,
+    ap blocks_len of_layout,
+    end_last 0 layout some,
+    is.few,
+  )
+
+  tail : (l : Limits) (at : ℕ) (bytes : List ℕ) (blocks : List BlockRef) → AllHalfFull l.block_size layout
+      → first_failed (tail_tests l start olds at bytes) ≡ None
+      → blocks ≡ kept_blocks olds (gone_at at bytes) ++ blocks_at (fresh_at at bytes) (at + 17) bytes
+      → IsTail l start olds at bytes blocks
+  tail l at bytes blocks half pass are =
+      let end = last_end l.block_size 0 layout is.apart half in
+      subst (IsTail l start olds at bytes) (sym are) (valid_tail l start olds at bytes
+      (subst (λ bs. IsHalfFull l.block_size (block_lens bs)) of_layout end.half_full)
+      (subst NoneEmpty of_layout end.none_empty) near (all_pass (tail_tests l start olds at bytes) pass))
+
 pub read_tail_blocks-requires-clause-near : goal.read_tail_blocks-requires-clause-near
-read_tail_blocks-requires-clause-near c =
-    let layout = c.args.old.now.layout in
-    let same = c.as_slice-clips.ensures.value in
-    let start : c.last_start.result ≡ last_start layout = c.last_start.ensures ∙ ap last_start same in
-    let olds : c.last_blocks.result.now ≡ last_blocks layout = c.last_blocks.ensures.value ∙ ap last_blocks same in
-    let near : c.last_start.result + blocks_len c.last_blocks.result.now ≤ 2 ^ 32 = omega (
-      arith,
-      start,
-      ap blocks_len olds,
-      end_last 0 layout c.requires.some,
-      c.as_slice-clips.ensures.apart.few,
-    ) in
-    near
+read_tail_blocks-requires-clause-near c = near c.args.old.now.layout _ _ _ c.as_slice-clips.ensures.value
+    c.last_start.ensures c.last_blocks.ensures.value c.as_slice-clips.ensures.apart c.requires.some
 
 pub new-requires : goal.new-requires
 new-requires c =
-    let layout = c.args.old.now.layout in
-    let same = c.as_slice-clips.ensures.value in
-    let start : c.last_start.result ≡ last_start layout = c.last_start.ensures ∙ ap last_start same in
-    let olds : c.last_blocks.result.now ≡ last_blocks layout = c.last_blocks.ensures.value ∙ ap last_blocks same in
-    let near : c.last_start.result + blocks_len c.last_blocks.result.now ≤ 2 ^ 32 = omega (
-      arith,
-      start,
-      ap blocks_len olds,
-      end_last 0 layout c.requires.some,
-      c.as_slice-clips.ensures.apart.few,
-    ) in
-    let end = last_end c.args.limits.block_size 0 layout c.as_slice-clips.ensures.apart.apart c.requires.half_full in
-    let tail = valid_tail c.args.limits c.last_start.result c.last_blocks.result.now c.args.at c.args.bytes.now
-    (subst (λ bs. IsHalfFull c.args.limits.block_size (block_lens bs)) (sym olds) end.half_full)
-    (subst NoneEmpty (sym olds) end.none_empty) near
-    (all_pass (tail_tests c.args.limits c.last_start.result c.last_blocks.result.now c.args.at c.args.bytes.now)
-    c.in_ok-blocks.ensures.0) in
-    let are = sym c.in_ok-blocks.ensures.1 in record {
-      full = (
-        c.args.limits.block_size,
-        subst (λ bs. IsHalfFull c.args.limits.block_size (block_lens bs)) are tail.half_full,
-      );
-      none_empty = subst NoneEmpty are tail.none_empty;
-      few = omega (arith, tail.end, ap blocks_len are);
+    let end = tail c.args.old.now.layout _ _ _ c.as_slice-clips.ensures.value c.last_start.ensures
+    c.last_blocks.ensures.value c.as_slice-clips.ensures.apart c.requires.some c.args.limits c.args.at
+    c.args.bytes.now _ c.requires.half_full c.in_ok-blocks.ensures.0 c.in_ok-blocks.ensures.1 in
+    record {
+      full = (c.args.limits.block_size, end.half_full);
+      none_empty = end.none_empty;
+      few = omega (arith, end.end);
     }
 
 pub from_clips-requires : goal.from_clips-requires
 from_clips-requires c =
     let layout = c.args.old.now.layout in
     let same = c.as_slice-clips.ensures.value in
-    let start : c.last_start.result ≡ last_start layout = c.last_start.ensures ∙ ap last_start same in
-    let olds : c.last_blocks.result.now ≡ last_blocks layout = c.last_blocks.ensures.value ∙ ap last_blocks same in
-    let near : c.last_start.result + blocks_len c.last_blocks.result.now ≤ 2 ^ 32 = omega (
-      arith,
-      start,
-      ap blocks_len olds,
-      end_last 0 layout c.requires.some,
-      c.as_slice-clips.ensures.apart.few,
-    ) in
-    let end = last_end c.args.limits.block_size 0 layout c.as_slice-clips.ensures.apart.apart c.requires.half_full in
-    let tail = valid_tail c.args.limits c.last_start.result c.last_blocks.result.now c.args.at c.args.bytes.now
-    (subst (λ bs. IsHalfFull c.args.limits.block_size (block_lens bs)) (sym olds) end.half_full)
-    (subst NoneEmpty (sym olds) end.none_empty) near
-    (all_pass (tail_tests c.args.limits c.last_start.result c.last_blocks.result.now c.args.at c.args.bytes.now)
-    c.in_ok-blocks.ensures.0) in
-    let are = sym c.in_ok-blocks.ensures.1 in
-    let blocks = c.new.ensures ∙ c.in_ok-blocks.ensures.1 in
-    let clips = c.in_ok-clips.ensures ∙ ap (with_last c.new.result) same ∙ ap (λ bs. with_last bs layout) blocks in
-    subst IsLayout (sym clips) (layout_with layout _ c.requires.some c.as_slice-clips.ensures.apart tail.none_empty
-    tail.some (omega (arith, tail.end, start)))
+    let end = tail layout _ _ _ same c.last_start.ensures
+    c.last_blocks.ensures.value c.as_slice-clips.ensures.apart c.requires.some c.args.limits c.args.at
+    c.args.bytes.now _ c.requires.half_full c.in_ok-blocks.ensures.0 c.in_ok-blocks.ensures.1 in
+    let clips =
+    c.in_ok-clips.ensures ∙ ap (with_last c.new.result) same ∙ ap (λ bs. with_last bs layout) c.new.ensures in
+    subst IsLayout (sym clips) (layout_with layout _ c.requires.some c.as_slice-clips.ensures.apart end.none_empty
+    end.some (omega (arith, end.end, c.last_start.ensures ∙ ap last_start same)))

@@ -1,5 +1,5 @@
 -- What is kept has no more samples than all had.
-use Rattle.std.proofs.Common.{◌-◌, length, arith}
+use Rattle.record_body.proofs.Common.{◌-◌, length, arith}
 use Rattle.record_body.proofs.Tails.{take_len}
 use Rattle.record_body.proofs.tails_reading.read_tail_blocks.Goals as goal
 

@@ -1,6 +1,5 @@
 -- The samples so far, and those of the blocks that are left.
-use Rattle.std.proofs.Common.{◌≡◌, ◌+◌, drop}
-use Rattle.pcm_base.specs.Blocks.{blocks_len}
+use Rattle.record_body.proofs.Common.{◌≡◌, ◌+◌, drop, blocks_len}
 use Rattle.record_body.proofs.tails_reading.total.Given as goal
 
 abbrev pub invariant-loop-block : goal.invariant-loop-block

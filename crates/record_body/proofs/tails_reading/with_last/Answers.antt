@@ -1,6 +1,5 @@
 -- The clips before the last are copied, and the last has its other blocks.
-use Rattle.std.proofs.Common.{◌≡◌, ◌-◌, ◌++◌, ◌∷◌, [], List, length, take, ap, sym, ◌∙◌, arith}
-use Rattle.clip_track.specs.declared.clips.Clip.{Clip}
+use Rattle.record_body.proofs.Common.{◌≡◌, ◌-◌, ◌++◌, ◌∷◌, [], List, length, take, ap, sym, ◌∙◌, arith, Clip}
 use Rattle.record_body.proofs.Tails.{front_and_last}
 use Rattle.record_body.proofs.tails_reading.with_last.Goals as goal
 

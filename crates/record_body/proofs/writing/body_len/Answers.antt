@@ -1,4 +1,4 @@
-use Rattle.std.proofs.Common.{arith}
+use Rattle.record_body.proofs.Common.{arith}
 use Rattle.record_body.proofs.{DeltaLengths.diff_short, Lengths.tracks_short}
 use Rattle.record_body.proofs.writing.body_len.Goals as goal
 

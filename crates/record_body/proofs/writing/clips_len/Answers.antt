@@ -1,6 +1,5 @@
 -- The clips so far have no more bytes than all of them, which are at most 24 a sample.
-use Rattle.std.proofs.Common.{arith}
-use Rattle.record_body.specs.Spelling.{clip_bytes}
+use Rattle.record_body.proofs.Common.{arith, clip_bytes}
 use Rattle.record_body.proofs.Parts.{clips_few, parts_left, drop_here}
 use Rattle.record_body.proofs.writing.clips_len.Goals as goal
 

@@ -1,8 +1,6 @@
 -- One track more is counted.
-use Rattle.std.proofs.{Common.arith, Common.subst, Common.sym, Common.take, lemmas.List.take_all}
-use Rattle.record_body.specs.{Spelling.track_bytes, Lengths.AreLayouts}
+use Rattle.record_body.proofs.Common.{arith, subst, sym, take, take_all, track_bytes, AreLayouts, drop_some, take_some}
 use Rattle.record_body.proofs.{Parts.parts_left, Lengths.AreLayouts-push}
-use Rattle.project_state.proofs.Points.{drop_some, take_some}
 use Rattle.record_body.proofs.writing.tracks_len.Goals as goal
 
 pub loop-i-preserved : goal.loop-i-preserved

@@ -1,7 +1,5 @@
 -- The bytes of the tracks so far, and of those that are left; each has less than 2^37 of them.
-use Rattle.std.proofs.Common.{◌≡◌, ◌+◌, ◌*◌, ◌^◌, ◌≤◌, length, take, drop}
-use Rattle.std.specs.List.{flat_map}
-use Rattle.record_body.specs.{Spelling.track_bytes, Lengths.AreLayouts}
+use Rattle.record_body.proofs.Common.{◌≡◌, ◌+◌, ◌*◌, ◌^◌, ◌≤◌, length, take, drop, flat_map, track_bytes, AreLayouts}
 use Rattle.record_body.proofs.writing.tracks_len.Given as goal
 
 abbrev pub invariant-loop-i : goal.invariant-loop-i

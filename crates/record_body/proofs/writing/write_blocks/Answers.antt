@@ -1,6 +1,5 @@
 -- One block more is written.
-use Rattle.std.proofs.{Common.◌+◌, Common.◌*◌, Common.length, Common.ap, Common.arith, lemmas.List.take_more}
-use Rattle.record_body.specs.Spelling.{block_bytes}
+use Rattle.record_body.proofs.Common.{◌+◌, ◌*◌, length, ap, arith, take_more, block_bytes}
 use Rattle.record_body.proofs.Parts.{part_written}
 use Rattle.record_body.proofs.writing.write_blocks.Goals as goal
 

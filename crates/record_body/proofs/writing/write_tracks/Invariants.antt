@@ -1,11 +1,7 @@
 -- The tracks so far are written, and there is room for those that are left.
-use Rattle.std.proofs.Common.{◌≡◌, ◌+◌, length, take, drop}
-use Rattle.std.specs.List.{flat_map}
-use Rattle.record_body.specs.Spelling.{track_bytes}
+use Rattle.record_body.proofs.Common.{track_bytes}
+use Rattle.record_body.proofs.Parts.{Written}
 use Rattle.record_body.proofs.writing.write_tracks.Given as goal
 
 abbrev pub invariant-loop-i : goal.invariant-loop-i
-invariant-loop-i l = record {
-  written : take l.at l.out ≡ flat_map track_bytes (take l.i l.point);
-  room : l.at + length (flat_map track_bytes (drop l.i l.point)) ≡ length l.out;
-}
+invariant-loop-i l = Written track_bytes l.point l.i l.at l.out

@@ -20,10 +20,9 @@ returns-in_err-end_line-clause-goes g c = λ start read going.
     let at = c.loop-len.at in
     let len = c.in-Some.len in
     let found = rw take_rest at c.in-Some.ensures in
-    let ends = line_end buffer at len c.loop-len.invariant.bound found.0 found.1 in
     let k : at + len - at ≡ len = omega arith in
-    let halted = rw (k, buffer_line read buffer at len ends.0 ends.1) at (c.in_err-end_line.ensures.goes start
-    (read ++ take at buffer) (c.loop-len.invariant.goes start read going)) in
+    let halted = rw (k, buffer_line read buffer at len c.loop-len.invariant.bound found.0 found.1) at
+    (c.in_err-end_line.ensures.goes start (read ++ take at buffer) (c.loop-len.invariant.goes start read going)) in
     rw (exit_err c.from_residual.result c.from_residual.ensures.1, ← buffer_whole read buffer (at + (len + 1)))
     (Halted-more _ _ _ (drop (at + (len + 1)) buffer) halted)
 
@@ -38,8 +37,8 @@ loop-len-preserved g c =
     record {
       bound = omega (arith, ends.0);
       goes = λ start read going.
-          rw (k, buffer_line read buffer at len ends.0 ends.1) at (c.in_ok-end_line.ensures.goes start
-          (read ++ take at buffer) (c.loop-len.invariant.goes start read going));
+          rw (k, buffer_line read buffer at len c.loop-len.invariant.bound found.0 found.1) at
+          (c.in_ok-end_line.ensures.goes start (read ++ take at buffer) (c.loop-len.invariant.goes start read going));
       follows = λ first h. c.in_ok-end_line.ensures.follows first (c.loop-len.invariant.follows first h);
       count = c.in_ok-end_line.ensures.cause.kept ∙ c.loop-len.invariant.count;
     }

@@ -19,7 +19,7 @@ pub returns-in-Err-clause-goes : goal.returns-in-Err-clause-goes
 returns-in-Err-clause-goes g c =
     let s = c.pieces.taker in
     let inv = c.pieces.invariant in
-    let pieces = RecorderAsks c.args.track c.args.tag in
+    let pieces = RecorderAsks c.args.recording.track c.args.recording.tag in
     let t = c.take_pieces.new.self in
     let a = recorder (known s.seat) s.refused s.since in
     let on = c.take_pieces.ensures.goes s (refl, refl, refl, records_self s.track s.tag a) in
@@ -34,7 +34,7 @@ pub returns-clause-goes : goal.returns-clause-goes
 returns-clause-goes g c =
     let s = c.pieces.taker in
     let inv = c.pieces.invariant in
-    let pieces = RecorderAsks c.args.track c.args.tag in
+    let pieces = RecorderAsks c.args.recording.track c.args.recording.tag in
     let a = recorder (known s.seat) s.refused s.since in
     let here = known c.finish-2.result in
     let freed = records_free s.track s.tag (known s.seat) here false a s.refused s.since
@@ -47,7 +47,7 @@ pub returns-clause-done : goal.returns-clause-done
 returns-clause-done g c = λ is.
     let s = c.pieces.taker in
     let first = (start_at c.args.desk.now).commit_number in
-    let same = ap length (pieces_free c.args.track c.args.tag (known s.seat) (known c.finish-2.result) true s.since 0
+    let same = ap length (pieces_free c.args.recording.track c.args.recording.tag (known s.seat) (known c.finish-2.result) true s.since 0
     first c.finish-2.ensures.frees) in
     let was = c.pieces.invariant.pieces in
     let end = c.pieces.auto.number-end in
@@ -58,7 +58,7 @@ pub pieces-preserved : goal.pieces-preserved
 pieces-preserved g c =
     let s = c.pieces.taker in
     let inv = c.pieces.invariant in
-    let pieces = RecorderAsks c.args.track c.args.tag in
+    let pieces = RecorderAsks c.args.recording.track c.args.recording.tag in
     let there = known s.seat in
     let here = known c.take_pieces.new.self.seat in
     let a = recorder there s.refused s.since in
@@ -76,11 +76,11 @@ pieces-preserved g c =
     ≡ piece_count s.track s.tag (start_at s.desk.now).commit_number there + told.0.count =
     taken_more _ _ _ told.0 told.1 in
     let before : piece_count s.track s.tag (start_at s.desk.now).commit_number there
-    ≡ piece_count c.args.track c.args.tag (start_at c.args.desk.now).commit_number there =
+    ≡ piece_count c.args.recording.track c.args.recording.tag (start_at c.args.desk.now).commit_number there =
     (λ i. piece_count (inv.track i) (inv.tag i) (start_at (inv.desk i)).commit_number there) in
     let after : piece_count c.take_pieces.new.self.track c.take_pieces.new.self.tag
     (start_at c.take_pieces.new.self.desk.now).commit_number here
-    ≡ piece_count c.args.track c.args.tag (start_at c.args.desk.now).commit_number here =
+    ≡ piece_count c.args.recording.track c.args.recording.tag (start_at c.args.desk.now).commit_number here =
     (λ i. piece_count (track i) (tag i) (start_at (desk i)).commit_number here) in
     let was = inv.pieces in
     record {

@@ -8,9 +8,9 @@ use Rattle.seat_examples.proofs.jobs.record.Given as goal
 abbrev pub invariant-pieces : goal.invariant-pieces
 invariant-pieces g l = record {
   desk : l.taker.desk.now ≡ l.desk;
-  track : l.taker.track ≡ l.fn.track;
-  tag : l.taker.tag ≡ l.fn.tag;
-  goes : Onward (RecorderAsks l.fn.track l.fn.tag) (known l.fn.seat) (known l.taker.seat);
-  pieces : piece_count l.fn.track l.fn.tag (start_at l.desk).commit_number (known l.taker.seat)
-      ≡ piece_count l.fn.track l.fn.tag (start_at l.desk).commit_number (known l.fn.seat) + l.number;
+  track : l.taker.track ≡ l.fn.recording.track;
+  tag : l.taker.tag ≡ l.fn.recording.tag;
+  goes : Onward (RecorderAsks l.fn.recording.track l.fn.recording.tag) (known l.fn.seat) (known l.taker.seat);
+  pieces : piece_count l.fn.recording.track l.fn.recording.tag (start_at l.desk).commit_number (known l.taker.seat)
+      ≡ piece_count l.fn.recording.track l.fn.recording.tag (start_at l.desk).commit_number (known l.fn.seat) + l.number;
 }

@@ -20,4 +20,4 @@ returns-clause-stays g c =
 pub returns-clause-ready : goal.returns-clause-ready
 returns-clause-ready g c =
     let stays = returns-clause-stays g c in
-    ready_on c.args.session _ (known c.args.seat).seen _ stays.more stays.seen c.requires.ready
+    ready_on c.args.setting.session _ (known c.args.seat).seen _ stays.more stays.seen c.requires.ready

@@ -7,13 +7,13 @@ use Rattle.seat_examples.proofs.threads.by_two.Goals as goal
 pub join-requires-clause-away : goal.join-requires-clause-away
 join-requires-clause-away g c =
     let made = c.split-other.ensures in
-    let one = stays_on (asked c.args.left) _ _ c.join-one.ensures.first.1 in
-    let two = stays_on (asked c.args.right) _ _ c.join-one.ensures.second.1 in
+    let one = stays_on (asked c.args.pair.0) _ _ c.join-one.ensures.first.1 in
+    let two = stays_on (asked c.args.pair.1) _ _ c.join-one.ensures.second.1 in
     may_rejoin (known c.args.seat) _ _ _ _ made.kept.1 made.new.1 made.number one two
 
 pub returns-clause-stays : goal.returns-clause-stays
 returns-clause-stays g c =
     let made = c.split-other.ensures in
-    let one = stays_on (asked c.args.left) _ _ c.join-one.ensures.first.1 in
-    let two = stays_on (asked c.args.right) _ _ c.join-one.ensures.second.1 in
+    let one = stays_on (asked c.args.pair.0) _ _ c.join-one.ensures.first.1 in
+    let two = stays_on (asked c.args.pair.1) _ _ c.join-one.ensures.second.1 in
     stays_rejoined (known c.args.seat) _ _ _ _ made.kept.1 made.new.1 made.number _ c.join.ensures.kept.1 one two

@@ -1,7 +1,6 @@
 -- The law is a lemma.
-use Rattle.studio_seats.specs.Imports.{telling}
+use Rattle.session_run.proofs.Common.{telling, kinds}
 use Rattle.studio_seats.proofs.AskLemmas.{deeds_ask}
-use Rattle.desk_session.specs.Lent.{kinds}
 use Rattle.session_run.proofs.ByReadLemmas.{runs_by_read}
 use Rattle.session_run.proofs.by_read.runs_by_read.Goals as goal
 

@@ -1,5 +1,5 @@
 -- The sum of the script is printed.
-use Rattle.std.proofs.Common.{inl}
+use Rattle.session_run.proofs.Common.{inl}
 use Rattle.session_run.proofs.StreamLemmas.{prints}
 use Rattle.session_run.proofs.generated.run_gen.Goals as goal
 

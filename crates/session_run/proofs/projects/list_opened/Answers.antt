@@ -1,9 +1,6 @@
 -- What is told of a project.
-use Rattle.std.proofs.Common.{inl, inr, ◌∙◌, List, subst}
-use Rattle.pcm_base.specs.declared.sound.TrackLine.{TrackLine}
+use Rattle.session_run.proofs.Common.{inl, inr, ◌∙◌, List, subst, TrackLine, change, Prints, from_sink}
 use Rattle.script_text.specs.{declared.project.ProjectLines.ProjectLines, Project.project_text}
-use Rattle.script_reader.specs.Change.{change}
-use Rattle.session_run.specs.Streams.{Prints, from_sink}
 use Rattle.session_run.proofs.{ProjectLemmas.same_tracks, StreamLemmas.prints}
 use Rattle.session_run.proofs.projects.list_opened.Goals as goal
 

@@ -1,5 +1,5 @@
 -- What making a project does.
-use Rattle.std.proofs.Common.{Ok, Err, subst, sym}
+use Rattle.session_run.proofs.Common.{Ok, Err, subst, sym}
 use Rattle.session_run.specs.Projects.{Created}
 use Rattle.session_run.proofs.{ProjectLemmas.refused_as, StreamLemmas.prints}
 use Rattle.session_run.proofs.projects.make_project.Goals as goal

@@ -1,12 +1,9 @@
 -- A session on a studio that was opened.
-use Rattle.std.proofs.Common.{inl, inr, refl, ap, subst, ◌∙◌, ◌≡◌, ◌||◌, ℕ}
-use Rattle.editor_state.specs.Core.{Core}
-use Rattle.editor_core.specs.Core.{core_of}
-use Rattle.script_text.specs.Last.{last_text}
-use Rattle.script_reader.specs.Change.{change}
-use Rattle.desk_session.specs.{Lent.kinds, Lent.lent_by, Lent.outcome, Sessions.IsSession}
-use Rattle.session_run.specs.{Last.WritesEnd, Last.mic_failed, Last.play_line, Last.play_refused, Last.record_line}
-use Rattle.session_run.specs.{Last.record_refused, Last.speaker_failed, Last.status_of, Streams.output}
+use Rattle.session_run.proofs.Common.{inl, inr, refl, ap, subst, ◌∙◌, ◌≡◌, ◌||◌, ℕ, Core, core_of, last_text, change}
+use Rattle.session_run.proofs.Common.{kinds, IsSession, WritesEnd, mic_failed, play_line, record_line, speaker_failed}
+use Rattle.session_run.proofs.Common.{status_of, output}
+use Rattle.desk_session.specs.{Lent.lent_by, Lent.outcome}
+use Rattle.session_run.specs.{Last.play_refused, Last.record_refused}
 use Rattle.session_run.proofs.StreamLemmas.{unread}
 use Rattle.session_run.proofs.running.run_opened.Goals as goal
 

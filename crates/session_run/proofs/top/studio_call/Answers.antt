@@ -1,13 +1,9 @@
 -- The call.
-use Rattle.std.proofs.Common.{rules, refl, ap, ◌∙◌, if◌then◌else◌, Bool, List, map}
+use Rattle.session_run.proofs.Common.{refl, ap, ◌∙◌, if◌then◌else◌, Bool, List, RamStore, Text, words_of, change, Kinds}
+use Rattle.session_run.proofs.Common.{kinds, Does, EndsAs, HasCause, Promises, World, any_rose, counts, Handed, handed}
+use Rattle.session_run.proofs.Common.{FaultCounts, Done}
+use Rattle.std.proofs.Common.{rules, map}
 use Rattle.std.specs.Prelude.{string_bytes}
-use Rattle.memory_disk.specs.declared.ram.RamStore.{RamStore}
-use Rattle.call_words.specs.{Texts.Text, Words.words_of}
-use Rattle.script_reader.specs.Change.{change}
-use Rattle.desk_session.specs.Lent.{Kinds, kinds}
-use Rattle.session_run.specs.Call.{Does, EndsAs, HasCause, Promises, World, any_rose, counts}
-use Rattle.session_run.specs.Ports.{Handed, handed}
-use Rattle.session_run.specs.{declared.counts.FaultCounts.FaultCounts, declared.ending.Done.Done}
 use Rattle.session_run.proofs.CallPromise.{ended_as, ending_of, promises}
 use Rattle.session_run.proofs.{BackLemmas.back_to, BackLemmas.read_back, FourLemmas.four_only, StatusLemmas.failed_four}
 use Rattle.session_run.proofs.{StatusLemmas.four_failed}

@@ -1,10 +1,6 @@
 -- A script on a fresh project.
-use Rattle.std.proofs.Common.{refl, subst, ap, ◌∙◌, ◌≡◌, ℕ, nat_lt, if◌then◌else◌}
-use Rattle.pcm_base.specs.Studio.{fault_sum}
-use Rattle.memory_disk.specs.declared.ram.RamStore.{RamStore}
-use Rattle.editor_core.specs.Core.{core_of}
-use Rattle.desk_session.specs.Lent.{kinds}
-use Rattle.script_reader.specs.Change.{change}
+use Rattle.session_run.proofs.Common.{refl, subst, ap, ◌∙◌, ◌≡◌, ℕ, nat_lt, if◌then◌else◌, fault_sum, RamStore, core_of}
+use Rattle.session_run.proofs.Common.{kinds, change}
 use Rattle.session_run.specs.Ports.{ports_of}
 use Rattle.session_run.proofs.TryLemmas.{tried, tried_at}
 use Rattle.session_run.proofs.trying.try_script.Goals as goal

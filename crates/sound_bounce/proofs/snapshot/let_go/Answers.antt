@@ -1,8 +1,5 @@
 -- The pin is let go in one turn, or not at all.
-use Rattle.std.proofs.Common.{Bool, subst, sym}
-use Rattle.pin_turn.specs.Calls.{known}
-use Rattle.studio_seats.specs.Desks.{start_at, views}
-use Rattle.sound_bounce.specs.Bounces.{IsGone}
+use Rattle.sound_bounce.proofs.Common.{Bool, subst, sym, known, start_at, views, IsGone}
 use Rattle.sound_bounce.proofs.BounceLemmas.{gone_none, gone_turn}
 use Rattle.sound_bounce.proofs.snapshot.let_go.Goals as goal
 

@@ -1,10 +1,6 @@
 -- What was mixed is appended.
-use Rattle.std.proofs.Common.{◌≡◌, ◌++◌, List, Some, subst, arith}
-use Rattle.std.proofs.lemmas.List.{length-take}
-use Rattle.std.specs.Prelude.{OnErr, OnOk}
-use Rattle.pcm_base.specs.{declared.sound.Frame.Frame, Recordings.frame_bytes}
-use Rattle.edit_ports.specs.Sounds.{MayHaveGrown, sound_bytes}
-use Rattle.sound_bounce.specs.Bounces.{loaded_frames}
+use Rattle.sound_bounce.proofs.Common.{◌≡◌, ◌++◌, List, Some, subst, arith, length-take, OnErr, OnOk, Frame}
+use Rattle.sound_bounce.proofs.Common.{frame_bytes, MayHaveGrown, sound_bytes, loaded_frames}
 use Rattle.sound_bounce.proofs.VaultLemmas.{grown_by}
 use Rattle.sound_bounce.proofs.stretches.append_mixed.Goals as goal
 

@@ -1,8 +1,6 @@
 -- The frames stand at the front.
-use Rattle.std.proofs.Common.{◌≡◌, ◌∙◌, ℕ, List, ◌++◌, length, take, drop, sym, ap}
-use Rattle.std.proofs.{lemmas.List.FromFn.length-map-range_with_len, Math.Seq.take-append_seam}
-use Rattle.pcm_base.specs.{declared.sound.Frame.Frame, Mix.frame_at}
-use Rattle.mixdown.specs.Loads.{loaded_tracks}
+use Rattle.sound_bounce.proofs.Common.{◌≡◌, ◌∙◌, ℕ, List, ◌++◌, length, take, drop, sym, ap, length-map-range_with_len}
+use Rattle.sound_bounce.proofs.Common.{take-append_seam, Frame, frame_at, loaded_tracks}
 use Rattle.sound_bounce.proofs.stretches.mix_front.Goals as goal
 
 front_is : (n : ℕ) (xs ys : List Frame) → length xs ≡ n → take n (xs ++ ys) ≡ xs

@@ -1,16 +1,14 @@
 -- The loads so far, of which the last is in memory.
-use Rattle.std.proofs.Common.{◌-◌, length}
+use Rattle.sound_bounce.proofs.Common.{◌-◌, length, known, views, LoadsAhead, moved}
 use Rattle.pcm_base.specs.declared.limits.TheConstants.{COUNTER_LIMIT}
-use Rattle.pin_turn.specs.Calls.{known}
-use Rattle.studio_seats.specs.Desks.{IsAt, views}
-use Rattle.sound_bounce.specs.Bounces.{LoadsAhead, moved}
+use Rattle.studio_seats.specs.Desks.{IsAt}
 use Rattle.sound_bounce.proofs.stretches.write_stretches.Given as goal
 
 abbrev pub invariant-stretches : goal.invariant-stretches
 invariant-stretches g l = record {
-  same : IsAt l.desk l.seat;
-  ahead : LoadsAhead l.pin l.batch l.to l.loaded (views (known l.fn.seat) (known l.seat))
-      (moved g.V.Vault l.name l.fn.vault l.vault);
+  same : IsAt l.task.desk.now l.seat;
+  ahead : LoadsAhead l.pin l.batch l.from l.loaded (views (known l.fn.seat) (known l.seat))
+      (moved g.V.Vault l.task.name.now l.fn.vault l.vault);
 }
 
 -- each turn makes the list longer, which has an end

@@ -114,3 +114,7 @@ returns-in-Err-clause-faults g c =
 
 pub returns-in-Err-clause-valid : goal.returns-in-Err-clause-valid
 returns-in-Err-clause-valid g c = λ mine whole. start_valid c.in-Err.why c.start_fault.result c.start_fault.ensures
+
+pub returns-in_err-append_mix-clause-hit : goal.returns-in_err-append_mix-clause-hit
+returns-in_err-append_mix-clause-hit g c =
+    rw (exit_err c.from_residual.result c.from_residual.ensures.1) c.in_err-append_mix.ensures.hit

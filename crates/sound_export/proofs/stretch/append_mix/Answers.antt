@@ -1,5 +1,5 @@
 -- One stretch more is appended.
-use Rattle.std.proofs.Common.{◌≡◌, ℕ, ◌++◌, Bool, List, length, take, drop, min, ◌-◌, Some, refl, sym, ap, subst, ◌∙◌}
+use Rattle.std.proofs.Common.{◌≡◌, ℕ, ◌++◌, Bool, List, take, drop, min, ◌-◌, Some, refl, sym, ap, subst, ◌∙◌}
 use Rattle.std.proofs.Common.{Ok, arith, append-nil}
 use Rattle.std.proofs.lemmas.List.{take_all}
 use Rattle.std.specs.Prelude.{IsTrue}
@@ -10,6 +10,10 @@ use Rattle.project_state.specs.{Meaning.meant, Meaning.point_blocks, declared.tr
 use Rattle.cell_reader.specs.Stored.{stored_of}
 use Rattle.block_cache.specs.Readers.{Reads}
 use Rattle.block_cache.proofs.ReaderLaws.{reads_none, reads_then, told_on}
+use Rattle.cell_reader.proofs.KeptLaws.{hits_none, hits_then}
+use Rattle.mix_reader.specs.Heard.{HasHeard}
+use Rattle.mix_reader.proofs.PageLaws.{heard_on, heard_part}
+use Rattle.sound_export.specs.declared.buffers.TheConstants.{MIX_FRAMES}
 use Rattle.mix_reader.specs.Tracks.{mix_length_of, stored_mix}
 use Rattle.wav_pcm.proofs.GrowLaws.{held_more, held_failed}
 use Rattle.sound_export.specs.Written.{read_part}
@@ -22,6 +26,7 @@ stretches-init g c = record {
   reader = c.new-mix.ensures.reader;
   point = c.new-mix.ensures.point;
   reads = reads_none tt (g.met.S.Store.may_fewer _);
+  hit = hits_none;
   tells = refl;
   others = λ told other differs. refl;
   faults = refl;
@@ -45,16 +50,21 @@ stretches-preserved g c =
     let n = c.in_default.field-0 in
     let files : Files = g.S.Store.reads c.args.reader.now.store in
     let T : Bool → Type 0 = λ b. IsTrue b in
-    let left : n ≡ min (length c.stretches.frames) (mix_length_of ts - at) =
+    let left : n ≡ min MIX_FRAMES (mix_length_of ts - at) =
     c.in_default.ensures.count
-    ∙ ap (λ (us : List Track). min (length c.stretches.frames) (mix_length_of us - at)) inv.point in
+    ∙ ap (λ (us : List Track). min MIX_FRAMES (mix_length_of us - at)) inv.point in
     record {
-      within = omega (arith, inv.within, left, c.in_default.ensures.place, c.requires.len);
+      within = omega (arith, inv.within, left, c.in_default.ensures.place, c.mix_len-len.ensures.value);
       reader = c.append_stretch.ensures.reader;
       point = c.append_stretch.ensures.point ∙ inv.point;
       reads = reads_then {x = tt} inv.reads
           (subst (λ (us : List Track). Reads (point_blocks us) c.stretches.reader c.append_stretch.new.reader
           (Ok (tt {0}))) inv.point c.in_default.ensures.reads);
+      hit = hits_then (λ has. has) (λ has same. subst
+          (λ (us : List Track). HasHeard c.stretches.reader.cache at (mix_length_of us) us) (sym inv.point)
+          (heard_part c.stretches.reader.cache 0 (mix_length_of ts) at (mix_length_of ts) ts (omega arith) (omega arith)
+          (heard_on c.args.reader.now.cache c.stretches.reader.cache 0 (mix_length_of ts) ts same has))) inv.hit
+          c.in_default.ensures.hit;
       tells = c.append_stretch.ensures.tells ∙ inv.tells;
       others = λ told other differs. c.append_stretch.ensures.others (subst T (sym inv.tells) told) other differs
           ∙ inv.others told other differs;
@@ -98,7 +108,7 @@ returns-clause-appended g c = λ told mine.
     let src = stored_of (g.S.Store.reads c.args.reader.now.store) in
     let mix : List Frame = mix_of (meant src c.args.point.now) in
     let all : take c.stretches.mix.at mix ≡ mix = take_all c.stretches.mix.at mix
-    (omega (arith, length_mix (meant src c.args.point.now), c.requires.mix src)) in
+    (omega (arith, length_mix (meant src c.args.point.now), c.mix_len-len.ensures.frames src)) in
     inv.held told mine ∙ ap (λ (fs : List Frame).
     Some (sound_bytes (g.V.Vault.holds c.args.vault.now c.args.name.now) ++ frame_bytes fs)) all
 
@@ -111,3 +121,17 @@ returns-in-Err-clause-reads g c =
 
 pub returns-clause-reads : goal.returns-clause-reads
 returns-clause-reads g c = c.stretches.invariant.reads
+
+pub returns-in-Err-clause-hit : goal.returns-in-Err-clause-hit
+returns-in-Err-clause-hit g c =
+    let inv = c.stretches.invariant in
+    let ts = c.args.point.now in
+    let at = c.stretches.mix.at in
+    hits_then (λ has. has) (λ has same. subst
+    (λ (us : List Track). HasHeard c.stretches.reader.cache at (mix_length_of us) us) (sym inv.point)
+    (heard_part c.stretches.reader.cache 0 (mix_length_of ts) at (mix_length_of ts) ts (omega arith) (omega arith)
+    (heard_on c.args.reader.now.cache c.stretches.reader.cache 0 (mix_length_of ts) ts same has))) inv.hit
+    c.in-Err.ensures.hit
+
+pub returns-clause-hit : goal.returns-clause-hit
+returns-clause-hit g c = c.stretches.invariant.hit

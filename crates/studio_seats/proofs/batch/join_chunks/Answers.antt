@@ -1,7 +1,6 @@
 -- One chunk more, and the end.
-use Rattle.std.proofs.Common.{◌≡◌, ℕ, ◌+◌, ◌-◌, ◌*◌, ◌<◌, ◌≤◌, ℤ, List, length, take, ap, ◌∙◌, arith}
-use Rattle.std.proofs.lemmas.List.{length-take-le}
-use Rattle.pcm_base.specs.Parts.{Part}
+use Rattle.studio_seats.proofs.Common.{◌≡◌, ℕ, ◌+◌, ◌-◌, ◌*◌, ◌<◌, ◌≤◌, ℤ, List, length, take, ap, ◌∙◌, arith}
+use Rattle.studio_seats.proofs.Common.{length-take-le, Part}
 use Rattle.studio_seats.proofs.Batches.{joined_end, joined_length, joined_put, one_more, put_length}
 use Rattle.studio_seats.proofs.batch.join_chunks.Goals as goal
 

@@ -1,7 +1,5 @@
 -- The first chunks stand in the batch, each of them whole.
-use Rattle.std.proofs.Common.{◌≡◌, ◌*◌, ◌-◌, ◌≤◌, length, take}
-use Rattle.pcm_base.specs.Recordings.{parts_of}
-use Rattle.edit_ports.specs.Answers.{samples_of}
+use Rattle.studio_seats.proofs.Common.{◌≡◌, ◌*◌, ◌-◌, ◌≤◌, length, take, parts_of, samples_of}
 use Rattle.studio_seats.proofs.batch.join_chunks.Given as goal
 
 abbrev pub invariant-chunks : goal.invariant-chunks

@@ -1,8 +1,5 @@
 -- A reclaim in a turn of the seat.
-use Rattle.pcm_base.specs.declared.answer.Reply.TheVariants.{Freed}
-use Rattle.pin_turn.specs.Calls.{known}
-use Rattle.editor_state.specs.Took.{as_reply}
-use Rattle.studio_seats.specs.Desks.{start_at}
+use Rattle.studio_seats.proofs.Common.{Freed, known, as_reply, start_at}
 use Rattle.studio_seats.proofs.RecordingLemmas.{frees_turn}
 use Rattle.studio_seats.proofs.freeing.free.Goals as goal
 

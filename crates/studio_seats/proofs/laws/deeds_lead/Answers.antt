@@ -1,5 +1,5 @@
 -- The law is a lemma.
-use Rattle.studio_seats.specs.Stands.{origin}
+use Rattle.studio_seats.proofs.Common.{origin}
 use Rattle.studio_seats.proofs.Grown.{leads}
 use Rattle.studio_seats.proofs.laws.deeds_lead.Goals as goal
 

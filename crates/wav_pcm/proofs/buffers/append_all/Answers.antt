@@ -1,8 +1,5 @@
 -- One buffer more is appended.
-use Rattle.std.proofs.Common.{◌≡◌, ◌+◌, ◌-◌, ◌++◌, ℕ, Bool, take, Some, arith, ap, sym, subst, ◌∙◌}
-use Rattle.std.specs.Prelude.{IsTrue}
-use Rattle.pcm_base.specs.Recordings.{frame_bytes}
-use Rattle.edit_ports.specs.Sounds.{sound_bytes}
+use Rattle.wav_pcm.proofs.Common.{◌≡◌, ◌+◌, ◌-◌, ◌++◌, ℕ, take, Some, arith, ap, ◌∙◌, frame_bytes, sound_bytes}
 use Rattle.wav_pcm.proofs.GrowLaws.{held_more, held_failed}
 use Rattle.wav_pcm.proofs.buffers.append_all.Goals as goal
 
@@ -10,10 +7,9 @@ pub returns-in-Err-clause-failed : goal.returns-in-Err-clause-failed
 returns-in-Err-clause-failed g c = λ told there.
     let inv = c.buffers.invariant in
     let name = c.args.name.now in
-    let T : Bool → Type 0 = λ b. IsTrue b in
     held_failed (g.V.Vault.holds c.args.vault.now name) (g.V.Vault.holds c.buffers.vault name)
     (g.V.Vault.holds c.append_buffer.new.vault name) c.buffers.done (c.buffers.done + c.min-count.result - c.buffers.done)
-    c.args.frames.now (inv.held told there) (c.in-Err.ensures.failed (subst T (sym inv.tells) told))
+    c.args.frames.now (inv.held told there) (c.in-Err.ensures.failed (inv.tells ∙ told))
 
 pub buffers-preserved : goal.buffers-preserved
 buffers-preserved g c =
@@ -21,17 +17,16 @@ buffers-preserved g c =
     let name = c.args.name.now in
     let done = c.buffers.done in
     let count = c.min-count.result in
-    let T : Bool → Type 0 = λ b. IsTrue b in
     let same : done + (done + count - done) ≡ done + count = omega arith in
     record {
       within = omega (arith, c.min-count.ensures, inv.within);
       held = λ told there.
           held_more (g.V.Vault.holds c.args.vault.now name) (g.V.Vault.holds c.buffers.vault name)
           (g.V.Vault.holds c.append_buffer.new.vault name) done (done + count - done) c.args.frames.now
-          (inv.held told there) (c.in-Ok.ensures.appended (subst T (sym inv.tells) told))
+          (inv.held told there) (c.in-Ok.ensures.appended (inv.tells ∙ told))
           ∙ ap (λ (n : ℕ). Some (sound_bytes (g.V.Vault.holds c.args.vault.now name)
           ++ frame_bytes (take n c.args.frames.now))) same;
-      others = λ told other differs. c.in-Ok.ensures.others (subst T (sym inv.tells) told) other differs
+      others = λ told other differs. c.in-Ok.ensures.others (inv.tells ∙ told) other differs
           ∙ inv.others told other differs;
       tells = c.in-Ok.ensures.tells ∙ inv.tells;
       faults = c.in-Ok.ensures.cause.kept ∙ inv.faults;

@@ -1,8 +1,6 @@
 -- The frames so far are appended.
-use Rattle.std.proofs.Common.{◌≡◌, ◌≤◌, ◌-◌, ◌++◌, take, Some}
-use Rattle.std.specs.Prelude.{IsTrue}
-use Rattle.pcm_base.specs.{Outside.SameElsewhere, Recordings.frame_bytes}
-use Rattle.edit_ports.specs.Sounds.{sound_bytes}
+use Rattle.wav_pcm.proofs.Common.{◌≡◌, ◌≤◌, ◌-◌, ◌++◌, take, Some, IsTrue, frame_bytes, sound_bytes}
+use Rattle.pcm_base.specs.{Outside.SameElsewhere}
 use Rattle.wav_pcm.specs.Written.{IsThere}
 use Rattle.wav_pcm.proofs.buffers.append_all.Given as goal
 

@@ -1,9 +1,9 @@
 -- The sound is empty, and then has a part of the head.
-use Rattle.std.proofs.Common.{◌≡◌, ℕ, Bool, List, ◌++◌, length, drop, Some, sym, ap, subst, ◌∙◌}
+use Rattle.wav_pcm.proofs.Common.{◌≡◌, ℕ, Bool, List, ◌++◌, length, drop, Some, sym, ap, subst, ◌∙◌, IsTrue, OnOk}
+use Rattle.wav_pcm.proofs.Common.{sound_bytes, MayHaveGrown, MayBegin}
 use Rattle.std.proofs.lemmas.Result.{on_ok_weaker, IfErr-weaker}
-use Rattle.std.specs.Prelude.{IsTrue, OnErr, OnOk}
-use Rattle.edit_ports.specs.Sounds.{sound_bytes, MayHaveGrown}
-use Rattle.wav_pcm.specs.{Wavs.wav_head, Written.MayBegin}
+use Rattle.std.specs.Prelude.{OnErr}
+use Rattle.wav_pcm.specs.{Wavs.wav_head}
 use Rattle.wav_pcm.proofs.GrowLaws.{begun_empty, take_front}
 use Rattle.wav_pcm.proofs.buffers.write_start.Goals as goal
 

@@ -1,6 +1,6 @@
 -- The bytes of this number of frames have as many samples of a channel.
-use Rattle.std.proofs.Common.{◌≡◌, ◌<◌, ◌*◌, ◌/◌, ℕ, length, arith, sym, ap, ◌∙◌}
-use Rattle.std.proofs.{Math.Nat.mul-div_cancel_left, lemmas.Grind.common_steps}
+use Rattle.wav_pcm.proofs.Common.{◌≡◌, ◌<◌, ◌*◌, ◌/◌, ℕ, length, arith, sym, ap, ◌∙◌, mul-div_cancel_left}
+use Rattle.std.proofs.{lemmas.Grind.common_steps}
 use Rattle.wav_pcm.proofs.channels.read_buffer.Goals as goal
 
 counted : (n m count size : ℕ) → 0 < n → m ≡ n → size ≡ 2 * n * count → count ≡ size / (2 * m)

@@ -1,6 +1,5 @@
 -- The samples of bytes fit 16 bits.
-use Rattle.std.proofs.Common.{ℤ, List, sym, subst}
-use Rattle.wav_pcm.specs.Heads.{FitSamples}
+use Rattle.wav_pcm.proofs.Common.{ℤ, List, sym, subst, FitSamples}
 use Rattle.wav_pcm.proofs.SampleLaws.{channel_fits}
 use Rattle.wav_pcm.proofs.channels.take_samples.Goals as goal
 

@@ -1,10 +1,6 @@
 -- Each chunk is passed over, is the `data` chunk, or refuses the file.
-use Rattle.std.proofs.Common.{◌≡◌, ◌-◌, ℕ, Bool, List, Ok, take, drop, length, arith, sym, ◌∙◌, subst}
-use Rattle.std.proofs.lemmas.List.{length-drop}
-use Rattle.std.specs.Prelude.{IsTrue}
-use Rattle.pcm_base.specs.{Outside.Sounds, Wave.seen_after}
-use Rattle.edit_ports.specs.Sounds.{sound_bytes}
-use Rattle.wav_pcm.specs.{Parts.IsChunk, Parts.IsFault, Wavs.seen_in}
+use Rattle.wav_pcm.proofs.Common.{◌≡◌, ◌-◌, ℕ, List, Ok, take, drop, length, arith, ◌∙◌, subst, length-drop, Sounds}
+use Rattle.wav_pcm.proofs.Common.{seen_after, sound_bytes, IsChunk, IsFault, seen_in}
 use Rattle.wav_pcm.proofs.WalkLaws.{data_finds, data_refuses, walks_on, chunk_refuses, end_refuses}
 use Rattle.wav_pcm.proofs.ReasonLaws.{end_of_some, named}
 use Rattle.wav_pcm.proofs.heads.find_head.Goals as goal
@@ -16,12 +12,11 @@ returns-in-Ok-head_at-clause-says g c = λ told.
     let left = c.chunks.left in
     let bytes : List ℕ = sound_bytes (g.V.Vault.holds c.args.vault.now name) in
     let long : length bytes ≡ c.args.size = c.requires.size told in
-    let T : Bool → Type 0 = λ b. IsTrue b in
     let K : Sounds → Type 0 = λ s. IsChunk c.in-Ok.chunk (drop (c.args.size - left) (sound_bytes (s name))) in
     let rest = length-drop (c.args.size - (left - 8)) bytes in
     data_finds (seen_in c.chunks.seen) c.in-Ok.chunk bytes c.args.size left _ c.in-Ok-head_at.head long
     (omega (arith, inv.within)) c.chunks-test.true (inv.says told)
-    (subst K inv.same (c.in-Ok.ensures.says (subst T (sym inv.tells) told))) c.if-chunk.true
+    (subst K inv.same (c.in-Ok.ensures.says (inv.tells ∙ told))) c.if-chunk.true
     (c.in-Ok-head_at.ensures.says (drop (c.args.size - (left - 8)) bytes)
     (omega (arith, rest, long, inv.within, c.chunks-test.true)))
 
@@ -32,12 +27,11 @@ returns-in-Err-head_at-clause-says g c = λ told.
     let left = c.chunks.left in
     let bytes : List ℕ = sound_bytes (g.V.Vault.holds c.args.vault.now name) in
     let long : length bytes ≡ c.args.size = c.requires.size told in
-    let T : Bool → Type 0 = λ b. IsTrue b in
     let K : Sounds → Type 0 = λ s. IsChunk c.in-Ok.chunk (drop (c.args.size - left) (sound_bytes (s name))) in
     let rest = length-drop (c.args.size - (left - 8)) bytes in
     data_refuses (seen_in c.chunks.seen) c.in-Ok.chunk bytes c.args.size left _ c.from.result c.in-Err-head_at.fault
     long (omega (arith, inv.within)) c.chunks-test.true (inv.says told)
-    (subst K inv.same (c.in-Ok.ensures.says (subst T (sym inv.tells) told))) c.if-chunk.true c.from.ensures
+    (subst K inv.same (c.in-Ok.ensures.says (inv.tells ∙ told))) c.if-chunk.true c.from.ensures
     (c.in-Err-head_at.ensures.says (drop (c.args.size - (left - 8)) bytes)
     (omega (arith, rest, long, inv.within, c.chunks-test.true)))
 
@@ -48,16 +42,15 @@ returns-in-Err-see_at-clause-says g c = λ told.
     let left = c.chunks.left in
     let bytes : List ℕ = sound_bytes (g.V.Vault.holds c.args.vault.now name) in
     let long : length bytes ≡ c.args.size = c.requires.size told in
-    let T : Bool → Type 0 = λ b. IsTrue b in
     let K : Sounds → Type 0 = λ s. IsChunk c.in-Ok.chunk (drop (c.args.size - left) (sound_bytes (s name))) in
-    let is = subst K inv.same (c.in-Ok.ensures.says (subst T (sym inv.tells) told)) in
+    let is = subst K inv.same (c.in-Ok.ensures.says (inv.tells ∙ told)) in
     let after = c.in-Ok.ensures.same ∙ inv.same in
     let F : Sounds → Type 0 = λ s. IsFault c.in-Err-see_at.why (seen_after (seen_in c.chunks.seen)
     (take 4 (drop (c.args.size - left) bytes)) c.in-Ok.chunk.size
     (drop (c.args.size - (left - 8)) (sound_bytes (s name)))) in
     chunk_refuses (seen_in c.chunks.seen) c.in-Ok.chunk bytes c.args.size left _ c.in-Err-see_at.why long
     (omega (arith, inv.within)) c.chunks-test.true (inv.says told) is c.if-chunk.false
-    (subst F after (c.in-Err-see_at.ensures.says (subst T (sym (c.in-Ok.ensures.tells ∙ inv.tells)) told)
+    (subst F after (c.in-Err-see_at.ensures.says (c.in-Ok.ensures.tells ∙ inv.tells ∙ told)
     (take 4 (drop (c.args.size - left) bytes)) is.form))
 
 pub chunks-preserved : goal.chunks-preserved
@@ -66,7 +59,6 @@ chunks-preserved g c =
     let name = c.args.name.now in
     let left = c.chunks.left in
     let bytes : List ℕ = sound_bytes (g.V.Vault.holds c.args.vault.now name) in
-    let T : Bool → Type 0 = λ b. IsTrue b in
     let K : Sounds → Type 0 = λ s. IsChunk c.in-Ok.chunk (drop (c.args.size - left) (sound_bytes (s name))) in
     let after = c.in-Ok.ensures.same ∙ inv.same in
     let S : Sounds → Type 0 = λ s. seen_after (seen_in c.chunks.seen) (take 4 (drop (c.args.size - left) bytes))
@@ -75,11 +67,11 @@ chunks-preserved g c =
     record {
       within = omega (arith, inv.within, fewer);
       says = λ told.
-          let is = subst K inv.same (c.in-Ok.ensures.says (subst T (sym inv.tells) told)) in
+          let is = subst K inv.same (c.in-Ok.ensures.says (inv.tells ∙ told)) in
           walks_on (seen_in c.chunks.seen) (seen_in c.in-Ok-see_at.next) c.in-Ok.chunk bytes c.args.size left
           c.left_after-left.result _ (c.requires.size told) (omega (arith, inv.within)) c.chunks-test.true
           (inv.says told) is c.if-chunk.false
-          (subst S after (c.in-Ok-see_at.ensures.says (subst T (sym (c.in-Ok.ensures.tells ∙ inv.tells)) told)
+          (subst S after (c.in-Ok-see_at.ensures.says (c.in-Ok.ensures.tells ∙ inv.tells ∙ told)
           (take 4 (drop (c.args.size - left) bytes)) is.form)) fewer;
       same = c.in-Ok-see_at.ensures.same ∙ after;
       tells = c.in-Ok-see_at.ensures.tells ∙ (c.in-Ok.ensures.tells ∙ inv.tells);

@@ -1,9 +1,6 @@
 -- No more than 40 bytes of a body say its format.
-use Rattle.std.proofs.Common.{◌≡◌, ℕ, List, take, drop, length, min, arith, ap, sym, ◌∙◌, ◌+◌, Result, Err, subst}
-use Rattle.std.proofs.lemmas.List.{length-drop, length-take}
-use Rattle.pcm_base.specs.{Wave.Format, Wave.format_of, declared.wav.WavFault.WavFault}
-use Rattle.wav_pcm.specs.{declared.fault.SoundFault.SoundFault, declared.fault.SoundFault.TheVariants.BadWav}
-use Rattle.wav_pcm.specs.{Parts.IsFault}
+use Rattle.wav_pcm.proofs.Common.{◌≡◌, ℕ, List, take, drop, length, min, arith, ap, sym, ◌∙◌, ◌+◌, Result, Err, subst}
+use Rattle.wav_pcm.proofs.Common.{length-drop, length-take, Format, format_of, WavFault, SoundFault, BadWav, IsFault}
 use Rattle.wav_pcm.proofs.{HeadLaws.format_part, ReasonLaws.format_refuses, ReasonLaws.named}
 use Rattle.wav_pcm.proofs.heads.format_at.Goals as goal
 

@@ -1,10 +1,8 @@
 -- The whole frames of a `data` chunk are its sound.
-use Rattle.std.proofs.Common.{◌≡◌, ◌≢◌, ◌≤◌, ◌<◌, ◌*◌, ◌/◌, inl, inr, ℕ, List, take, length, Option, Some, Ok, Err}
-use Rattle.std.proofs.Common.{refl, arith, ap}
-use Rattle.std.proofs.lemmas.Bool.{ne_eqb, lt-ltb}
-use Rattle.pcm_base.specs.Wave.{Format, sound_of, data_of}
-use Rattle.pcm_base.specs.{declared.wav.WavFault.TheVariants.Truncated, declared.wav.WavFault.WavFault}
-use Rattle.wav_pcm.specs.{Wavs.seen_in, Heads.IsSized}
+use Rattle.wav_pcm.proofs.Common.{◌≡◌, ◌≢◌, ◌≤◌, ◌<◌, ◌*◌, ◌/◌, inl, inr, ℕ, List, take, length, Option, Some, Ok, Err}
+use Rattle.wav_pcm.proofs.Common.{refl, arith, ap, ne_eqb, lt-ltb, Format, sound_of, data_of, Truncated, WavFault}
+use Rattle.wav_pcm.proofs.Common.{seen_in}
+use Rattle.wav_pcm.specs.{Heads.IsSized}
 use Rattle.wav_pcm.proofs.HeadLaws.{data_found_all, data_found_sized, frames_inside}
 use Rattle.wav_pcm.proofs.ReasonLaws.{no_format}
 use Rattle.wav_pcm.proofs.heads.head_at.Goals as goal

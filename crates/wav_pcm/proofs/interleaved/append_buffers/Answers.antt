@@ -1,5 +1,5 @@
 -- Each list has grown by a buffer more.
-use Rattle.std.proofs.Common.{◌*◌, length, ◌∙◌, arith}
+use Rattle.wav_pcm.proofs.Common.{◌*◌, length, ◌∙◌, arith}
 use Rattle.wav_pcm.proofs.BufferLaws.{buffer_more}
 use Rattle.wav_pcm.proofs.interleaved.append_buffers.Goals as goal
 

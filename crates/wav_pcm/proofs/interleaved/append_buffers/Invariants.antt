@@ -1,6 +1,5 @@
 -- The lists have grown by the frames before the rest.
-use Rattle.std.proofs.Common.{◌≡◌, ◌<◌, ◌++◌, ℕ, ℤ, Vec, Global, length, get_or}
-use Rattle.pcm_base.specs.Wave.{channel_of}
+use Rattle.wav_pcm.proofs.Common.{◌≡◌, ◌<◌, ◌++◌, ℕ, ℤ, Vec, Global, length, get_or, channel_of}
 use Rattle.wav_pcm.proofs.interleaved.append_buffers.Given as goal
 
 abbrev pub invariant-loop-rest : goal.invariant-loop-rest

@@ -1,6 +1,5 @@
 -- The lists before this one have grown, and the others are as they were.
-use Rattle.std.proofs.Common.{◌≡◌, ◌≤◌, ◌<◌, ◌++◌, ℕ, ℤ, Vec, Global, get_or}
-use Rattle.pcm_base.specs.Wave.{channel_of}
+use Rattle.wav_pcm.proofs.Common.{◌≡◌, ◌≤◌, ◌<◌, ◌++◌, ℕ, ℤ, Vec, Global, get_or, channel_of}
 use Rattle.wav_pcm.proofs.interleaved.append_channels.Given as goal
 
 abbrev pub invariant-loop-c : goal.invariant-loop-c

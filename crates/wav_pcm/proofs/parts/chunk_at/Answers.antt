@@ -1,9 +1,6 @@
 -- A chunk is known by its first 8 bytes.
-use Rattle.std.proofs.Common.{◌≡◌, ℕ, List, take, length, arith, ap, ◌∙◌}
-use Rattle.std.proofs.lemmas.List.{take-take}
-use Rattle.std.specs.{Prelude.codes, Str.bytes_eq}
-use Rattle.pcm_base.specs.Wave.{u32_at}
-use Rattle.wav_pcm.specs.{Parts.IsChunk, declared.parts.Chunk.Chunk}
+use Rattle.wav_pcm.proofs.Common.{◌≡◌, ℕ, List, take, length, arith, ap, ◌∙◌, take-take, codes, bytes_eq, u32_at}
+use Rattle.wav_pcm.proofs.Common.{IsChunk, Chunk}
 use Rattle.wav_pcm.proofs.HeadLaws.{number_in_front}
 use Rattle.wav_pcm.proofs.parts.chunk_at.Goals as goal
 

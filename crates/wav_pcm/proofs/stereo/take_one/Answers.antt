@@ -1,5 +1,5 @@
 -- One sample more is stored.
-use Rattle.std.proofs.Common.{◌+◌, ◌*◌, arith}
+use Rattle.wav_pcm.proofs.Common.{◌+◌, ◌*◌, arith}
 use Rattle.wav_pcm.proofs.SampleLaws.{sample_more}
 use Rattle.wav_pcm.proofs.stereo.take_one.Goals as goal
 

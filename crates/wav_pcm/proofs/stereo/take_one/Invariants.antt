@@ -1,7 +1,5 @@
 -- The first k places hold their samples.
-use Rattle.std.proofs.Common.{◌≡◌, ◌+◌, ◌*◌, map, take}
-use Rattle.std.specs.List.{range_with_len}
-use Rattle.pcm_base.specs.Wave.{i16_at}
+use Rattle.wav_pcm.proofs.Common.{◌≡◌, ◌+◌, ◌*◌, map, take, range_with_len, i16_at}
 use Rattle.wav_pcm.proofs.stereo.take_one.Given as goal
 
 abbrev pub invariant-loop-k : goal.invariant-loop-k

@@ -1,6 +1,6 @@
 -- A page that is found is an entry, and none goes.
-use Rattle.std.proofs.Common.{subst, sym, ◌∙◌, arith, refl, inl, Contains}
-use Rattle.block_cache.specs.{Entries.HasKey, Caches.Entries, Caches.SameCache, Caches.entries_of}
+use Rattle.block_cache.proofs.Common.{subst, sym, ◌∙◌, arith, refl, inl, Contains, HasKey, Entries, SameCache}
+use Rattle.block_cache.proofs.Common.{entries_of}
 use Rattle.block_cache.proofs.ListLaws.{lists_has, lists_keys, lists_same, pages_left}
 use Rattle.block_cache.proofs.cache.Cache.copy_frames.Goals as goal
 

@@ -1,6 +1,5 @@
 -- All entries but those of the block are left.
-use Rattle.std.proofs.Common.{subst, sym, ◌∙◌, inl}
-use Rattle.block_cache.specs.Caches.{Entries, IsCacheWithout, entries_of}
+use Rattle.block_cache.proofs.Common.{subst, sym, ◌∙◌, inl, Entries, IsCacheWithout, entries_of}
 use Rattle.block_cache.proofs.ListLaws.{keys_without, lists_without, pages_left}
 use Rattle.block_cache.proofs.cache.Cache.drop_entries.Goals as goal
 

@@ -1,6 +1,5 @@
 -- A key that is found is there, and none goes.
-use Rattle.std.proofs.Common.{subst, sym, ◌∙◌, ap, refl, Contains}
-use Rattle.block_cache.specs.Caches.{Entries, SameCache, entries_of}
+use Rattle.block_cache.proofs.Common.{subst, sym, ◌∙◌, ap, refl, Contains, Entries, SameCache, entries_of}
 use Rattle.block_cache.proofs.{KeyLaws.found_key, KeyLaws.promoted_same, ListLaws.keys_same}
 use Rattle.block_cache.proofs.cache.Cache.has_header.Goals as goal
 

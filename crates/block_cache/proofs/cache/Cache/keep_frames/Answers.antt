@@ -1,8 +1,6 @@
 -- What is kept is a page.
-use Rattle.std.proofs.Common.{◌≡◌, length, subst, sym, ◌∙◌, refl, ◌⊎◌, inl, inr, ⊎_elim, Contains, List}
-use Rattle.peak_summary.specs.declared.stretch.Summary.{Summary}
-use Rattle.block_cache.specs.Caches.{Entries, entries_of, lists_of}
-use Rattle.block_cache.specs.{declared.keys.PageKey.PageKey, Pages.IsPage}
+use Rattle.block_cache.proofs.Common.{◌≡◌, length, subst, sym, ◌∙◌, refl, ◌⊎◌, inl, inr, ⊎_elim, Contains, List}
+use Rattle.block_cache.proofs.Common.{Summary, Entries, entries_of, lists_of, PageKey, IsPage}
 use Rattle.block_cache.proofs.ListLaws.{lists_kept, pages_left}
 use Rattle.block_cache.proofs.cache.Cache.keep_frames.Goals as goal
 

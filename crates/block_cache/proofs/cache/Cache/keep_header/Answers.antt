@@ -1,6 +1,5 @@
 -- What is kept is that key.
-use Rattle.std.proofs.Common.{subst, ⊎_elim, inl, inr, Contains}
-use Rattle.block_cache.specs.Caches.{Entries}
+use Rattle.block_cache.proofs.Common.{subst, ⊎_elim, inl, inr, Contains, Entries}
 use Rattle.block_cache.proofs.KeyLaws.{key_has, has_key, put_or_same}
 use Rattle.block_cache.proofs.cache.Cache.keep_header.Goals as goal
 

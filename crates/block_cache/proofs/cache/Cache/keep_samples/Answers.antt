@@ -1,7 +1,6 @@
 -- What is kept is a page.
-use Rattle.std.proofs.Common.{◌≡◌, length, subst, sym, ◌∙◌, ◌⊎◌, inl, inr, ⊎_elim, Contains, List, ℤ}
-use Rattle.block_cache.specs.Caches.{Entries, entries_of, lists_of}
-use Rattle.block_cache.specs.{declared.keys.PageKey.PageKey, Pages.IsPage}
+use Rattle.block_cache.proofs.Common.{◌≡◌, length, subst, sym, ◌∙◌, ◌⊎◌, inl, inr, ⊎_elim, Contains, List, ℤ, Entries}
+use Rattle.block_cache.proofs.Common.{entries_of, lists_of, PageKey, IsPage}
 use Rattle.block_cache.proofs.ListLaws.{lists_kept, pages_left}
 use Rattle.block_cache.proofs.cache.Cache.keep_samples.Goals as goal
 

@@ -1,6 +1,5 @@
 -- No header goes.
-use Rattle.std.proofs.Common.{subst, ap, refl}
-use Rattle.block_cache.specs.Caches.{Entries, SameCache, entries_of}
+use Rattle.block_cache.proofs.Common.{subst, ap, refl, Entries, SameCache, entries_of}
 use Rattle.block_cache.proofs.{KeyLaws.demoted_same, ListLaws.keys_same}
 use Rattle.block_cache.proofs.cache.Cache.release_header.Goals as goal
 

@@ -1,6 +1,5 @@
 -- No page goes.
-use Rattle.std.proofs.Common.{subst, sym, ◌∙◌, inl}
-use Rattle.block_cache.specs.Caches.{Entries, SameCache, entries_of}
+use Rattle.block_cache.proofs.Common.{subst, sym, ◌∙◌, inl, Entries, SameCache, entries_of}
 use Rattle.block_cache.proofs.ListLaws.{lists_same, pages_left}
 use Rattle.block_cache.proofs.cache.Cache.release_samples.Goals as goal
 

@@ -1,6 +1,5 @@
 -- The cache is right of the files that are left.
-use Rattle.std.proofs.Common.{Bool, subst}
-use Rattle.std.specs.Prelude.{IsTrue}
+use Rattle.block_cache.proofs.Common.{Bool, subst, IsTrue}
 use Rattle.block_cache.proofs.reader.BlockReader.remove.Goals as goal
 
 pub invariant_of-self : goal.invariant_of-self

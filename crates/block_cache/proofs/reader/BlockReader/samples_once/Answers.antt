@@ -1,25 +1,10 @@
--- The cache stays right of the store, and a fault of the file is one of the block.
-use Rattle.std.proofs.Common.{◌+◌, ◌*◌, arith, length}
-use Rattle.block_cache.proofs.{CacheLaws.cached_on, ReaderLaws.fault_in}
+-- A fault of the file is one of the block.
+use Rattle.block_cache.proofs.Common.{◌+◌, ◌*◌, arith, length}
+use Rattle.block_cache.proofs.ReaderLaws.{read_through}
 use Rattle.block_cache.proofs.reader.BlockReader.samples_once.Goals as goal
 
-pub read_samples_once-requires-clause-cached : goal.read_samples_once-requires-clause-cached
-read_samples_once-requires-clause-cached g c = c.args.self.now.right
-
-pub invariant_of-self : goal.invariant_of-self
-invariant_of-self g c = record {
-  right = cached_on c.args.self.now.store c.read_samples_once.new.store _ c.args.self.now.cache
-      c.read_samples_once.new.cache c.read_samples_once.ensures.kept c.read_samples_once.ensures.cache
-      c.args.self.now.right;
-}
-
 pub returns-clause-reads : goal.returns-clause-reads
-returns-clause-reads g c = record {
-  kept = c.read_samples_once.ensures.kept;
-  faults = c.read_samples_once.ensures.faults;
-  cache = c.read_samples_once.ensures.cache;
-  damaged = λ told.
-      let b = c.args.block in
-      fault_in (g.S.Store.reads c.args.self.now.store) b (16 + 2 * (c.args.from + length c.args.out.now))
-      c.read_samples_once.result (omega (arith, c.requires.within)) (c.read_samples_once.ensures.damaged told);
-}
+returns-clause-reads g c =
+    read_through c.args.block (16 + 2 * (c.args.from + length c.args.out.now)) _ _ _ (omega (arith, c.requires.within))
+    c.read_samples_once.ensures.kept
+    c.read_samples_once.ensures.faults c.read_samples_once.ensures.cache c.read_samples_once.ensures.damaged

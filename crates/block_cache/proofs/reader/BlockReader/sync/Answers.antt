@@ -1,8 +1,5 @@
 -- The files are as they were.
-use Rattle.std.proofs.Common.{Bool, subst, sym}
-use Rattle.std.specs.Prelude.{IsTrue}
-use Rattle.disk_model.specs.Disk.{Files}
-use Rattle.block_cache.specs.Caches.{IsCacheOf}
+use Rattle.block_cache.proofs.Common.{Bool, subst, sym, IsTrue, Files, IsCacheOf}
 use Rattle.block_cache.proofs.reader.BlockReader.sync.Goals as goal
 
 pub invariant_of-self : goal.invariant_of-self

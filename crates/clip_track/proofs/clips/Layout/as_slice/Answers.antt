@@ -1,5 +1,4 @@
-use Rattle.std.proofs.Common.{subst}
-use Rattle.clip_track.specs.Clips.{IsLayout}
+use Rattle.clip_track.proofs.Common.{subst, IsLayout}
 use Rattle.clip_track.proofs.CellCounts.{clip_count-layout, sample_count-layout}
 use Rattle.clip_track.proofs.clips.Layout.as_slice.Goals as goal
 

@@ -1,6 +1,5 @@
 -- The goals of `len` that the search leaves open.
-use Rattle.std.proofs.Common.{sym, ap, subst, ◌∙◌}
-use Rattle.clip_track.specs.Clips.{IsLayout, end_of}
+use Rattle.clip_track.proofs.Common.{sym, ap, subst, ◌∙◌, IsLayout, end_of}
 use Rattle.clip_track.proofs.Layouts.{length-layout}
 use Rattle.clip_track.proofs.clips.Layout.len.Goals as goal
 

@@ -1,6 +1,5 @@
 -- The goals of `replace` that the search leaves open.
-use Rattle.std.proofs.Common.{◌-◌, List, ◌++◌, take, drop, sym, subst, ap, ap₂, ◌∙◌}
-use Rattle.clip_track.specs.{Items.strip_cells, Items.ItemsFit, declared.items.Item.Item}
+use Rattle.clip_track.proofs.Common.{◌-◌, List, ◌++◌, take, drop, sym, subst, ap, ap₂, ◌∙◌, strip_cells, ItemsFit, Item}
 use Rattle.clip_track.proofs.Strips.{all_cells, end_cells}
 use Rattle.clip_track.proofs.clips.Layout.replace.Goals as goal
 

@@ -1,9 +1,6 @@
 -- All items of the layout but those before the place.
-use Rattle.std.proofs.Common.{List, ap, subst, sym, ◌∙◌, drop, arith}
-use Rattle.std.specs.Prelude.{Contains}
-use Rattle.pcm_base.specs.declared.block.BlockRef.{BlockRef}
-use Rattle.clip_track.specs.Items.{items_after, strip_len, strip_cells, strip_blocks, ItemsFit}
-use Rattle.clip_track.specs.{declared.items.Item.Item, Clips.IsLayout, Clips.items_from}
+use Rattle.clip_track.proofs.Common.{List, ap, subst, sym, ◌∙◌, drop, arith, Contains, BlockRef, items_after, strip_len}
+use Rattle.clip_track.proofs.Common.{strip_cells, strip_blocks, ItemsFit, Item, IsLayout, items_from}
 use Rattle.clip_track.proofs.Layouts.{AreItems-items, strip_len-items, strip_cells-items, ItemsFit-items}
 use Rattle.clip_track.proofs.RestItems.{after_cells, after_len, after_blocks, blocks-layout, ItemsFit-after}
 use Rattle.clip_track.proofs.clips.Layout.rest.Goals as goal

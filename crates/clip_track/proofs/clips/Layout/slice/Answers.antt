@@ -1,7 +1,6 @@
 -- A part of what is left.
-use Rattle.std.proofs.Common.{◌-◌, sym, subst, ap, ◌∙◌, take, drop, arith}
-use Rattle.clip_track.specs.Items.{part_items, strip_len, strip_cells, AreItems, ItemsFit}
-use Rattle.clip_track.specs.Clips.{IsLayout, items_from}
+use Rattle.clip_track.proofs.Common.{◌-◌, sym, subst, ap, ◌∙◌, take, drop, arith, part_items, strip_len, strip_cells}
+use Rattle.clip_track.proofs.Common.{AreItems, ItemsFit, IsLayout, items_from}
 use Rattle.clip_track.proofs.Strips.{AreItems-part, strip_len-part, strip_cells-part, ItemsFit-part}
 use Rattle.clip_track.proofs.Layouts.{AreItems-items, strip_len-items, strip_cells-items, ItemsFit-items}
 use Rattle.clip_track.proofs.RestItems.{part_after}

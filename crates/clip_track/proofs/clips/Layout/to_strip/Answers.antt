@@ -1,6 +1,5 @@
 -- The goals of `to_strip` that the search leaves open.
-use Rattle.std.proofs.Common.{ap, subst, ◌∙◌, arith}
-use Rattle.clip_track.specs.{Items.strip_len, Items.strip_cells, Clips.IsLayout, Clips.items_from}
+use Rattle.clip_track.proofs.Common.{ap, subst, ◌∙◌, arith, strip_len, strip_cells, IsLayout, items_from}
 use Rattle.clip_track.proofs.Layouts.{AreItems-items, strip_len-items, strip_cells-items, ItemsFit-items}
 use Rattle.clip_track.proofs.{RoughStrips.rough_layout, ShortStrips.short_layout}
 use Rattle.clip_track.proofs.clips.Layout.to_strip.Goals as goal

@@ -1,5 +1,4 @@
-use Rattle.std.proofs.Common.{subst}
-use Rattle.clip_track.specs.Items.{AreItems}
+use Rattle.clip_track.proofs.Common.{subst, AreItems}
 use Rattle.clip_track.proofs.RestItems.{AreItems-left}
 use Rattle.clip_track.proofs.rest.Rest.next.Goals as goal
 

@@ -22,9 +22,8 @@ returns-clause-works g c =
     let takes = c.take_script-seat.ensures in
     let ran = c.run_beside-stop.result.1 in
     let s = ran.state in
-    let first =
-    c.run_beside-stop.ensures.lines.follows c.lend_script-state.result.editor
-    (refl, refl, onward_self IsOfScript (known c.lend_script-state.result.editor.seat)) in
+    let first = c.run_beside-stop.ensures.lines.follows c.lend_script-state.result.editor
+    (refl, refl, onward_self IsOfScript _) in
     let desk = first.0 ∙ lends.of.0 in
     let kept = c.take_recorder-recorder.result in
     let heard = c.take_player-player.result in
@@ -54,12 +53,7 @@ returns-clause-works g c =
           (λ tag h.
           let w = h.0 in
           let a = h.1 in
-          let goes = h.3.taker_goes w.taker (
-            refl,
-            refl,
-            refl,
-            records_self w.taker.track w.taker.tag (recorder (known w.taker.seat) w.taker.refused w.taker.since),
-          ) in
+          let goes = h.3.taker_goes w.taker (refl, refl, refl, records_self w.taker.track w.taker.tag _) in
           let track = h.2.4 in
           let tag_is = h.2.5 in
           let at = goes.0 ∙ h.2.2 in
@@ -89,10 +83,8 @@ returns-clause-works g c =
           (back _ _ _ _ _ o.pin c.lend_player-playback.result c.run_beside-stop.result.3
           c.lend_player-playback.ensures c.run_beside-stop.ensures.plays c.take_player-player.ensures)
           (λ pin h.
-          let w = h.0 in
           let a = h.1 in
-          let goes = h.3.giver_goes w.giver
-          (refl, refl, reads_self w.giver.pin (worker (known w.giver.seat) w.giver.refused)) in
+          let goes = h.3.giver_goes h.0.giver (refl, refl, reads_self h.0.giver.pin _) in
           let pin_is = h.2.4 in
           some_as heard.2 h.4.4 (λ k f. (
             h.3.place,
@@ -101,8 +93,8 @@ returns-clause-works g c =
             subst (λ (X : Type 0). X)
                 (λ i. IsPlayed g.P.Sink (change (h.2.1 i) (sym h.4.3 i))
                 (IsMixOf (origin g.S.Store g.V.Vault (start_at (h.2.2 i))) (h.2.3 i).seen (pin_is i)) h.3.place k)
-                (played_of g.P.Sink _ _ (λ l. l.sink.now) (λ l. refl) (λ l. refl) (λ l n failed is. is.1) w.giver
-                w.speaker a k (refl, λ first is. is) h.3 f.0 f.1 f.2),
+                (played_of g.P.Sink _ _ (λ l. l.sink.now) (λ l. refl) (λ l. refl) (λ l n failed is. is.1) h.0.giver
+                h.0.speaker a k (refl, λ first is. is) h.3 f.0 f.1 f.2),
           )))
           (λ h. (ap known h.2.0 ∙ h.1.0, h.2.3, h.2.2 ∙ h.1.3));
     }
@@ -111,35 +103,21 @@ pub returns-clause-at : goal.returns-clause-at
 returns-clause-at g c =
     let o = c.args.setting.opened in
     let desk = c.args.desk.now in
-    let first =
-    c.run_beside-stop.ensures.lines.follows c.lend_script-state.result.editor
-    (refl, refl, onward_self IsOfScript (known c.lend_script-state.result.editor.seat)) in
-    let recorded = back _ _ _ _ _ o.recording c.lend_recorder-recording.result c.run_beside-stop.result.2
-    c.lend_recorder-recording.ensures c.run_beside-stop.ensures.records
-    c.take_recorder-recorder.ensures in
-    let played = back _ _ _ _ _ o.pin c.lend_player-playback.result c.run_beside-stop.result.3
-    c.lend_player-playback.ensures c.run_beside-stop.ensures.plays
-    c.take_player-player.ensures in (
+    let first = c.run_beside-stop.ensures.lines.follows c.lend_script-state.result.editor
+    (refl, refl, onward_self IsOfScript _) in (
       subst (λ d. IsAt d c.take_script-seat.result.0) (first.0 ∙ c.lend_script-state.ensures.of.0)
           c.take_script-seat.ensures.at,
-      where_any o.recording recorded
+      where_any o.recording
+          (back _ _ _ _ _ o.recording c.lend_recorder-recording.result c.run_beside-stop.result.2
+          c.lend_recorder-recording.ensures c.run_beside-stop.ensures.records c.take_recorder-recorder.ensures)
           (λ tag h. subst (λ d. IsAt d c.take_recorder-recorder.result.0)
-          ((h.3.taker_goes h.0.taker (
-            refl,
-            refl,
-            refl,
-            records_self h.0.taker.track h.0.taker.tag
-                (recorder (known h.0.taker.seat) h.0.taker.refused h.0.taker.since),
-          )).0 ∙ h.2.2)
-          h.4.0)
+          ((h.3.taker_goes h.0.taker (refl, refl, refl, records_self _ _ _)).0 ∙ h.2.2) h.4.0)
           (λ h. subst (λ s. IsAt desk s) (sym h.2.0) h.1.1),
-      where_any o.pin played
+      where_any o.pin
+          (back _ _ _ _ _ o.pin c.lend_player-playback.result c.run_beside-stop.result.3
+          c.lend_player-playback.ensures c.run_beside-stop.ensures.plays c.take_player-player.ensures)
           (λ pin h. subst (λ d. IsAt d c.take_player-player.result.0)
-          ((h.3.giver_goes h.0.giver (
-            refl,
-            refl,
-            reads_self h.0.giver.pin (worker (known h.0.giver.seat) h.0.giver.refused),
-          )).0 ∙ h.2.2) h.4.0)
+          ((h.3.giver_goes h.0.giver (refl, refl, reads_self _ _)).0 ∙ h.2.2) h.4.0)
           (λ h. subst (λ s. IsAt desk s) (sym h.2.0) h.1.1),
     )
 
@@ -152,22 +130,19 @@ returns-clause-reads g c = rw c.take_script-seat.ensures.told.0 c.run_beside-sto
 pub returns-clause-same : goal.returns-clause-same
 returns-clause-same g c =
     let o = c.args.setting.opened in
-    let first =
-    c.run_beside-stop.ensures.lines.follows c.lend_script-state.result.editor
-    (refl, refl, onward_self IsOfScript (known c.lend_script-state.result.editor.seat)) in
-    let recorded = back _ _ _ _ _ o.recording c.lend_recorder-recording.result c.run_beside-stop.result.2
-    c.lend_recorder-recording.ensures c.run_beside-stop.ensures.records
-    c.take_recorder-recorder.ensures in
-    let played = back _ _ _ _ _ o.pin c.lend_player-playback.result c.run_beside-stop.result.3
-    c.lend_player-playback.ensures c.run_beside-stop.ensures.plays
-    c.take_player-player.ensures in (
+    let first = c.run_beside-stop.ensures.lines.follows c.lend_script-state.result.editor
+    (refl, refl, onward_self IsOfScript _) in (
       c.take_script-seat.ensures.vault.0 ∙ first.1 ∙ c.lend_script-state.ensures.of.1,
       c.run_beside-stop.ensures.lines.same_script,
       c.run_beside-stop.ensures.lines.same_out,
-      where_any o.recording recorded
+      where_any o.recording
+          (back _ _ _ _ _ o.recording c.lend_recorder-recording.result c.run_beside-stop.result.2
+          c.lend_recorder-recording.ensures c.run_beside-stop.ensures.records c.take_recorder-recorder.ensures)
           (λ tag h. h.4.2 ∙ (h.3.mic_goes h.0.mic (refl, λ before x. x)).0 ∙ h.2.0)
           (λ h. h.2.1 ∙ h.1.2),
-      where_any o.pin played
+      where_any o.pin
+          (back _ _ _ _ _ o.pin c.lend_player-playback.result c.run_beside-stop.result.3
+          c.lend_player-playback.ensures c.run_beside-stop.ensures.plays c.take_player-player.ensures)
           (λ pin h. h.4.2 ∙ (h.3.speaker_goes h.0.speaker (refl, λ before x. x)).0 ∙ h.2.0)
           (λ h. h.2.1 ∙ h.1.2),
     )

@@ -1,6 +1,5 @@
 -- A check changes nothing of the disk.
-use Rattle.block_cache.proofs.CacheLaws.{right_before}
-use Rattle.disk_model.proofs.Frames.{tells_back}
+use Rattle.editor_core.proofs.Common.{right_before, tells_back}
 use Rattle.editor_core.proofs.buffers.BlockBuffers.check.Goals as goal
 
 pub invariant_of-reader : goal.invariant_of-reader

@@ -1,28 +1,20 @@
 -- A track for each channel is a step.
-use Rattle.std.proofs.Common.{◌≡◌, ◌∙◌, refl, sym, ap, subst, inr, ℕ, ◌+◌, ◌*◌, IfErr, Some, None, List, length, Err}
-use Rattle.std.proofs.Common.{Result, replicate, arith}
-use Rattle.std.proofs.lemmas.Result.{err_from_is_err_and}
-use Rattle.pcm_base.proofs.Exits.{after_err}
-use Rattle.pcm_base.specs.{declared.command.Call.TheVariants.Line, declared.refusal.Refusal.Refusal}
-use Rattle.block_writer.specs.Brought.{Brought, MayBring}
-use Rattle.block_writer.proofs.BringLaws.{any_brought}
-use Rattle.envelope_view.specs.Answers.{IsUndamaged}
+use Rattle.editor_core.proofs.Common.{◌≡◌, ◌∙◌, refl, sym, ap, subst, inr, ℕ, ◌+◌, ◌*◌, IfErr, Some, None, List, length}
+use Rattle.editor_core.proofs.Common.{Err, Result, replicate, arith, err_from_is_err_and, after_err, Line, Refusal}
+use Rattle.editor_core.proofs.Common.{Brought, MayBring, any_brought, IsUndamaged, brought_from, NewBlock}
+use Rattle.editor_core.proofs.Common.{current_tracks, Took, as_reply, with_sound, Lasts, IsInsideOr, left_as}
+use Rattle.editor_core.proofs.Common.{AllInOrder, core_of, total_of, lasts_idle, inside_counted, inside_or}
+use Rattle.editor_core.proofs.Common.{channels_pass}
 use Rattle.wav_pcm.specs.declared.heads.WavHead.{WavHead}
-use Rattle.sound_import.specs.Reading.{brought_from}
-use Rattle.edit_ops.specs.declared.types.NewBlock.{NewBlock}
-use Rattle.record_body.specs.Saved.{current_tracks}
-use Rattle.editor_state.specs.Took.{Took, as_reply, with_sound}
-use Rattle.editor_state.specs.{Applied.Lasts, Vaults.IsInsideOr, Vaults.left_as, Made.AllInOrder}
-use Rattle.editor_core.specs.Core.{core_of}
-use Rattle.editor_imports.specs.Imports.{channels_refusal, parts_from, total_of}
-use Rattle.editor_state.proofs.Calls.VaultCalls.{lasts_idle}
-use Rattle.editor_state.proofs.Refusals.VaultRefusals.{inside_counted, inside_or}
+use Rattle.editor_imports.specs.Imports.{channels_refusal, parts_from}
 use Rattle.editor_imports.proofs.ChannelLaws.{channels_plain, channels_tell, parts_counts, total_alike}
 use Rattle.editor_imports.proofs.{ChannelSteps.channels_refused, HeadChannels.sound_edit, HeadChannels.sound_planned}
-use Rattle.editor_imports.proofs.{ImportRefusals.counted_so, ImportRefusals.import_wants, ChannelTests.channels_pass}
+use Rattle.editor_imports.proofs.{ImportRefusals.counted_so, ImportRefusals.import_wants}
 use Rattle.pcm_base.specs.declared.answer.Reply.TheVariants as reply
 use Rattle.pcm_base.specs.declared.command.Command.TheVariants as command
 use Rattle.pcm_base.specs.declared.refusal.Refusal.TheVariants as refusal
+use Rattle.editor_core.proofs.studio.Studio.add_channels.Given.{Over}
+use Rattle.editor_core.proofs.studio.Studio.add_channels.Goals.{After-new-reader}
 use Rattle.editor_core.proofs.studio.Studio.add_channels.Goals as goal
 
 -- ---- no memory for the counts
@@ -187,23 +179,26 @@ carry_out-requires-clause-few g c =
       ap length c.as_slice-2.ensures.value,
     )
 
+-- the reader brings what the vault has
+same_sound : (g : Over) (c : After-new-reader g) → brought_from (g.V.Vault.tells c.new-reader.result.vault.now)
+    (g.V.Vault.holds c.new-reader.result.vault.now) c.new-reader.result.name.now c.new-reader.result.head
+    ≡ brought_from (g.V.Vault.tells c.args.vault.now) (g.V.Vault.holds c.args.vault.now) c.args.name.now c.args.head
+same_sound g c = λ i. brought_from (g.V.Vault.tells (c.new-reader.ensures.vault i))
+    (g.V.Vault.holds (c.new-reader.ensures.vault i)) (c.new-reader.ensures.name i) (c.new-reader.ensures.head i)
+
 pub returns-clause-took : goal.returns-clause-took
 returns-clause-took g c =
     let s = core_of c.args.self.now in
     let name = c.args.name.now in
-    let vault = c.args.vault.now in
     let p = c.in_ok-planned.planned in
     let ns = c.as_slice-2.result.now in
     let pass = sym c.channels_refusal.ensures ∙ c.in_default.is in
     let reader = c.new-reader.result in
     let b = brought_from (g.V.Vault.tells reader.vault.now) (g.V.Vault.holds reader.vault.now) reader.name.now
     reader.head in
-    let same : b ≡ brought_from (g.V.Vault.tells vault) (g.V.Vault.holds vault) name c.args.head = λ i.
-    brought_from (g.V.Vault.tells (c.new-reader.ensures.vault i)) (g.V.Vault.holds (c.new-reader.ensures.vault i))
-    (c.new-reader.ensures.name i) (c.new-reader.ensures.head i) in
     let by = c.carry_out.ensures.took in (
       by.0,
-      subst (λ (d : Brought). MayBring d by.0) same by.1,
+      subst (λ (d : Brought). MayBring d by.0) (same_sound g (goal.at.returns-clause-took g c).After-new-reader) by.1,
       λ sound has.
           by.2 (Line (command.Import name)) (left_as sound) (λ may. refl)
           (sound_edit g.S.Store s c.requires.studio c.args.head ns (c.as_slice-2.ensures.value ∙ c.in_ok-counts.ensures)
@@ -218,10 +213,5 @@ returns-clause-lasts g c = λ sound.
 
 pub returns-clause-device : goal.returns-clause-device
 returns-clause-device g c =
-    let vault = c.args.vault.now in
-    let reader = c.new-reader.result in
-    let same : brought_from (g.V.Vault.tells reader.vault.now) (g.V.Vault.holds reader.vault.now) reader.name.now
-    reader.head ≡ brought_from (g.V.Vault.tells vault) (g.V.Vault.holds vault) c.args.name.now c.args.head = λ i.
-    brought_from (g.V.Vault.tells (c.new-reader.ensures.vault i)) (g.V.Vault.holds (c.new-reader.ensures.vault i))
-    (c.new-reader.ensures.name i) (c.new-reader.ensures.head i) in
-    subst (λ (d : Brought). IfErr c.carry_out.result (IsInsideOr d)) same c.carry_out.ensures.device
+    subst (λ (d : Brought). IfErr c.carry_out.result (IsInsideOr d))
+    (same_sound g (goal.at.returns-clause-device g c).After-new-reader) c.carry_out.ensures.device

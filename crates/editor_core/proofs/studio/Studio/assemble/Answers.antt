@@ -1,8 +1,6 @@
 -- What the parts make is a studio, which a disk with what they stand for holds.
-use Rattle.std.proofs.Common.{◌≡◌, sym, subst, []}
+use Rattle.editor_core.proofs.Common.{◌≡◌, sym, subst, [], Core, IsHeld, IsStudio, assembled}
 use Rattle.block_cache.specs.Caches.{no_entries}
-use Rattle.editor_state.specs.{Core.Core, Studios.IsHeld, Studios.IsStudio}
-use Rattle.editor_core.specs.Parts.{assembled}
 use Rattle.editor_core.proofs.StudioParts.{assembles, holds}
 use Rattle.editor_core.proofs.studio.Studio.assemble.Goals as goal
 

@@ -1,7 +1,5 @@
 -- The current point is that of the history.
-use Rattle.std.proofs.Common.{List, subst, sym}
-use Rattle.project_state.specs.declared.track.Track.{Track}
-use Rattle.record_body.specs.Numbers.{BodyAgrees}
+use Rattle.editor_core.proofs.Common.{List, subst, sym, Track, BodyAgrees}
 use Rattle.editor_core.proofs.studio.Studio.body_size.Goals as goal
 
 pub delta_len-requires : goal.delta_len-requires

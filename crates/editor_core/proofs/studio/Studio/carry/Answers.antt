@@ -1,24 +1,20 @@
 -- Blocks, and then a record.
-use Rattle.std.proofs.Common.{◌≡◌, ◌∙◌, inl, inr, refl, sym, ap, subst, ℕ, suc, ◌+◌, ◌≤◌, ◌<◌, IfErr, IsSome, List}
-use Rattle.std.proofs.Common.{length, zero, [], vec_capacity, arith}
-use Rattle.pcm_base.proofs.Exits.{after_err, exit_err}
-use Rattle.record_body.specs.{Saved.current_tracks, declared.body.Body.Body, Batches.with_point}
-use Rattle.block_cache.specs.Caches.{AllPass}
-use Rattle.editor_state.specs.Bodies.{all_bytes, all_len, bodies_by, bytes_by, whole_len, writing}
-use Rattle.editor_state.specs.{Edits.BlockCommit, Edits.Carried, Edits.IsPrepared, Edits.NotPrepared, Adding.Adds}
-use Rattle.editor_state.specs.{Core.Core, Vaults.IsInsideOr, Made.batch_of, Made.ids_from, Makes.AreSynced}
-use Rattle.editor_state.specs.{Makes.Making, Makes.RefusedBrought, Makes.Stuck, Studios.is_block, Studios.is_given}
-use Rattle.editor_core.specs.Core.{core_of}
-use Rattle.pcm_base.specs.declared.limits.TheConstants.{LONGEST_BODY}
-use Rattle.project_journal.specs.Journal.{AreWaiting, rows_length}
+use Rattle.editor_core.proofs.Common.{◌≡◌, ◌∙◌, inl, inr, refl, sym, ap, subst, ℕ, ◌+◌, ◌≤◌, ◌<◌, IfErr, IsSome, List}
+use Rattle.editor_core.proofs.Common.{ℤ, length, [], vec_capacity, arith, after_err, exit_err, current_tracks, Body}
+use Rattle.editor_core.proofs.Common.{with_point, AllPass, NewBlock, all_bytes, all_len, whole_len, writing, Carried}
+use Rattle.editor_core.proofs.Common.{NotPrepared, Adds, Core, IsInsideOr, batch_of, ids_from, RefusedBrought, is_block}
+use Rattle.editor_core.proofs.Common.{is_given, core_of, LONGEST_BODY, AreWaiting, Track, any_brought, inside_counted}
+use Rattle.editor_core.proofs.Common.{inside_or, pages_of_blocks}
+use Rattle.std.proofs.Common.{suc, zero}
+use Rattle.editor_state.specs.Bodies.{bodies_by, bytes_by}
+use Rattle.editor_state.specs.{Edits.BlockCommit, Edits.IsPrepared, Makes.AreSynced, Makes.Making, Makes.Stuck}
+use Rattle.project_journal.specs.Journal.{rows_length}
 use Rattle.project_journal.proofs.Together.{opened_length}
-use Rattle.project_state.specs.declared.track.Track.{Track}
-use Rattle.block_writer.proofs.BringLaws.{any_brought}
-use Rattle.editor_state.proofs.Refusals.VaultRefusals.{adds_counted, adds_inside, inside_counted, inside_or}
-use Rattle.editor_state.proofs.Refusals.VaultRefusals.{unprepared_asks}
-use Rattle.editor_state.proofs.Blocks.CachePages.{pages_of_blocks}
+use Rattle.editor_state.proofs.Refusals.VaultRefusals.{adds_counted, adds_inside, unprepared_asks}
 use Rattle.editor_commits.proofs.{BodyBytes.rows_count, CurrentProject.current_agrees}
 use Rattle.editor_edits.proofs.{CarryOrder.carried_by, VaultCuts.brought_inside}
+use Rattle.editor_core.proofs.studio.Studio.carry.Given.{Over}
+use Rattle.editor_core.proofs.studio.Studio.carry.Goals.{After-commit_rows}
 use Rattle.editor_core.proofs.studio.Studio.carry.Goals as goal
 
 -- records that wait, and are short together, are short with the gate and the length of the first
@@ -43,6 +39,30 @@ waiting_some version current body (suc more) rows are = omega (
   ap length are.spelled,
   opened_length (bytes_by version current (with_point current body)) (bodies_by version current more body),
 )
+
+-- the commit by the samples that came
+abbrev commit_by : {D : Type 0} → Core D → Body → (more : ℕ) → List NewBlock → (tracks layouts : ℕ) → (ℕ → ℤ)
+    → BlockCommit
+commit_by s body more makes tracks layouts given = record {
+  makes = makes;
+  given = given;
+  tracks = tracks;
+  layouts = layouts;
+  count = suc more;
+  bodies = all_bytes s (writing more body);
+  whole = whole_len s (writing more body);
+}
+
+-- the records are those that waited
+added : (g : Over) (c : After-commit_rows g) (most : ℕ) → Adds {R = Unit {0}} g.S.Store (core_of c.make_blocks.new.self)
+    (all_bytes (core_of c.args.self.now) (writing c.args.more c.args.body.now)) (c.args.more + 1) most
+    c.commit_rows.result (core_of c.commit_rows.new.self)
+added g c most =
+    let s = core_of c.args.self.now in
+    let bodies = all_bytes s (writing c.args.more c.args.body.now) in
+    c.commit_rows.ensures.records most bodies (subst (λ (l : List ℕ). AreWaiting l bodies)
+    (sym (ap (λ v. v.items) c.in_ok-make_blocks.ensures.row)) c.in_ok-prepare.ensures.rows)
+    (rows_count s.version (current_tracks s.history) c.args.body.now c.args.more)
 
 pub prepare-requires-clause-again : goal.prepare-requires-clause-again
 prepare-requires-clause-again g c = current_agrees g.S.Store (core_of c.args.self.now) c.requires.studio
@@ -95,29 +115,19 @@ make_blocks-requires-clause-size g c =
 pub returns-in_err-prepare-clause-carried : goal.returns-in_err-prepare-clause-carried
 returns-in_err-prepare-clause-carried g c =
     let s = core_of c.args.self.now in
-    let new = core_of c.prepare.new.self in
     let bs = c.args.makes.now in
     let w = writing c.args.more c.args.body.now in
-    let whole = whole_len s w in
-    let why = c.in_err-prepare.field-0.0 in
     let one : c.args.more + 1 ≡ suc c.args.more = omega arith in
     let any = any_brought (g.G.Brings.brings c.args.given.now) in
-    let commit : BlockCommit = record {
-      makes = bs;
-      given = any.0;
-      tracks = c.args.draws.tracks;
-      layouts = c.args.draws.layouts;
-      count = suc c.args.more;
-      bodies = all_bytes s w;
-      whole = whole;
-    } in (
+    let commit = commit_by s c.args.body.now c.args.more bs c.args.draws.tracks c.args.draws.layouts any.0 in (
       any.0,
       any.1,
-      after_err (λ x. Carried g.S.Store s commit x new) _ c.from_residual.result c.from_residual.ensures.1
+      after_err (λ x. Carried g.S.Store s commit x (core_of c.prepare.new.self)) _ c.from_residual.result
+          c.from_residual.ensures.1
           (inl (
             c.in_err-prepare.ensures.same,
-            subst (λ (n : ℕ). NotPrepared s (length bs) c.args.draws.tracks c.args.draws.layouts n whole (all_len s w)
-                why) one c.in_err-prepare.ensures.err,
+            subst (λ (n : ℕ). NotPrepared s (length bs) c.args.draws.tracks c.args.draws.layouts n (whole_len s w)
+                (all_len s w) c.in_err-prepare.field-0.0) one c.in_err-prepare.ensures.err,
           )),
     )
 
@@ -135,33 +145,20 @@ returns-clause-carried g c =
     let synced =
     subst (λ (z : Core g.row.S.Denot). AreSynced g.S.Store (ids_from z.next_block (length bs)) mid.store) same made.2 in
     let w = writing c.args.more c.args.body.now in
-    let bodies = all_bytes s w in
-    let whole = whole_len s w in
     let new = core_of c.commit_rows.new.self in
     let row = c.in_ok-make_blocks.ensures.row in
-    let items : c.make_blocks.new.self.row.items ≡ c.prepare.new.self.row.items = ap (λ v. v.items) row in
-    let waiting = subst (λ (l : List ℕ). AreWaiting l bodies) (sym items) c.in_ok-prepare.ensures.rows in
     let room : 1 + length c.make_blocks.new.self.row.items ≤ vec_capacity c.make_blocks.new.self.row =
-    omega (arith, ap (λ (l : List ℕ). length l) items, ap vec_capacity row, c.in_ok-prepare.ensures.room) in
+    omega (arith, ap (λ v. length v.items) row, ap vec_capacity row, c.in_ok-prepare.ensures.room) in
     let one : c.args.more + 1 ≡ suc c.args.more = omega arith in
     let prepared = subst (λ (n : ℕ). IsPrepared s (length bs) c.args.draws.tracks c.args.draws.layouts n (all_len s w))
     one c.in_ok-prepare.ensures.prepared in
-    let adds = λ (most : ℕ). subst (λ (n : ℕ). Adds g.S.Store mid bodies n most c.commit_rows.result new) one
-    (c.commit_rows.ensures.records most bodies waiting
-    (rows_count s.version (current_tracks s.history) c.args.body.now c.args.more)) in
-    let commit : BlockCommit = record {
-      makes = bs;
-      given = by.0;
-      tracks = c.args.draws.tracks;
-      layouts = c.args.draws.layouts;
-      count = suc c.args.more;
-      bodies = bodies;
-      whole = whole;
-    } in (
+    let adds = λ (most : ℕ). subst (λ (n : ℕ). Adds g.S.Store mid (all_bytes s w) n most c.commit_rows.result new) one
+    (added g (goal.at.returns-clause-carried g c).After-commit_rows most) in
+    let commit = commit_by s c.args.body.now c.args.more bs c.args.draws.tracks c.args.draws.layouts by.0 in (
       by.0,
       by.1,
       carried_by g.S.Store s mid new commit c.commit_rows.result making reads synced
-          prepared (adds (all_len s w)) (adds whole) (c.commit_rows.ensures.memory room),
+          prepared (adds (all_len s w)) (adds (whole_len s w)) (c.commit_rows.ensures.memory room),
     )
 
 -- ---- what is left of the devices
@@ -194,27 +191,17 @@ returns-in_err-make_blocks-clause-carried g c =
     let s = core_of c.args.self.now in
     let new = core_of c.make_blocks.new.self in
     let bs = c.args.makes.now in
-    let w = writing c.args.more c.args.body.now in
-    let why = c.in_err-make_blocks.field-0.0 in
     let by = c.in_err-make_blocks.ensures.made in
     let one : c.args.more + 1 ≡ suc c.args.more = omega arith in
-    let commit : BlockCommit = record {
-      makes = bs;
-      given = by.0;
-      tracks = c.args.draws.tracks;
-      layouts = c.args.draws.layouts;
-      count = suc c.args.more;
-      bodies = all_bytes s w;
-      whole = whole_len s w;
-    } in (
+    let commit = commit_by s c.args.body.now c.args.more bs c.args.draws.tracks c.args.draws.layouts by.0 in (
       by.0,
       by.1,
       after_err (λ x. Carried g.S.Store s commit x new) _ c.from_residual-in_err-make_blocks.result
           c.from_residual-in_err-make_blocks.ensures.1
           (inr (inl (
-            subst (λ (n : ℕ). IsPrepared s (length bs) c.args.draws.tracks c.args.draws.layouts n (all_len s w)) one
-                c.in_ok-prepare.ensures.prepared,
-            subst (λ (z : Core g.row.S.Denot). Stuck g.S.Store z (batch_of by.0 bs) why new)
+            subst (λ (n : ℕ). IsPrepared s (length bs) c.args.draws.tracks c.args.draws.layouts n
+                (all_len s (writing c.args.more c.args.body.now))) one c.in_ok-prepare.ensures.prepared,
+            subst (λ (z : Core g.row.S.Denot). Stuck g.S.Store z (batch_of by.0 bs) c.in_err-make_blocks.field-0.0 new)
                 c.in_ok-prepare.ensures.same by.2,
           ))),
     )
@@ -239,28 +226,18 @@ pub returns-clause-device : goal.returns-clause-device
 returns-clause-device g c =
     let s = core_of c.args.self.now in
     let w = writing c.args.more c.args.body.now in
-    let bodies = all_bytes s w in
-    let items : c.make_blocks.new.self.row.items ≡ c.prepare.new.self.row.items =
-    ap (λ v. v.items) c.in_ok-make_blocks.ensures.row in
-    let waiting = subst (λ (l : List ℕ). AreWaiting l bodies) (sym items) c.in_ok-prepare.ensures.rows in
-    adds_inside g.S.Store (core_of c.make_blocks.new.self) (core_of c.commit_rows.new.self) bodies (c.args.more + 1)
-    (whole_len s w) (g.G.Brings.brings c.args.given.now) c.commit_rows.result
-    (c.commit_rows.ensures.records (whole_len s w) bodies waiting
-    (rows_count s.version (current_tracks s.history) c.args.body.now c.args.more))
+    adds_inside g.S.Store (core_of c.make_blocks.new.self) (core_of c.commit_rows.new.self) (all_bytes s w)
+    (c.args.more + 1) (whole_len s w) (g.G.Brings.brings c.args.given.now) c.commit_rows.result
+    (added g (goal.at.returns-clause-device g c).After-commit_rows (whole_len s w))
 
 pub returns-clause-given : goal.returns-clause-given
 returns-clause-given g c =
     let s = core_of c.args.self.now in
     let w = writing c.args.more c.args.body.now in
-    let bodies = all_bytes s w in
-    let items : c.make_blocks.new.self.row.items ≡ c.prepare.new.self.row.items =
-    ap (λ v. v.items) c.in_ok-make_blocks.ensures.row in
-    let waiting = subst (λ (l : List ℕ). AreWaiting l bodies) (sym items) c.in_ok-prepare.ensures.rows in
-    adds_counted g.S.Store (core_of c.make_blocks.new.self) (core_of c.commit_rows.new.self) bodies (c.args.more + 1)
-    (whole_len s w) c.commit_rows.result (g.G.Brings.fault_count c.args.given.now)
+    adds_counted g.S.Store (core_of c.make_blocks.new.self) (core_of c.commit_rows.new.self) (all_bytes s w)
+    (c.args.more + 1) (whole_len s w) c.commit_rows.result (g.G.Brings.fault_count c.args.given.now)
     (g.G.Brings.fault_count c.make_blocks.new.given)
-    (c.commit_rows.ensures.records (whole_len s w) bodies waiting
-    (rows_count s.version (current_tracks s.history) c.args.body.now c.args.more)) c.in_ok-make_blocks.ensures.given
+    (added g (goal.at.returns-clause-given g c).After-commit_rows (whole_len s w)) c.in_ok-make_blocks.ensures.given
 
 pub returns-clause-still : goal.returns-clause-still
 returns-clause-still g c = c.in_ok-make_blocks.ensures.still

@@ -1,10 +1,6 @@
 -- Nothing was asked of the disk, or the record was added whose body was written.
-use Rattle.std.proofs.Common.{◌≤◌, ◌∷◌, [], refl, sym, subst, List, ℕ}
-use Rattle.pcm_base.proofs.Exits.{after_err}
-use Rattle.editor_state.specs.Bodies.{all_bytes, all_len, body_bytes, single, whole_len}
-use Rattle.editor_state.specs.{Adding.Adds, Adding.AddsBody, Core.Core, Studios.is_block}
-use Rattle.block_cache.specs.Caches.{AllPass}
-use Rattle.editor_core.specs.Core.{core_of}
+use Rattle.editor_core.proofs.Common.{◌≤◌, ◌∷◌, [], refl, sym, subst, List, ℕ, after_err, all_bytes, all_len}
+use Rattle.editor_core.proofs.Common.{body_bytes, single, whole_len, Adds, AddsBody, Core, is_block, AllPass, core_of}
 use Rattle.editor_commits.proofs.AppendFaults.{adds_nothing, exceeds}
 use Rattle.pcm_base.specs.declared.refusal.Refusal.TheVariants as refusal
 use Rattle.editor_core.proofs.studio.Studio.commit_body.Goals as goal

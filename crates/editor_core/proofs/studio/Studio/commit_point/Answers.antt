@@ -1,13 +1,7 @@
 -- The body's tracks are those of the point. Numbers of layouts are not left, or the record is added or is not.
-use Rattle.std.proofs.Common.{◌∙◌, inl, inr, refl, sym, ap, subst, ℕ, ◌+◌, List, Err}
-use Rattle.std.proofs.lemmas.Result.{err_from_is_err_and}
-use Rattle.record_body.specs.declared.body.Body.TheVariants.{Edit}
-use Rattle.project_state.specs.declared.track.Track.{Track}
-use Rattle.disk_model.specs.declared.store.Store.{Ghosts}
-use Rattle.pcm_base.specs.declared.refusal.Refusal.{Refusal}
-use Rattle.editor_state.specs.{Adding.AddsBody, Adding.AddsDrawn, Adding.Undrawn, Bodies.Writing, Bodies.single}
-use Rattle.editor_state.specs.{Bodies.whole_len, Core.Core}
-use Rattle.editor_core.specs.Core.{core_of}
+use Rattle.editor_core.proofs.Common.{◌∙◌, inl, inr, refl, sym, ap, subst, ℕ, ◌+◌, List, Err, err_from_is_err_and, Edit}
+use Rattle.editor_core.proofs.Common.{Track, Ghosts, Refusal, AddsBody, AddsDrawn, Undrawn, Writing, single, whole_len}
+use Rattle.editor_core.proofs.Common.{Core, core_of}
 use Rattle.editor_core.proofs.studio.Studio.commit_point.Goals as goal
 
 pub commit_body-requires-clause-numbers : goal.commit_body-requires-clause-numbers

@@ -1,12 +1,9 @@
 -- What the journal answers.
-use Rattle.std.proofs.Common.{refl, subst, ℕ, ◌-◌, length, vec_capacity, arith}
+use Rattle.editor_core.proofs.Common.{refl, subst, ℕ, ◌-◌, length, vec_capacity, arith, core_of, form_at, settled}
+use Rattle.editor_core.proofs.Common.{no_want, undamaged_settle, right_by_record}
 use Rattle.disk_model.specs.{Disk.SameElsewhere, Frames.Changed}
 use Rattle.project_journal.specs.{Answer.Appends, Rooms.append_room}
 use Rattle.project_journal.proofs.Together.{rows_size}
-use Rattle.editor_core.specs.Core.{core_of}
-use Rattle.editor_state.specs.Core.{form_at}
-use Rattle.editor_commits.proofs.{AppendFaults.settled, RowRoom.no_want, RowRoom.undamaged_settle}
-use Rattle.editor_state.proofs.Blocks.CachePages.{right_by_record}
 use Rattle.editor_core.proofs.studio.Studio.commit_rows.Goals as goal
 
 pub returns-clause-records : goal.returns-clause-records

@@ -1,9 +1,6 @@
 -- What the journal answers.
-use Rattle.std.proofs.Common.{◌∷◌, [], arith, length, refl}
-use Rattle.editor_core.specs.Core.{core_of}
-use Rattle.editor_state.specs.Core.{form_at}
-use Rattle.editor_commits.proofs.{AppendFaults.settled, RowRoom.undamaged_settle}
-use Rattle.editor_state.proofs.Blocks.CachePages.{right_by_record}
+use Rattle.editor_core.proofs.Common.{◌∷◌, [], arith, length, refl, core_of, form_at, settled, undamaged_settle}
+use Rattle.editor_core.proofs.Common.{right_by_record}
 use Rattle.editor_core.proofs.studio.Studio.commit_small.Goals as goal
 
 pub returns-clause-record : goal.returns-clause-record

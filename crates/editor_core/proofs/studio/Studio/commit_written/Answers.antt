@@ -1,9 +1,6 @@
 -- What the journal answers.
-use Rattle.std.proofs.Common.{◌∷◌, [], refl}
-use Rattle.editor_core.specs.Core.{core_of}
-use Rattle.editor_state.specs.Core.{form_at}
-use Rattle.editor_commits.proofs.{AppendFaults.settled, RowRoom.no_want, RowRoom.undamaged_settle}
-use Rattle.editor_state.proofs.Blocks.CachePages.{right_by_record}
+use Rattle.editor_core.proofs.Common.{◌∷◌, [], refl, core_of, form_at, settled, no_want, undamaged_settle}
+use Rattle.editor_core.proofs.Common.{right_by_record}
 use Rattle.editor_core.proofs.studio.Studio.commit_written.Goals as goal
 
 pub returns-clause-record : goal.returns-clause-record

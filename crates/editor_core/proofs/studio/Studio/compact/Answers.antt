@@ -1,18 +1,34 @@
 -- The journal put into one header, or why it was not.
-use Rattle.std.proofs.Common.{◌≡◌, ◌∙◌, sym, ap, subst, ℕ, ◌+◌, ◌-◌, ◌^◌, ◌<◌, Bool, List, Result, Some, Err, Ok}
-use Rattle.std.proofs.Common.{length, arith}
-use Rattle.pcm_base.proofs.Exits.{after_err}
-use Rattle.pcm_base.specs.{declared.failed.Failed.Failed, declared.refusal.Refusal.Refusal, Causes.HasCause}
-use Rattle.block_cache.proofs.CacheLaws.{right_before}
+use Rattle.editor_core.proofs.Common.{◌≡◌, ◌∙◌, sym, ap, subst, ℕ, ◌+◌, ◌-◌, Bool, List, Result, Some, Err, Ok, length}
+use Rattle.editor_core.proofs.Common.{arith, after_err, Refusal, right_before, Core, core_of, pages_of_blocks}
+use Rattle.editor_core.proofs.Common.{tells_back}
+use Rattle.pcm_base.specs.{declared.failed.Failed.Failed, Causes.HasCause}
 use Rattle.editor_cleanup.specs.Compacts.{Compacts}
-use Rattle.editor_state.specs.{Core.Core, Packing.packed_core, Packing.packed_size, Packing.packed_text}
-use Rattle.editor_core.specs.Core.{core_of}
+use Rattle.editor_state.specs.{Packing.packed_core, Packing.packed_size, Packing.packed_text}
 use Rattle.editor_cleanup.proofs.CompactAnswers.{Packs, compact_done, compact_failed, compact_spent, compact_stopped}
 use Rattle.editor_cleanup.proofs.CompactAnswers.{compact_unread, compact_wanting}
-use Rattle.editor_state.proofs.Blocks.CachePages.{pages_of_blocks, right_by_packing}
-use Rattle.disk_model.proofs.Frames.{tells_back}
+use Rattle.editor_state.proofs.Blocks.CachePages.{right_by_packing}
 use Rattle.pcm_base.specs.declared.refusal.Refusal.TheVariants as refusal
+use Rattle.editor_core.proofs.studio.Studio.compact.Given.{Over}
+use Rattle.editor_core.proofs.studio.Studio.compact.Goals.{After-compact}
 use Rattle.editor_core.proofs.studio.Studio.compact.Goals as goal
+
+-- what the packing did
+packs : (g : Over) (c : After-compact g) → Packs g.S.Store c.args.self.now.file c.in-Ok.there c.is_there.new.store
+    c.compact.new.store (packed_text (core_of c.args.self.now)) c.compact.result
+packs g c =
+    subst (λ (l : List ℕ). Packs g.S.Store c.args.self.now.file c.in-Ok.there c.is_there.new.store c.compact.new.store l
+    c.compact.result) (c.deref.ensures.value ∙ c.in_ok-text.ensures.text) (record {
+      any_moment = c.compact.ensures.any_moment;
+      done = c.compact.ensures.done;
+      alone = c.compact.ensures.alone;
+      gone = c.compact.ensures.gone;
+      durable = c.compact.ensures.durable;
+      one = c.compact.ensures.one;
+      changed = c.compact.ensures.changed;
+      faults = c.compact.ensures.faults;
+      read_faults = c.compact.ensures.read_faults;
+    })
 
 pub returns-in-Some : goal.returns-in-Some
 returns-in-Some g c =
@@ -43,73 +59,41 @@ returns-in_default-is_there g c =
 pub returns-in-Ok-compact : goal.returns-in-Ok-compact
 returns-in-Ok-compact g c =
     let s = core_of c.args.self.now in
-    let is = c.requires in
-    let text = c.deref.result.now in
     let mid = c.is_there.new.store in
     let new = c.compact.new.store in
-    let same : text ≡ packed_text s = c.deref.ensures.value ∙ c.in_ok-text.ensures.text in
-    let size = c.in_ok-text.ensures.size in
-    let most = c.in_ok-text.ensures.most in
+    let text = c.in_ok-text.ensures in
     let there = subst (λ (r : Result Bool Failed). HasCause (g.S.Store.read_fault_count s.store)
     (g.S.Store.read_fault_count mid) r) c.in-Ok.is c.is_there.ensures.faults in
-    let by : Packs g.S.Store s.file c.in-Ok.there mid new text c.compact.result = record {
-      any_moment = c.compact.ensures.any_moment;
-      done = c.compact.ensures.done;
-      alone = c.compact.ensures.alone;
-      gone = c.compact.ensures.gone;
-      durable = c.compact.ensures.durable;
-      one = c.compact.ensures.one;
-      changed = c.compact.ensures.changed;
-      faults = c.compact.ensures.faults;
-      read_faults = c.compact.ensures.read_faults;
-    } in
-    let packs = subst (λ (l : List ℕ). Packs g.S.Store s.file c.in-Ok.there mid new l (Ok c.in-Ok-compact.field-0)) same
-    (subst (λ r. Packs g.S.Store s.file c.in-Ok.there mid new text r) c.in-Ok-compact.is by) in
+    let packs = subst (λ r. Packs g.S.Store s.file c.in-Ok.there mid new (packed_text s) r) c.in-Ok-compact.is
+    (packs g (goal.at.returns-in-Ok-compact g c).After-compact) in
     let len = c.in_ok-text.text.ok.0 in
-    let end : c.len.result ≡ packed_size s - 1 = omega (arith, c.len.ensures, len, size) in
-    let later : s.generation < 2 ^ 62 =
-    omega (arith, c.if-self-eq-COUNTER_LIMIT.false, is.journal.generation_most) in
+    let end : c.len.result ≡ packed_size s - 1 = omega (arith, c.len.ensures, len, text.size) in
     subst (λ (z : Core g.row.S.Denot). Compacts g.S.Store s (Ok (c.len.result + 1)) z)
     (λ i. record (packed_core s new) { journal_end = sym end i })
-    (compact_done g.S.Store s is (g.met.S.Store.may_fewer s.store) c.in_default.is mid c.is_there.ensures.kept
-    there.kept c.in-Ok.there c.in-Ok.ensures.tells later c.in_ok-text.ensures.whole c.in_ok-text.ensures.rate
-    c.in_ok-text.ensures.short (omega (arith, size, most)) new (Ok c.in-Ok-compact.field-0) packs
+    (compact_done g.S.Store s c.requires (g.met.S.Store.may_fewer s.store) c.in_default.is mid c.is_there.ensures.kept
+    there.kept c.in-Ok.there c.in-Ok.ensures.tells
+    (omega (arith, c.if-self-eq-COUNTER_LIMIT.false, c.requires.journal.generation_most)) text.whole text.rate
+    text.short (omega (arith, text.size, text.most)) new (Ok c.in-Ok-compact.field-0) packs
     packs.faults.kept packs.done packs.alone packs.gone packs.durable packs.one (g.met.S.Store.may_stay new)
-    (c.len.result + 1) (omega (arith, c.len.ensures, len, ap length c.in_ok-text.ensures.text)))
+    (c.len.result + 1) (omega (arith, c.len.ensures, len, ap length text.text)))
 
 pub returns : goal.returns
 returns g c =
     let s = core_of c.args.self.now in
-    let is = c.requires in
-    let text = c.deref.result.now in
     let mid = c.is_there.new.store in
     let new = c.compact.new.store in
-    let same : text ≡ packed_text s = c.deref.ensures.value ∙ c.in_ok-text.ensures.text in
-    let size = c.in_ok-text.ensures.size in
-    let most = c.in_ok-text.ensures.most in
+    let text = c.in_ok-text.ensures in
+    let packs = subst (λ r. Packs g.S.Store s.file c.in-Ok.there mid new (packed_text s) r) c.in-Err.is
+    (packs g (goal.at.returns g c).After-compact) in
     let there = subst (λ (r : Result Bool Failed). HasCause (g.S.Store.read_fault_count s.store)
     (g.S.Store.read_fault_count mid) r) c.in-Ok.is c.is_there.ensures.faults in
-    let by : Packs g.S.Store s.file c.in-Ok.there mid new text c.compact.result = record {
-      any_moment = c.compact.ensures.any_moment;
-      done = c.compact.ensures.done;
-      alone = c.compact.ensures.alone;
-      gone = c.compact.ensures.gone;
-      durable = c.compact.ensures.durable;
-      one = c.compact.ensures.one;
-      changed = c.compact.ensures.changed;
-      faults = c.compact.ensures.faults;
-      read_faults = c.compact.ensures.read_faults;
-    } in
-    let packs = subst (λ (l : List ℕ). Packs g.S.Store s.file c.in-Ok.there mid new l (Err c.in-Err.field-0)) same
-    (subst (λ r. Packs g.S.Store s.file c.in-Ok.there mid new text r) c.in-Err.is by) in
-    let later : s.generation < 2 ^ 62 =
-    omega (arith, c.if-self-eq-COUNTER_LIMIT.false, is.journal.generation_most) in
     subst (λ (z : Core g.row.S.Denot). Compacts g.S.Store s (Err refusal.DiskFault) z)
     (λ i. record s { store = new; stopped = Some (sym c.faults.ensures i) })
-    (compact_failed g.S.Store s is (g.met.S.Store.may_fewer s.store) c.in_default.is mid c.is_there.ensures.kept
-    there.kept c.in-Ok.there c.in-Ok.ensures.tells later c.in_ok-text.ensures.whole c.in_ok-text.ensures.rate
-    c.in_ok-text.ensures.short (omega (arith, size, most)) new (Err c.in-Err.field-0) packs
-    packs.faults.failed packs.faults.later)
+    (compact_failed g.S.Store s c.requires (g.met.S.Store.may_fewer s.store) c.in_default.is mid c.is_there.ensures.kept
+    there.kept c.in-Ok.there c.in-Ok.ensures.tells
+    (omega (arith, c.if-self-eq-COUNTER_LIMIT.false, c.requires.journal.generation_most)) text.whole text.rate
+    text.short (omega (arith, text.size, text.most)) new (Err c.in-Err.field-0) packs packs.faults.failed
+    packs.faults.later)
 
 -- the file was asked for and nothing changed
 pub invariant_of-self : goal.invariant_of-self

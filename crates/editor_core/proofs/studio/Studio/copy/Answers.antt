@@ -1,17 +1,10 @@
 -- A copy is a step.
-use Rattle.std.proofs.Common.{refl, sym, ap, ◌∙◌, subst, List, Err, Ok}
-use Rattle.std.proofs.lemmas.Result.{err_from_is_err_and}
+use Rattle.editor_core.proofs.Common.{refl, sym, ap, ◌∙◌, subst, List, Err, Ok, err_from_is_err_and, after_err, Line}
+use Rattle.editor_core.proofs.Common.{count_of, IsUndamaged, Track, RunRange, run_of, strips_blocks, Core, lacks, Took}
+use Rattle.editor_core.proofs.Common.{quietly, as_reply, core_of, named_there}
 use Rattle.std.specs.Prelude.{IfErr}
-use Rattle.pcm_base.proofs.Exits.{after_err}
-use Rattle.pcm_base.specs.{declared.answer.Reply.TheVariants.Copied, declared.command.Call.TheVariants.Line}
-use Rattle.block_ledger.specs.Entries.{count_of}
-use Rattle.envelope_view.specs.Answers.{IsUndamaged}
-use Rattle.project_state.specs.declared.track.Track.{Track}
-use Rattle.editor_tracks.specs.declared.run_range.RunRange.{RunRange}
-use Rattle.editor_tracks.specs.Copies.{run_of, Copies, AnswersCopy, strips_blocks}
-use Rattle.editor_state.specs.{Core.Core, Points.lacks, Took.Took, Took.quietly, Took.as_reply}
-use Rattle.editor_core.specs.Core.{core_of}
-use Rattle.editor_state.proofs.Blocks.BlockNumbers.{named_there}
+use Rattle.pcm_base.specs.{declared.answer.Reply.TheVariants.Copied}
+use Rattle.editor_tracks.specs.Copies.{Copies, AnswersCopy}
 use Rattle.editor_tracks.proofs.CopySteps.{clip_counted, clip_room, copy_stopped, copy_lacks, copy_refused, strips_few}
 use Rattle.editor_tracks.proofs.CopySteps.{strips_named, copy_done}
 use Rattle.editor_commits.proofs.CallsWithoutReads.{copies_tell}

@@ -1,15 +1,9 @@
 -- A cut is a step.
-use Rattle.std.proofs.Common.{ℕ, IfErr}
-use Rattle.pcm_base.proofs.Exits.{after_err}
-use Rattle.pcm_base.specs.{declared.answer.Reply.TheVariants.Done, declared.command.Call.TheVariants.Line}
-use Rattle.envelope_view.specs.Answers.{IsUndamaged}
-use Rattle.block_writer.specs.{declared.given.Given.TheVariants.Nothing, Bringing.brought, Bringing.brought_by}
-use Rattle.editor_core.specs.Core.{core_of}
-use Rattle.editor_tracks.specs.Cuts.{cut_line}
-use Rattle.editor_state.specs.Took.{Took, quietly, silent, as_reply, with_sound}
+use Rattle.editor_core.proofs.Common.{ℕ, IfErr, after_err, Done, Line, IsUndamaged, Nothing, brought, brought_by}
+use Rattle.editor_core.proofs.Common.{core_of, cut_line, Took, quietly, silent, as_reply, with_sound, known_took}
+use Rattle.editor_core.proofs.Common.{planned_any}
 use Rattle.editor_tracks.proofs.{CutLaws.no_cut_tells, CutRefusals.cut_refused, CutRefusals.cut_stopped}
 use Rattle.editor_tracks.proofs.{CutSteps.cut_edit, CutSteps.cut_planned}
-use Rattle.editor_edits.proofs.KnownSamples.{known_took, planned_any}
 use Rattle.editor_core.proofs.studio.Studio.cut_range.Goals as goal
 
 pub returns-in-Some-clause-took : goal.returns-in-Some-clause-took

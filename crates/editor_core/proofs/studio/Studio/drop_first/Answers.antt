@@ -1,8 +1,5 @@
 -- The removals and then the syncs.
-use Rattle.std.proofs.Common.{ap, subst, IsSome}
-use Rattle.block_ledger.specs.Counts.{Counts}
-use Rattle.editor_state.specs.Core.{Core}
-use Rattle.editor_core.specs.Core.{core_of}
+use Rattle.editor_core.proofs.Common.{ap, subst, IsSome, Counts, Core, core_of}
 use Rattle.editor_cleanup.specs.Passes.{RemovesFirst}
 use Rattle.editor_cleanup.proofs.RemoveThenSync.{drops_all, drops_fail}
 use Rattle.editor_core.proofs.studio.Studio.drop_first.Goals as goal

@@ -1,19 +1,11 @@
 -- An edit of a range is a step.
-use Rattle.std.proofs.Common.{ℕ, IfErr, arith}
-use Rattle.pcm_base.proofs.Exits.{after_err}
-use Rattle.pcm_base.specs.{declared.answer.Reply.TheVariants.Done, declared.command.Call.TheVariants.Line}
+use Rattle.editor_core.proofs.Common.{ℕ, IfErr, arith, after_err, Done, Line, Nothing, brought, brought_by, IsUndamaged}
+use Rattle.editor_core.proofs.Common.{current_tracks, core_of, range_edit, Took, quietly, silent, as_reply, with_sound}
+use Rattle.editor_core.proofs.Common.{track_edit, track_refused, track_stopped, track_next, track_planned}
+use Rattle.editor_core.proofs.Common.{no_plan_tells, known_took, planned_any}
 use Rattle.pcm_base.specs.{Shape.range_line}
-use Rattle.block_writer.specs.{declared.given.Given.TheVariants.Nothing, Bringing.brought, Bringing.brought_by}
-use Rattle.envelope_view.specs.Answers.{IsUndamaged}
-use Rattle.record_body.specs.Saved.{current_tracks}
-use Rattle.editor_core.specs.Core.{core_of}
-use Rattle.editor_tracks.specs.Ranges.{range_edit}
-use Rattle.editor_state.specs.Took.{Took, quietly, silent, as_reply, with_sound}
-use Rattle.editor_tracks.proofs.TrackSteps.{track_edit, track_refused, track_stopped}
-use Rattle.editor_tracks.proofs.TrackPlans.{track_next, track_planned}
-use Rattle.editor_tracks.proofs.{PlanDamage.no_plan_tells, RangeLaws.range_call}
+use Rattle.editor_tracks.proofs.{RangeLaws.range_call}
 use Rattle.editor_state.proofs.Refusals.DamageTests.{range_tells}
-use Rattle.editor_edits.proofs.KnownSamples.{known_took, planned_any}
 use Rattle.editor_core.proofs.studio.Studio.edit_range.Goals as goal
 
 pub returns-in-Some-clause-took : goal.returns-in-Some-clause-took

@@ -1,22 +1,18 @@
 -- Scanning a track is a step that changes nothing.
-use Rattle.std.proofs.Common.{◌∙◌, sym, ap, subst, Ok, Err}
-use Rattle.std.proofs.lemmas.Result.{err_from_is_err_and}
-use Rattle.pcm_base.proofs.Exits.{exit_err}
-use Rattle.pcm_base.specs.{declared.command.Call.TheVariants.Line, declared.command.Command.TheVariants.Envelope}
-use Rattle.clip_track.specs.Clips.{layout_blocks}
+use Rattle.editor_core.proofs.Common.{◌∙◌, sym, ap, subst, Ok, Err, err_from_is_err_and, exit_err, Line, layout_blocks}
+use Rattle.editor_core.proofs.Common.{core_of, lacks, as_reply, layout_may_read, layout_named, layout_whole, idle_looks}
+use Rattle.editor_core.proofs.Common.{read_looks, reads_among}
+use Rattle.pcm_base.specs.{declared.command.Command.TheVariants.Envelope}
 use Rattle.envelope_view.proofs.AnswerLaws.{counted_of, damaged_of}
-use Rattle.editor_core.specs.Core.{core_of}
-use Rattle.editor_state.specs.{Points.lacks, Reads.Looks, Took.as_reply}
-use Rattle.editor_commits.proofs.CursorTracks.{layout_may_read, layout_named, layout_whole}
-use Rattle.editor_state.proofs.Calls.LookAnswers.{idle_looks, read_looks, unread_looks}
-use Rattle.editor_state.proofs.Blocks.CachePages.{reads_among}
+use Rattle.editor_state.specs.{Reads.Looks}
+use Rattle.editor_state.proofs.Calls.LookAnswers.{unread_looks}
 use Rattle.editor_views.proofs.CellViews.{scan_stopped, scan_lacks, scan_done, scan_failed}
 use Rattle.pcm_base.specs.declared.answer.Reply.TheVariants as reply
 use Rattle.pcm_base.specs.declared.refusal.Refusal.TheVariants as refusal
 use Rattle.editor_core.proofs.studio.Studio.envelope.Goals as goal
 
-pub returns-in-Some : goal.returns-in-Some
-returns-in-Some g c =
+pub returns-in-Some-clause-looks : goal.returns-in-Some-clause-looks
+returns-in-Some-clause-looks g c =
     let s = core_of c.args.self.now in
     let fewer = g.met.S.Store.may_fewer s.store in
     idle_looks g.S.Store s (Line (Envelope c.args.track c.args.from c.args.to c.args.columns)) fewer
@@ -24,8 +20,8 @@ returns-in-Some g c =
     (scan_stopped g.S.Store s c.requires c.args.track c.args.from c.args.to fewer c.args.columns c.in-Some.faults
     c.in-Some.is)
 
-pub returns-in_err-layout : goal.returns-in_err-layout
-returns-in_err-layout g c =
+pub returns-in_err-layout-clause-looks : goal.returns-in_err-layout-clause-looks
+returns-in_err-layout-clause-looks g c =
     let p = err_from_is_err_and c.from_residual.result c.from_residual.ensures.1 in
     let s = core_of c.args.self.now in
     let fewer = g.met.S.Store.may_fewer s.store in
@@ -44,8 +40,8 @@ columns-requires g c =
       named = layout_may_read g.S.Store s c.requires c.args.track c.in_ok-layout.layout.now c.in_ok-layout.ensures;
     }
 
-pub returns-in_err-scans : goal.returns-in_err-scans
-returns-in_err-scans g c =
+pub returns-in_err-scans-clause-looks : goal.returns-in_err-scans-clause-looks
+returns-in_err-scans-clause-looks g c =
     let s = core_of c.args.self.now in
     let fewer = g.met.S.Store.may_fewer s.store in
     let call = Line (Envelope c.args.track c.args.from c.args.to c.args.columns) in
@@ -66,8 +62,8 @@ returns-in_err-scans g c =
     (λ told. damaged_of (g.S.Store.reads s.store) (layout_blocks layout) why
     (c.in_err-scans.ensures.reads.damaged told))))
 
-pub returns : goal.returns
-returns g c =
+pub returns-clause-looks : goal.returns-clause-looks
+returns-clause-looks g c =
     let s = core_of c.args.self.now in
     let fewer = g.met.S.Store.may_fewer s.store in
     let call = Line (Envelope c.args.track c.args.from c.args.to c.args.columns) in

@@ -1,6 +1,5 @@
 -- What is counted as named is what is named.
-use Rattle.std.proofs.Common.{refl}
-use Rattle.editor_core.specs.Core.{core_of}
+use Rattle.editor_core.proofs.Common.{refl, core_of}
 use Rattle.editor_core.proofs.CountedBlocks.{blocks_are, are_named}
 use Rattle.editor_core.proofs.studio.Studio.facts.Goals as goal
 

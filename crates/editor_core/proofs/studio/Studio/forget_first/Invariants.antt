@@ -1,6 +1,5 @@
 -- The blocks so far.
-use Rattle.std.proofs.Common.{◌≡◌, ℕ, List, length}
-use Rattle.editor_core.specs.Core.{core_of}
+use Rattle.editor_core.proofs.Common.{◌≡◌, ℕ, List, length, core_of}
 use Rattle.editor_cleanup.proofs.ForgetPass.{Forgetting}
 use Rattle.editor_core.proofs.studio.Studio.forget_first.Given as goal
 

@@ -1,14 +1,11 @@
 -- A sound is found, and its channels are added.
-use Rattle.std.proofs.Common.{◌≡◌, ◌⊎◌, ◌<◌, sym, subst, inl, inr, ℕ, List, Option, Some, None, Err, IsTrue, arith}
+use Rattle.editor_core.proofs.Common.{◌≡◌, ◌⊎◌, ◌<◌, sym, subst, inl, inr, ℕ, List, Option, Some, None, Err, IsTrue}
+use Rattle.editor_core.proofs.Common.{arith, after_err, Line, Brought, MayBring, brought_from, Took, as_reply}
+use Rattle.editor_core.proofs.Common.{with_sound, Lasts, IfCutShort, left_as, IsHeld, IsStudio, core_of, lasts_idle}
 use Rattle.std.specs.Prelude.{IfErr, IfOk}
-use Rattle.pcm_base.proofs.Exits.{after_err}
-use Rattle.pcm_base.specs.{declared.command.Call.TheVariants.Line, declared.wav.WavFault.TheVariants.Truncated}
-use Rattle.block_writer.specs.Brought.{Brought, MayBring}
-use Rattle.sound_import.specs.{Imported.import_refusal, Reading.brought_from}
-use Rattle.editor_state.specs.Took.{Took, as_reply, with_sound}
-use Rattle.editor_state.specs.{Applied.Lasts, Vaults.IsCutShort, Vaults.left_as, Studios.IsHeld, Studios.IsStudio}
-use Rattle.editor_core.specs.Core.{core_of}
-use Rattle.editor_state.proofs.Calls.VaultCalls.{lasts_idle}
+use Rattle.pcm_base.specs.{declared.wav.WavFault.TheVariants.Truncated}
+use Rattle.sound_import.specs.{Imported.import_refusal}
+use Rattle.editor_state.specs.{Vaults.IsCutShort}
 use Rattle.editor_imports.proofs.ShortSounds.{did_err, did_ok, known_did}
 use Rattle.editor_imports.proofs.HeadChannels.{all_told, bytes_have, told_has}
 use Rattle.editor_imports.proofs.ImportRefusals.{import_plain, import_refused, import_stopped, inside_short, told_cut}
@@ -16,6 +13,8 @@ use Rattle.editor_imports.proofs.ImportRefusals.{told_short}
 use Rattle.pcm_base.specs.declared.answer.Reply.TheVariants as reply
 use Rattle.pcm_base.specs.declared.command.Command.TheVariants as command
 use Rattle.pcm_base.specs.declared.refusal.Refusal.TheVariants as refusal
+use Rattle.editor_core.proofs.studio.Studio.import.Given.{Over}
+use Rattle.editor_core.proofs.studio.Studio.import.Goals.{After-add_channels}
 use Rattle.editor_core.proofs.studio.Studio.import.Goals as goal
 
 -- ---- the studio had stopped
@@ -102,6 +101,35 @@ returns-in_err-head-clause-short g c = λ want have.
 
 -- ---- its channels are added
 
+-- the vault of the search is that of before
+same_sound : (g : Over) (c : After-add_channels g)
+    → brought_from (g.V.Vault.tells c.find.new.vault) (g.V.Vault.holds c.find.new.vault) c.args.name.now
+    c.in_ok-head.head ≡ brought_from (g.V.Vault.tells c.args.vault.now) (g.V.Vault.holds c.args.vault.now)
+    c.args.name.now c.in_ok-head.head
+same_sound g c = λ i. brought_from (c.find.ensures.tells i) (c.find.ensures.held i) c.args.name.now c.in_ok-head.head
+
+-- a sound that it may hold is imported, or it is cut short
+imported : (g : Over) (c : After-add_channels g) → IfCutShort c.add_channels.result ⊎ ((bytes : List ℕ)
+    × Took g.S.Store (core_of c.args.self.now) (with_sound (Line (command.Import c.args.name.now))
+    (left_as (Some bytes)) (as_reply (λ (n : ℕ). reply.Done) c.add_channels.result)) (core_of c.add_channels.new.self))
+imported g c =
+    let s = core_of c.args.self.now in
+    let name = c.args.name.now in
+    let head = c.in_ok-head.ensures in
+    let by = c.add_channels.ensures.took in
+    let bytes = bytes_have (g.V.Vault.tells c.args.vault.now) (g.V.Vault.holds c.args.vault.now) name c.in_ok-head.head
+    s.rate head.found head.rate head.shape head.some (omega arith) by.0
+    (subst (λ (d : Brought). MayBring d by.0) (same_sound g c) by.1) in elim (by.2 (Some bytes.0) bytes.1) [
+      | inl cut ↦ inl cut
+      | inr took ↦ inr (
+        bytes.0,
+        subst (λ (m : ℕ). Took g.S.Store (record s { block_size = m })
+            (with_sound (Line (command.Import name)) (left_as (Some bytes.0))
+            (as_reply (λ (n : ℕ). reply.Done) c.add_channels.result)) (core_of c.add_channels.new.self))
+            c.find.ensures.same took,
+      )
+    ]
+
 pub add_channels-requires-clause-studio : goal.add_channels-requires-clause-studio
 add_channels-requires-clause-studio g c =
     let s = core_of c.args.self.now in
@@ -118,8 +146,7 @@ returns-clause-took g c = λ told.
     let rate = c.in_ok-head.ensures.rate in
     let by = c.add_channels.ensures.took in
     let b = brought_from (g.V.Vault.tells c.find.new.vault) (g.V.Vault.holds c.find.new.vault) name head in
-    let same : b ≡ brought_from (g.V.Vault.tells old) (g.V.Vault.holds old) name head = λ i.
-    brought_from (c.find.ensures.tells i) (c.find.ensures.held i) name head in
+    let same = same_sound g (goal.at.returns-clause-took g c).After-add_channels in
     let may = subst (λ (d : Brought). MayBring d by.0) same by.1 in
     subst (λ (m : ℕ). Took g.S.Store (record s { block_size = m })
     (with_sound (Line (command.Import name)) (left_as sound)
@@ -140,50 +167,13 @@ returns-clause-lasts g c = λ sound.
 
 pub returns-clause-some : goal.returns-clause-some
 returns-clause-some g c =
-    let s = core_of c.args.self.now in
-    let name = c.args.name.now in
-    let old = c.args.vault.now in
-    let head = c.in_ok-head.head in
-    let by = c.add_channels.ensures.took in
-    let same : brought_from (g.V.Vault.tells c.find.new.vault) (g.V.Vault.holds c.find.new.vault) name head
-    ≡ brought_from (g.V.Vault.tells old) (g.V.Vault.holds old) name head = λ i.
-    brought_from (c.find.ensures.tells i) (c.find.ensures.held i) name head in
-    let bytes = bytes_have (g.V.Vault.tells old) (g.V.Vault.holds old) name head s.rate
-    c.in_ok-head.ensures.found c.in_ok-head.ensures.rate c.in_ok-head.ensures.shape c.in_ok-head.ensures.some
-    (omega arith) by.0 (subst (λ (d : Brought). MayBring d by.0) same by.1) in
-    did_ok c.add_channels.result (elim (by.2 (Some bytes.0) bytes.1) [
-      | inl cut ↦ inl cut
-      | inr took ↦ inr (
-        bytes.0,
-        subst (λ (m : ℕ). Took g.S.Store (record s { block_size = m })
-            (with_sound (Line (command.Import name)) (left_as (Some bytes.0))
-            (as_reply (λ (n : ℕ). reply.Done) c.add_channels.result)) (core_of c.add_channels.new.self))
-            c.find.ensures.same took,
-      )
-    ])
+    did_ok c.add_channels.result (imported g (goal.at.returns-clause-some g c).After-add_channels)
 
 pub returns-clause-reason : goal.returns-clause-reason
 returns-clause-reason g c =
-    let s = core_of c.args.self.now in
-    let name = c.args.name.now in
-    let old = c.args.vault.now in
-    let head = c.in_ok-head.head in
-    let by = c.add_channels.ensures.took in
-    let same : brought_from (g.V.Vault.tells c.find.new.vault) (g.V.Vault.holds c.find.new.vault) name head
-    ≡ brought_from (g.V.Vault.tells old) (g.V.Vault.holds old) name head = λ i.
-    brought_from (c.find.ensures.tells i) (c.find.ensures.held i) name head in
-    let bytes = bytes_have (g.V.Vault.tells old) (g.V.Vault.holds old) name head s.rate
-    c.in_ok-head.ensures.found c.in_ok-head.ensures.rate c.in_ok-head.ensures.shape c.in_ok-head.ensures.some
-    (omega arith) by.0 (subst (λ (d : Brought). MayBring d by.0) same by.1) in
-    did_err c.add_channels.result (elim (by.2 (Some bytes.0) bytes.1) [
+    did_err c.add_channels.result (elim (imported g (goal.at.returns-clause-reason g c).After-add_channels) [
       | inl cut ↦ inl cut
-      | inr took ↦ inr (
-        Some bytes.0,
-        subst (λ (m : ℕ). Took g.S.Store (record s { block_size = m })
-            (with_sound (Line (command.Import name)) (left_as (Some bytes.0))
-            (as_reply (λ (n : ℕ). reply.Done) c.add_channels.result)) (core_of c.add_channels.new.self))
-            c.find.ensures.same took,
-      )
+      | inr some ↦ inr (Some some.0, some.1)
     ])
 
 pub returns-clause-short : goal.returns-clause-short

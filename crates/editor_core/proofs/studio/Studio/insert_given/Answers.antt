@@ -1,17 +1,10 @@
 -- Samples that a command brings, put in, are a step.
-use Rattle.std.proofs.Common.{sym, refl, subst, ℕ, IfErr}
-use Rattle.pcm_base.proofs.Exits.{after_err, exit_err}
-use Rattle.pcm_base.specs.declared.answer.Reply.TheVariants.{Done}
-use Rattle.block_writer.specs.Bringing.{brought, brought_by, brought_count}
-use Rattle.envelope_view.specs.Answers.{IsUndamaged}
-use Rattle.record_body.specs.Saved.{current_tracks}
-use Rattle.editor_core.specs.Core.{core_of}
-use Rattle.editor_state.specs.{Edits.IsStill, Took.Took, Took.as_reply, Took.with_sound}
-use Rattle.editor_tracks.specs.{Inserts.place_edit, TrackEdits.IsTrackPlan, TrackEdits.NoTrackPlan}
-use Rattle.editor_tracks.proofs.TrackSteps.{track_edit, track_refused, track_stopped}
-use Rattle.editor_tracks.proofs.TrackPlans.{track_next, track_planned}
-use Rattle.editor_tracks.proofs.{InsertLaws.place_tells, PlanDamage.no_plan_tells}
-use Rattle.editor_edits.proofs.KnownSamples.{known_took, planned_any}
+use Rattle.editor_core.proofs.Common.{sym, refl, subst, ℕ, IfErr, after_err, exit_err, Done, brought, brought_by}
+use Rattle.editor_core.proofs.Common.{brought_count, IsUndamaged, current_tracks, core_of, IsStill, Took, as_reply}
+use Rattle.editor_core.proofs.Common.{with_sound, place_edit, NoTrackPlan, track_edit, track_refused, track_stopped}
+use Rattle.editor_core.proofs.Common.{track_next, track_planned, no_plan_tells, known_took, planned_any}
+use Rattle.editor_tracks.specs.{TrackEdits.IsTrackPlan}
+use Rattle.editor_tracks.proofs.{InsertLaws.place_tells}
 use Rattle.editor_core.proofs.studio.Studio.insert_given.Goals as goal
 
 pub returns-in-Some-clause-took : goal.returns-in-Some-clause-took

@@ -1,5 +1,5 @@
 -- The parts of a studio are within the bounds of the model.
-use Rattle.editor_core.specs.Core.{core_of}
+use Rattle.editor_core.proofs.Common.{core_of}
 use Rattle.editor_state.proofs.Images.ModelBounds.{bounded}
 use Rattle.editor_core.proofs.studio.Studio.is_bounded.Goals as goal
 

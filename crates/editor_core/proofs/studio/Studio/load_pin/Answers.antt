@@ -1,25 +1,28 @@
 -- A pin is loaded as it was pinned, in a step that changes nothing.
-use Rattle.std.proofs.Common.{◌∙◌, sym, ap, subst, List, Some, Err, arith}
-use Rattle.std.proofs.lemmas.Result.{err_from_is_err_and}
-use Rattle.pcm_base.specs.{declared.command.Call.TheVariants.LoadPin, declared.refusal.Refusal.Refusal}
-use Rattle.sample_block.specs.Sources.{sources_of}
-use Rattle.project_state.specs.Meaning.{meant, point_blocks}
+use Rattle.editor_core.proofs.Common.{◌≡◌, ◌∙◌, refl, sym, ap, subst, ℕ, List, Some, Err, arith, true≢false, IsOk}
+use Rattle.editor_core.proofs.Common.{err_from_is_err_and, LoadPin, Refusal, sources_of, meant, core_of, Pin, IsHeld}
+use Rattle.editor_core.proofs.Common.{LacksPin, MayFind, pin_may_read, pin_whole, idle_looks, read_looks}
 use Rattle.mixdown.specs.{declared.loaded.Loaded.Loaded, Loads.Shows, Loads.tracks_in}
 use Rattle.mix_reader.specs.declared.loads.LoadFault.{LoadFault}
-use Rattle.editor_core.specs.Core.{core_of}
-use Rattle.editor_state.specs.{declared.pin.Pin.Pin, Studios.IsHeld}
-use Rattle.editor_views.specs.{Loads.Ask, Loads.Loads, Pins.LacksPin, Pins.MayFind}
+use Rattle.mix_reader.specs.declared.loads.LoadFault.TheVariants.{Block, NoMemory}
+use Rattle.mix_reader.specs.Heard.{disk_part, refusal_of}
+use Rattle.editor_views.specs.{Loads.Ask, Loads.Loads}
 use Rattle.mix_reader.proofs.HeardLaws.{no_frame}
 use Rattle.editor_views.proofs.PinLoads.{load_done, load_lacks, load_looks, load_stopped, load_wanting, loaded_many}
-use Rattle.editor_views.proofs.UnpinSteps.{pin_may_read, pin_named, pin_whole}
-use Rattle.editor_state.proofs.Calls.LookAnswers.{idle_looks, read_looks}
-use Rattle.editor_state.proofs.Blocks.CachePages.{reads_among}
 use Rattle.pcm_base.specs.declared.answer.Reply.TheVariants as reply
 use Rattle.pcm_base.specs.declared.refusal.Refusal.TheVariants as refusal
+use Rattle.editor_core.proofs.KeptPages.{of_pin}
+use Rattle.editor_core.proofs.studio.Studio.load_pin.Given.{Over}
+use Rattle.editor_core.proofs.studio.Studio.load_pin.Goals.{In_ok-point}
 use Rattle.editor_core.proofs.studio.Studio.load_pin.Goals as goal
 
-pub returns-in-Some : goal.returns-in-Some
-returns-in-Some g c =
+-- the pin's project
+found : (g : Over) (c : In_ok-point g) → MayFind c.args.self.now.pins.items c.args.pin (Some c.in_ok-point.point.now)
+found g c = subst (λ (ps : List Pin). MayFind ps c.args.pin (Some c.in_ok-point.point.now)) c.deref.ensures.value
+    c.in_ok-point.ensures
+
+pub returns-in-Some-clause-loads : goal.returns-in-Some-clause-loads
+returns-in-Some-clause-loads g c =
     let s = core_of c.args.self.now in
     let fewer = g.met.S.Store.may_fewer s.store in
     record {
@@ -32,8 +35,8 @@ returns-in-Some g c =
       wants = tt;
     }
 
-pub returns-in_err-point : goal.returns-in_err-point
-returns-in_err-point g c =
+pub returns-in_err-point-clause-loads : goal.returns-in_err-point-clause-loads
+returns-in_err-point-clause-loads g c =
     let p = err_from_is_err_and c.from_residual.result c.from_residual.ensures.1 in
     let s = core_of c.args.self.now in
     let fewer = g.met.S.Store.may_fewer s.store in
@@ -50,23 +53,19 @@ returns-in_err-point g c =
 
 pub load_stretch-requires-clause-named : goal.load_stretch-requires-clause-named
 load_stretch-requires-clause-named g c =
-    let s = core_of c.args.self.now in
-    let point = c.in_ok-point.point.now in
-    pin_may_read g.S.Store s c.requires.studio c.args.pin point
-    (subst (λ (ps : List Pin). MayFind ps c.args.pin (Some point)) c.deref.ensures.value c.in_ok-point.ensures)
+    pin_may_read g.S.Store (core_of c.args.self.now) c.requires.studio c.args.pin c.in_ok-point.point.now
+    (found g (goal.at.load_stretch-requires-clause-named g c).In_ok-point)
 
-pub returns-in-Ok : goal.returns-in-Ok
-returns-in-Ok g c =
+pub returns-in-Ok-clause-loads : goal.returns-in-Ok-clause-loads
+returns-in-Ok-clause-loads g c =
     let s = core_of c.args.self.now in
     let fewer = g.met.S.Store.may_fewer s.store in
     let point = c.in_ok-point.point.now in
-    let found =
-    subst (λ (ps : List Pin). MayFind ps c.args.pin (Some point)) c.deref.ensures.value c.in_ok-point.ensures in
+    let found = found g (goal.at.returns-in-Ok-clause-loads g c).In_ok-point in
     let cache = c.load_stretch.new.reader.cache in
     let store = c.load_stretch.new.reader.store in
     let loaded : Loaded = c.load_stretch.new.loaded in
-    let keeps = reads_among g.S.Store s (point_blocks point) cache
-    (pin_named g.S.Store s c.requires.studio c.args.pin point found) c.in-Ok.ensures.reads.cache in
+    let keeps = of_pin g.S.Store s c.requires.studio cache point c.args.pin found c.in-Ok.ensures.reads.cache in
     let src = sources_of (g.S.Store.reads s.store) in
     let shows : IsHeld g.S.Store s → Shows c.args.from (meant src point) loaded = λ held.
     c.in-Ok.ensures.read held.tells (pin_whole g.S.Store s c.requires.studio c.args.pin point found held) in
@@ -96,19 +95,17 @@ returns-in-Ok g c =
           found store c.in-Ok.ensures.reads.kept cache keeps c.in-Ok.ensures.reads.faults;
     }
 
-pub returns-in-Err : goal.returns-in-Err
-returns-in-Err g c =
+pub returns-in-Err-clause-loads : goal.returns-in-Err-clause-loads
+returns-in-Err-clause-loads g c =
     let s = core_of c.args.self.now in
     let fewer = g.met.S.Store.may_fewer s.store in
     let ask : Ask = record { pin = c.args.pin; from = c.args.from; most = c.args.n } in
     let point = c.in_ok-point.point.now in
-    let found =
-    subst (λ (ps : List Pin). MayFind ps c.args.pin (Some point)) c.deref.ensures.value c.in_ok-point.ensures in
+    let found = found g (goal.at.returns-in-Err-clause-loads g c).In_ok-point in
     let cache = c.load_stretch.new.reader.cache in
     let store = c.load_stretch.new.reader.store in
     let loaded : Loaded = c.load_stretch.new.loaded in
-    let keeps = reads_among g.S.Store s (point_blocks point) cache
-    (pin_named g.S.Store s c.requires.studio c.args.pin point found) c.in-Err.ensures.reads.cache in
+    let keeps = of_pin g.S.Store s c.requires.studio cache point c.args.pin found c.in-Err.ensures.reads.cache in
     let why : LoadFault = c.in-Err.fault in
     subst (λ (z : Refusal). Loads g.S.Store s ask (Err z) loaded (record s { store = store; cache = cache }))
     (sym c.into.ensures) record {
@@ -122,3 +119,24 @@ returns-in-Err g c =
       has = tt;
       wants = tt;
     }
+
+-- what is wanted where it is not the disk that refuses
+unread : (why : LoadFault) → IsOk (disk_part {T = ℕ} (Err why)) → refusal_of why ≡ refusal.NoMemory
+unread NoMemory is = refl
+unread (Block fault) is = absurd (true≢false (sym is))
+
+pub returns-in_err-point-clause-hit : goal.returns-in_err-point-clause-hit
+returns-in_err-point-clause-hit g c = λ going has.
+    absurd (has.there (subst (LacksPin c.args.pin) c.deref.ensures.value c.in_err-point.ensures.1))
+
+pub returns-in-Ok-clause-hit : goal.returns-in-Ok-clause-hit
+returns-in-Ok-clause-hit g c = λ going has.
+    let kept = c.in-Ok.ensures.hit (has.heard c.in_ok-point.point.now
+    (found g (goal.at.returns-in-Ok-clause-hit g c).In_ok-point)) in
+    (tt, kept.1, kept.2)
+
+pub returns-in-Err-clause-hit : goal.returns-in-Err-clause-hit
+returns-in-Err-clause-hit g c = λ going has.
+    let kept = c.in-Err.ensures.hit (has.heard c.in_ok-point.point.now
+    (found g (goal.at.returns-in-Err-clause-hit g c).In_ok-point)) in
+    (c.into.ensures ∙ unread c.in-Err.fault kept.0, kept.1, kept.2)

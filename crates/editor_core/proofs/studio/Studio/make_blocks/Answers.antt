@@ -1,7 +1,6 @@
 -- All blocks are written, and then they are synced.
-use Rattle.pcm_base.proofs.Exits.{after_err}
-use Rattle.editor_core.specs.Core.{core_of}
-use Rattle.editor_state.specs.{Made.batch_of, Makes.Makes}
+use Rattle.editor_core.proofs.Common.{after_err, core_of, batch_of}
+use Rattle.editor_state.specs.{Makes.Makes}
 use Rattle.editor_blocks.proofs.BlocksWritten.{makes_both}
 use Rattle.editor_core.proofs.studio.Studio.make_blocks.Goals as goal
 

@@ -1,13 +1,9 @@
 -- The lengths of records that come together.
-use Rattle.std.proofs.Common.{◌≡◌, inl, inr, ◌⊎◌, sym, subst, ℕ, IfErr}
-use Rattle.pcm_base.proofs.Exits.{after_err}
-use Rattle.pcm_base.specs.declared.refusal.Refusal.{Refusal}
-use Rattle.record_body.specs.{declared.body.Body.Body, Saved.current_tracks, Numbers.BodyAgrees}
-use Rattle.record_body.proofs.Agreeing.{again_agrees}
+use Rattle.editor_core.proofs.Common.{◌≡◌, inl, inr, ◌⊎◌, sym, subst, ℕ, IfErr, after_err, Refusal, Body}
+use Rattle.editor_core.proofs.Common.{current_tracks, BodyAgrees, again_agrees, Writing, all_len, whole_len, writing}
+use Rattle.editor_core.proofs.Common.{core_of, whole_total}
 use Rattle.editor_state.specs.Adding.{Exceeds, ExceedsBy}
-use Rattle.editor_state.specs.Bodies.{Writing, all_len, whole_len, writing}
-use Rattle.editor_core.specs.Core.{core_of}
-use Rattle.editor_commits.proofs.RecordRows.{rows_total, whole_total}
+use Rattle.editor_commits.proofs.RecordRows.{rows_total}
 use Rattle.pcm_base.specs.declared.refusal.Refusal.TheVariants as refusal
 use Rattle.editor_core.proofs.studio.Studio.may_write.Goals as goal
 

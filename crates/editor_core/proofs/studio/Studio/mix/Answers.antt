@@ -1,23 +1,16 @@
 -- Hearing the mix is a step that changes nothing.
-use Rattle.std.proofs.Common.{◌≡◌, ◌∙◌, sym, ap, subst, ◌+◌, ◌-◌, ℕ, IsTrue, List, Err, None, arith, true≢false}
-use Rattle.mix_reader.specs.Heard.{HasHeard}
+use Rattle.editor_core.proofs.Common.{◌≡◌, ◌∙◌, sym, ap, subst, ◌+◌, ◌-◌, ℕ, IsTrue, List, Err, None, arith, true≢false}
+use Rattle.editor_core.proofs.Common.{HasHeard, err_from_is_err_and, after_err, Frames, Line, mix_of, IsFaultIn}
+use Rattle.editor_core.proofs.Common.{sources_of, AllNamed, AllWhole, Track, meant, point_blocks, current_tracks}
+use Rattle.editor_core.proofs.Common.{core_of, Sees, IsHeld, current_may_read, current_whole, as_many, idle_sees}
+use Rattle.editor_core.proofs.Common.{read_sees, unread_sees, seen}
 use Rattle.pcm_base.specs.Refusals.{bad_view}
-use Rattle.std.proofs.lemmas.Result.{err_from_is_err_and}
-use Rattle.pcm_base.proofs.Exits.{after_err}
-use Rattle.pcm_base.specs.{declared.answer.Reply.TheVariants.Frames, declared.command.Call.TheVariants.Line}
-use Rattle.pcm_base.specs.{declared.command.Command.TheVariants.Mix, Edits.part, Mix.mix_of}
-use Rattle.block_store.specs.Reads.{IsFaultIn}
-use Rattle.sample_block.specs.Sources.{sources_of, AllNamed, AllWhole}
-use Rattle.project_state.specs.{declared.track.Track.Track, Meaning.meant, Meaning.point_blocks}
-use Rattle.record_body.specs.Saved.{current_tracks}
-use Rattle.block_cache.specs.Caches.{KeepsCache}
-use Rattle.editor_core.specs.Core.{core_of}
-use Rattle.editor_state.specs.{Reads.Sees, Studios.IsHeld}
-use Rattle.editor_commits.proofs.CursorTracks.{current_may_read, current_named, current_whole}
-use Rattle.editor_views.proofs.MixViews.{as_many, mix_stopped, mix_beyond, mix_done, mix_failed}
-use Rattle.editor_state.proofs.Calls.LookAnswers.{idle_sees, read_sees, unread_sees, seen}
-use Rattle.editor_state.proofs.Blocks.CachePages.{reads_among}
+use Rattle.pcm_base.specs.{declared.command.Command.TheVariants.Mix, Edits.part}
+use Rattle.editor_views.proofs.MixViews.{mix_stopped, mix_beyond, mix_done, mix_failed}
 use Rattle.pcm_base.specs.declared.refusal.Refusal.TheVariants as refusal
+use Rattle.editor_core.proofs.KeptPages.{of_current}
+use Rattle.editor_core.proofs.studio.Studio.mix.Given.{Over}
+use Rattle.editor_core.proofs.studio.Studio.mix.Goals.{After-read_mix}
 use Rattle.editor_core.proofs.studio.Studio.mix.Goals as goal
 
 -- a view that may be shown ends where it says
@@ -57,10 +50,8 @@ returns-in_err-count-clause-seen g c =
     let call = Line (Mix c.args.from c.args.to) in
     let store = c.read_mix.new.reader.store in
     let cache = c.read_mix.new.reader.cache in
-    let keeps = reads_among g.S.Store s (point_blocks (current_tracks s.history)) cache
-    (current_named g.S.Store s c.requires.studio)
-    (subst (λ (z : List Track). KeepsCache (g.S.Store.tells s.store) (g.S.Store.reads s.store) (point_blocks z) s.cache
-    cache) c.current_of-point.ensures c.in_err-count.ensures.reads.cache) in
+    let keeps = of_current g.S.Store s c.requires.studio cache c.current_of-point.result.now c.current_of-point.ensures
+    c.in_err-count.ensures.reads.cache in
     let fault = c.in_err-count.field-0.0 in
     after_err
     (λ r. Sees g.S.Store s (seen call Frames c.read_mix.new.out r) (record s { store = store; cache = cache })) _
@@ -75,23 +66,22 @@ returns-in_err-count-clause-seen g c =
     → IsFaultIn (g.S.Store.reads s.store) (point_blocks z) fault) c.current_of-point.ensures
     c.in_err-count.ensures.reads.damaged)))
 
+-- the frames of the view were heard
+heard : (g : Over) (c : After-read_mix g) → bad_view c.args.from c.args.to ≡ None
+    → HasHeard c.args.self.now.reader.cache c.args.from c.args.to (current_tracks (core_of c.args.self.now).history)
+    → HasHeard c.args.self.now.reader.cache c.args.from (c.args.from + (c.args.to - c.args.from))
+    c.current_of-point.result.now
+heard g c good has = subst (λ (w : ℕ × List Track). HasHeard c.args.self.now.reader.cache c.args.from w.0 w.1)
+    (λ i. (sym (view_end c.args.from c.args.to good) i, sym c.current_of-point.ensures i)) has
+
 pub returns-in_err-count-clause-hit : goal.returns-in_err-count-clause-hit
 returns-in_err-count-clause-hit g c = λ going good has.
-    let cache = c.args.self.now.reader.cache in
-    let end = subst (λ (e : ℕ). HasHeard cache c.args.from e (current_tracks (core_of c.args.self.now).history))
-    (sym (view_end c.args.from c.args.to good)) has in
-    let all = subst (λ (z : List Track). HasHeard cache c.args.from (c.args.from + (c.args.to - c.args.from)) z)
-    (sym c.current_of-point.ensures) end in
-    absurd (true≢false (sym (c.in_err-count.ensures.hit all).0))
+    absurd (true≢false (sym (c.in_err-count.ensures.hit
+    (heard g (goal.at.returns-in_err-count-clause-hit g c).After-read_mix good has)).0))
 
 pub returns-clause-hit : goal.returns-clause-hit
 returns-clause-hit g c = λ going good has.
-    let cache = c.args.self.now.reader.cache in
-    let end = subst (λ (e : ℕ). HasHeard cache c.args.from e (current_tracks (core_of c.args.self.now).history))
-    (sym (view_end c.args.from c.args.to good)) has in
-    let all = subst (λ (z : List Track). HasHeard cache c.args.from (c.args.from + (c.args.to - c.args.from)) z)
-    (sym c.current_of-point.ensures) end in
-    c.in_ok-count.ensures.hit all
+    c.in_ok-count.ensures.hit (heard g (goal.at.returns-clause-hit g c).After-read_mix good has)
 
 pub returns-clause-seen : goal.returns-clause-seen
 returns-clause-seen g c =
@@ -100,10 +90,8 @@ returns-clause-seen g c =
     let call = Line (Mix c.args.from c.args.to) in
     let store = c.read_mix.new.reader.store in
     let cache = c.read_mix.new.reader.cache in
-    let keeps = reads_among g.S.Store s (point_blocks (current_tracks s.history)) cache
-    (current_named g.S.Store s c.requires.studio)
-    (subst (λ (z : List Track). KeepsCache (g.S.Store.tells s.store) (g.S.Store.reads s.store) (point_blocks z) s.cache
-    cache) c.current_of-point.ensures c.in_ok-count.ensures.reads.cache) in
+    let keeps = of_current g.S.Store s c.requires.studio cache c.current_of-point.result.now c.current_of-point.ensures
+    c.in_ok-count.ensures.reads.cache in
     let files = g.S.Store.reads s.store in
     let n = c.in_ok-count.count in
     let whole : IsHeld g.S.Store s → AllWhole files (point_blocks c.current_of-point.result.now) =

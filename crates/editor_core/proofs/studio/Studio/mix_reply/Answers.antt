@@ -1,11 +1,6 @@
 -- What was seen is the answer, and without memory nothing is.
-use Rattle.std.proofs.Common.{◌∙◌, refl, sym, ap, subst, List, length, Ok, arith}
-use Rattle.pcm_base.proofs.Exits.{after_err}
-use Rattle.pcm_base.specs.{declared.command.Call.TheVariants.Line, declared.sound.Frame.Frame}
-use Rattle.editor_core.specs.Core.{core_of}
-use Rattle.editor_state.specs.Took.{Took, quietly, silent}
-use Rattle.editor_state.proofs.Refusals.EarlyRefusals.{wants}
-use Rattle.editor_views.proofs.BufferFronts.{view_front}
+use Rattle.editor_core.proofs.Common.{◌∙◌, refl, sym, ap, subst, List, length, Ok, arith, after_err, Line, Frame}
+use Rattle.editor_core.proofs.Common.{core_of, Took, quietly, silent, wants, view_front}
 use Rattle.pcm_base.specs.declared.answer.Reply.TheVariants as reply
 use Rattle.pcm_base.specs.declared.command.Command.TheVariants as command
 use Rattle.editor_core.proofs.studio.Studio.mix_reply.Goals as goal

@@ -1,15 +1,9 @@
 -- A paste is a step.
-use Rattle.std.proofs.Common.{ℕ, IfErr}
-use Rattle.pcm_base.proofs.Exits.{after_err}
-use Rattle.pcm_base.specs.{declared.answer.Reply.TheVariants.Done, declared.command.Call.TheVariants.Line}
+use Rattle.editor_core.proofs.Common.{ℕ, IfErr, after_err, Done, Line, IsUndamaged, Nothing, brought, brought_by}
+use Rattle.editor_core.proofs.Common.{core_of, Took, quietly, silent, as_reply, with_sound, known_took, planned_any}
 use Rattle.pcm_base.specs.{Shape.paste_line}
-use Rattle.envelope_view.specs.Answers.{IsUndamaged}
-use Rattle.block_writer.specs.{declared.given.Given.TheVariants.Nothing, Bringing.brought, Bringing.brought_by}
-use Rattle.editor_core.specs.Core.{core_of}
-use Rattle.editor_state.specs.Took.{Took, quietly, silent, as_reply, with_sound}
 use Rattle.editor_tracks.proofs.{PasteLaws.no_paste_tells, PasteRefusals.paste_refused, PasteRefusals.paste_stopped}
 use Rattle.editor_tracks.proofs.{PasteSteps.paste_edit, PasteSteps.paste_planned}
-use Rattle.editor_edits.proofs.KnownSamples.{known_took, planned_any}
 use Rattle.editor_core.proofs.studio.Studio.paste_strips.Goals as goal
 
 pub returns-in-Some-clause-took : goal.returns-in-Some-clause-took

@@ -1,9 +1,7 @@
 -- A piece of a recording is a step.
-use Rattle.std.proofs.Common.{refl, sym, subst, ℕ}
-use Rattle.block_writer.specs.Bringing.{brought_count}
+use Rattle.editor_core.proofs.Common.{refl, sym, subst, ℕ, brought_count, place_edit, silent}
 use Rattle.editor_tracks.specs.TrackEdits.{IsTrackCall, track_command}
-use Rattle.editor_tracks.specs.{declared.place.Place.TheVariants.End, Inserts.place_edit}
-use Rattle.editor_state.specs.Took.{silent}
+use Rattle.editor_tracks.specs.{declared.place.Place.TheVariants.End}
 use Rattle.editor_tracks.proofs.InsertLaws.{piece_call}
 use Rattle.pcm_base.specs.declared.command.Call.TheVariants as call
 use Rattle.block_writer.specs.declared.given.Given.TheVariants as given

@@ -1,12 +1,11 @@
 -- Pieces of a recording, or the first of them alone, are a step.
-use Rattle.std.proofs.Common.{◌≡◌, refl, sym, subst, ℕ, ℤ, false, IfErr, IsErr, List, length, take, Result, Ok, Err}
-use Rattle.std.proofs.Common.{arith}
-use Rattle.std.proofs.{lemmas.Bool.true≢false, lemmas.List.length-take, lemmas.List.take_all}
-use Rattle.pcm_base.specs.{declared.answer.Reply.TheVariants.Done, declared.command.Call.TheVariants.Piece}
-use Rattle.pcm_base.specs.{declared.refusal.Refusal.Refusal}
-use Rattle.editor_state.specs.Took.{Took, quietly, as_reply}
-use Rattle.editor_state.specs.{Core.Core, Edits.IsStill, Exchanges.may_begin, Studios.IsHeld}
-use Rattle.editor_core.specs.Core.{core_of}
+use Rattle.editor_core.proofs.Common.{◌≡◌, refl, sym, subst, ℕ, ℤ, false, IfErr, List, length, take, Result, Ok, Err}
+use Rattle.editor_core.proofs.Common.{arith, length-take, take_all, Done, Refusal, Took, quietly, as_reply, Core}
+use Rattle.editor_core.proofs.Common.{IsStill, IsHeld, core_of}
+use Rattle.std.proofs.Common.{IsErr}
+use Rattle.std.proofs.{lemmas.Bool.true≢false}
+use Rattle.pcm_base.specs.{declared.command.Call.TheVariants.Piece}
+use Rattle.editor_state.specs.{Exchanges.may_begin}
 use Rattle.editor_core.proofs.studio.Studio.pieces.Goals as goal
 
 -- what a test refused has left the studio as it was

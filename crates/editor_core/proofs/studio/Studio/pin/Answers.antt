@@ -1,21 +1,14 @@
 -- A pin is a step.
-use Rattle.std.proofs.Common.{◌≡◌, sym, ap, ◌∙◌, subst, ℕ, ◌+◌, ◌-◌, ◌<◌, ◌^◌, List, length, Err, Ok, arith}
-use Rattle.std.proofs.lemmas.Result.{err_from_is_err_and}
+use Rattle.editor_core.proofs.Common.{◌≡◌, sym, ap, ◌∙◌, subst, ℕ, ◌+◌, ◌-◌, ◌<◌, ◌^◌, List, length, Err, Ok, arith}
+use Rattle.editor_core.proofs.Common.{err_from_is_err_and, after_err, count_of, Stored, IsUndamaged, Track}
+use Rattle.editor_core.proofs.Common.{point_blocks, current_tracks, Core, HasIds, Took, quietly, as_reply, core_of}
+use Rattle.editor_core.proofs.Common.{named_there, few_more, Few}
 use Rattle.std.specs.Prelude.{IfErr}
-use Rattle.pcm_base.proofs.Exits.{after_err}
-use Rattle.block_ledger.specs.Entries.{LedgerState, count_of}
-use Rattle.undo_history.specs.Stored.{Stored}
-use Rattle.envelope_view.specs.Answers.{IsUndamaged}
-use Rattle.project_state.specs.{declared.track.Track.Track, Meaning.point_blocks}
-use Rattle.record_body.specs.Saved.{current_tracks}
-use Rattle.editor_state.specs.{Core.Core, Occurrences.HasIds, Took.Took, Took.quietly, Took.as_reply}
-use Rattle.editor_core.specs.Core.{core_of}
+use Rattle.block_ledger.specs.Entries.{LedgerState}
 use Rattle.layout_uses.specs.Tallies.{Comes}
 use Rattle.editor_views.specs.Pins.{AnswersPin}
-use Rattle.editor_state.proofs.Blocks.BlockNumbers.{named_there, few_more}
 use Rattle.editor_commits.proofs.CurrentProject.{current_valid, old_names}
 use Rattle.editor_views.proofs.PinSteps.{pinned, pin_spent, pin_stopped, pin_wanting}
-use Rattle.layout_uses.proofs.Times.{Few}
 use Rattle.pcm_base.specs.declared.answer.Reply.TheVariants as reply
 use Rattle.pcm_base.specs.declared.command.Call.TheVariants as call
 use Rattle.editor_core.proofs.studio.Studio.pin.Goals as goal

@@ -1,13 +1,8 @@
 -- Looking how long a pin is changes nothing.
-use Rattle.std.proofs.Common.{◌∙◌, sym, ap, subst, List, Err, Some}
-use Rattle.std.proofs.lemmas.Result.{err_from_is_err_and}
+use Rattle.editor_core.proofs.Common.{◌∙◌, sym, ap, subst, List, Err, Some, err_from_is_err_and, sources_of}
+use Rattle.editor_core.proofs.Common.{IsUndamaged, IsNoWant, Pin, Took, quietly, as_reply, core_of, LacksPin, MayFind}
 use Rattle.std.specs.Prelude.{IfErr}
 use Rattle.pcm_base.specs.declared.command.Call.TheVariants.{PinLen}
-use Rattle.sample_block.specs.Sources.{sources_of}
-use Rattle.envelope_view.specs.Answers.{IsUndamaged}
-use Rattle.editor_state.specs.{Adding.IsNoWant, declared.pin.Pin.Pin, Took.Took, Took.quietly, Took.as_reply}
-use Rattle.editor_core.specs.Core.{core_of}
-use Rattle.editor_views.specs.Pins.{LacksPin, MayFind}
 use Rattle.editor_views.proofs.MixViews.{len_stopped, len_lacks, measured}
 use Rattle.pcm_base.specs.declared.answer.Reply.TheVariants as reply
 use Rattle.editor_core.proofs.studio.Studio.pin_len.Goals as goal

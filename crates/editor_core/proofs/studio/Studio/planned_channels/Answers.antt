@@ -1,15 +1,12 @@
 -- A track more for each channel.
-use Rattle.std.proofs.Common.{◌≡◌, ◌∙◌, refl, sym, ap, subst, ℕ, ◌+◌, List, length, take, slice_index_or, arith}
-use Rattle.std.proofs.lemmas.List.{length-take, take_all}
-use Rattle.record_body.specs.Saved.{current_tracks}
-use Rattle.editor_core.specs.Core.{core_of}
-use Rattle.edit_ops.specs.declared.types.NewBlock.{NewBlock}
-use Rattle.editor_imports.specs.Imports.{AddsChannel, AreGrown, total_of}
-use Rattle.editor_state.specs.Made.{AllInOrder}
-use Rattle.editor_imports.proofs.ChannelTests.{all_grown, brought_few, channels_pass, grown_below, ids_count}
-use Rattle.editor_imports.proofs.ChannelTests.{number_few, place_left, short_at, take_more}
+use Rattle.editor_core.proofs.Common.{◌≡◌, ◌∙◌, refl, sym, ap, subst, ℕ, ◌+◌, List, length, take, arith, length-take}
+use Rattle.editor_core.proofs.Common.{take_all, current_tracks, core_of, NewBlock, AreGrown, total_of, AllInOrder}
+use Rattle.editor_core.proofs.Common.{channels_pass, current_below}
+use Rattle.std.proofs.Common.{slice_index_or}
+use Rattle.editor_imports.specs.Imports.{AddsChannel}
+use Rattle.editor_imports.proofs.ChannelTests.{all_grown, brought_few, grown_below, ids_count, number_few, place_left}
+use Rattle.editor_imports.proofs.ChannelTests.{short_at, take_more}
 use Rattle.editor_imports.proofs.{SampleOrder.order_more, ProjectGrowth.grown_more, ProjectGrowth.grown_none}
-use Rattle.editor_commits.proofs.CurrentProject.{current_below}
 use Rattle.editor_core.proofs.studio.Studio.planned_channels.Goals as goal
 
 pub channels-init : goal.channels-init

@@ -1,8 +1,5 @@
 -- A track for each channel so far.
-use Rattle.std.proofs.Common.{◌≡◌, ◌+◌, take}
-use Rattle.editor_core.specs.Core.{core_of}
-use Rattle.editor_imports.specs.Imports.{AreGrown}
-use Rattle.editor_state.specs.Made.{AllInOrder}
+use Rattle.editor_core.proofs.Common.{◌≡◌, ◌+◌, take, core_of, AreGrown, AllInOrder}
 use Rattle.editor_core.proofs.studio.Studio.planned_channels.Given as goal
 
 abbrev pub invariant-channels : goal.invariant-channels

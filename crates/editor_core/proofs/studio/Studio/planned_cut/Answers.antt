@@ -1,12 +1,7 @@
 -- The tracks of the run are half full, and each has at most one plan.
-use Rattle.std.proofs.Common.{◌≡◌, ◌∙◌, sym, ap, subst, ℕ, ◌≤◌, length, List, Some}
-use Rattle.clip_track.specs.declared.clips.Clip.{Clip}
-use Rattle.edit_ops.specs.Runs.{AllTracksHalfFull, layouts}
-use Rattle.project_state.specs.Tracks.{track_of}
-use Rattle.record_body.specs.Saved.{current_tracks}
-use Rattle.editor_tracks.specs.Copies.{run_of}
-use Rattle.editor_core.specs.Core.{core_of}
-use Rattle.editor_tracks.proofs.CutLaws.{cuts_few, run_half_full}
+use Rattle.editor_core.proofs.Common.{◌≡◌, ◌∙◌, sym, ap, subst, ℕ, ◌≤◌, length, List, Some, Clip, AllTracksHalfFull}
+use Rattle.editor_core.proofs.Common.{layouts, track_of, current_tracks, run_of, core_of, run_half_full}
+use Rattle.editor_tracks.proofs.CutLaws.{cuts_few}
 use Rattle.pcm_base.specs.Edits.{removed}
 use Rattle.editor_core.proofs.studio.Studio.planned_cut.Goals as goal
 

@@ -1,14 +1,9 @@
 -- Room in memory leaves the current point as it was. The numbers of layouts, or the records, refuse what is to be
 -- prepared.
-use Rattle.std.proofs.Common.{ℕ, inl, inr, ⊎_elim, subst, sym, ◌+◌, IfErr}
-use Rattle.pcm_base.proofs.Exits.{after_err}
-use Rattle.pcm_base.specs.{Counters.record_test, Refusals.◌otherwise◌}
-use Rattle.editor_state.specs.Bodies.{Writing, all_len, whole_len, writing}
-use Rattle.editor_state.specs.{Adding.Undrawn, Edits.NotPrepared, Core.Core}
+use Rattle.editor_core.proofs.Common.{ℕ, inl, inr, ⊎_elim, subst, sym, ◌+◌, IfErr, after_err, record_test, ◌otherwise◌}
+use Rattle.editor_core.proofs.Common.{Writing, all_len, whole_len, writing, Undrawn, NotPrepared, Core, current_tracks}
+use Rattle.editor_core.proofs.Common.{BodyAgrees, AgreeById, core_of}
 use Rattle.editor_state.proofs.Refusals.CommitTests.{outgrows}
-use Rattle.record_body.specs.{Saved.current_tracks, Numbers.BodyAgrees}
-use Rattle.project_state.specs.Numbers.{AgreeById}
-use Rattle.editor_core.specs.Core.{core_of}
 use Rattle.editor_core.proofs.studio.Studio.prepare.Goals as goal
 
 pub write_records-requires-clause-numbers : goal.write_records-requires-clause-numbers

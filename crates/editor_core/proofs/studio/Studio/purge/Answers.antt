@@ -1,90 +1,70 @@
 -- A purge is a step.
-use Rattle.std.proofs.Common.{◌≡◌, ◌∙◌, refl, sym, ap, subst, ℕ, ◌≤◌, [], ◌∷◌, length, Err, arith, Some, IfErr, IfOk}
-use Rattle.std.proofs.Common.{List, nat_lt, nat_le, ◌&&◌, not}
-use Rattle.pcm_base.proofs.Exits.{after_err}
-use Rattle.pcm_base.specs.{declared.answer.Reply.TheVariants.Done, declared.command.Call.TheVariants.Line}
-use Rattle.pcm_base.specs.{declared.refusal.Refusal.Refusal, declared.refusal.Refusal.TheVariants.BadRange}
-use Rattle.pcm_base.specs.{History.History, History.purged, Refusals.bad_range}
-use Rattle.block_ledger.specs.Entries.{count_of}
-use Rattle.envelope_view.specs.Answers.{IsUndamaged}
-use Rattle.record_body.specs.{declared.body.Body.TheVariants.Purge, Spelling.spelling}
-use Rattle.project_state.specs.declared.track.Track.{Track}
-use Rattle.editor_state.specs.Took.{Took, quietly, silent, as_reply}
-use Rattle.editor_state.specs.{Adding.Adds, Adding.IsNoWant, Bodies.single, Core.Core}
-use Rattle.editor_core.specs.Core.{core_of}
-use Rattle.layout_uses.specs.{Layouts.history_tracks, Tallies.Becomes, Tallies.MayBecome}
-use Rattle.editor_commits.proofs.MoveSteps.{purge_call, purges, moves, may_purge, purged_counts, tested_out, no_want}
-use Rattle.editor_commits.proofs.MoveSteps.{added_range, other_reason, own_range}
-use Rattle.editor_commits.proofs.{CommitFailures.fails, HistoryMoves.in_range, HistoryMoves.purged_by}
-use Rattle.editor_state.proofs.Refusals.DamageTests.{TellsNone, range_tells, undamaged_test}
-use Rattle.editor_state.proofs.{Refusals.EarlyRefusals.none_made, Blocks.CachePages.pages_of_blocks}
+use Rattle.editor_core.proofs.Common.{◌≡◌, ◌∙◌, refl, sym, ap, subst, ◌≤◌, [], ◌∷◌, length, Err, arith, Some, IfErr}
+use Rattle.editor_core.proofs.Common.{List, after_err, Line, Refusal, BadRange, History, count_of, spelling, Track}
+use Rattle.editor_core.proofs.Common.{silent, Adds, single, Core, core_of, history_tracks, Becomes, MayBecome, fails}
+use Rattle.editor_core.proofs.Common.{none_made, pages_of_blocks}
+use Rattle.std.proofs.Common.{nat_lt, nat_le, ◌&&◌, not}
+use Rattle.pcm_base.specs.{History.purged, Refusals.bad_range}
+use Rattle.record_body.specs.{declared.body.Body.TheVariants.Purge}
+use Rattle.editor_commits.proofs.MoveSteps.{purge_call, purges, moves, may_purge, purged_counts, added_range, own_range}
+use Rattle.editor_commits.proofs.{HistoryMoves.in_range, HistoryMoves.purged_by}
 use Rattle.pcm_base.specs.declared.command.Command.TheVariants as command
+use Rattle.editor_core.proofs.MoveAnswers.{IsMove, refused, unadded}
+use Rattle.editor_core.proofs.studio.Studio.purge.Given.{Over}
 use Rattle.editor_core.proofs.studio.Studio.purge.Goals as goal
 
-pub returns-in_err-may_commit-clause-took : goal.returns-in_err-may_commit-clause-took
-returns-in_err-may_commit-clause-took g c =
+-- a test refused it
+early : (g : Over) (c : goal.After-from_residual g) → IsMove g.S.Store (core_of c.args.self.now)
+    (Line (command.Purge c.args.count)) c.from_residual.result (core_of c.args.self.now)
+early g c =
     let s = core_of c.args.self.now in
-    after_err (λ r. Took g.S.Store s (quietly (Line (command.Purge c.args.count)) (as_reply (λ (n : ℕ). Done) r)) s) _
-    c.from_residual.result c.from_residual.ensures.1
-    (tested_out g.S.Store s (Line (command.Purge c.args.count)) 0 9 c.purge_refusal.result c.in_err-may_commit.field-0.0
-    c.requires (g.met.S.Store.may_fewer s.store) (purge_call c.args.count)
-    (omega arith) (λ held. (refl, refl)) c.purge_refusal.ensures.value c.in_err-may_commit.ensures)
+    let n = c.args.count in
+    refused g.S.Store s c.requires (g.met.S.Store.may_fewer s.store) (Line (command.Purge n)) 9
+    (not (nat_lt 0 n && nat_le n s.history.cursor)) BadRange c.purge_refusal.result c.in_err-may_commit.field-0.0 tt tt
+    (purge_call n) (omega arith) (λ held. (refl, refl)) c.purge_refusal.ensures.value c.purge_refusal.ensures.value
+    c.in_err-may_commit.ensures c.from_residual.result c.from_residual.ensures.1
+
+-- its record was not added
+late : (g : Over) (c : goal.After-from_residual-in_err-commit_small g) → IsMove g.S.Store (core_of c.args.self.now)
+    (Line (command.Purge c.args.count)) c.from_residual-in_err-commit_small.result (core_of c.commit_small.new.self)
+late g c =
+    let s = core_of c.args.self.now in
+    let mid = core_of c.commit_small.new.self in
+    let may = c.in_ok-may_commit.ensures in
+    let why = c.in_err-commit_small.field-0.0 in
+    let own = sym (c.purge_refusal.ensures.value) ∙ may.1 in
+    let some = in_range c.args.count s.history.cursor own in
+    let adds = subst (λ b. Adds g.S.Store s (b ∷ []) 1 (length b) (Err why) mid) c.purge_body.ensures
+    c.in_err-commit_small.ensures.record in
+    unadded g.S.Store s mid (Line (command.Purge c.args.count)) why c.from_residual-in_err-commit_small.result
+    c.from_residual-in_err-commit_small.ensures.1
+    (fails g.S.Store s [] (Line (command.Purge c.args.count)) silent 0 (single (Purge c.args.count))
+    (purged s.history c.args.count) s.clipboard s.next_track c.requires (none_made g.S.Store s)
+    (purges g.S.Store s c.requires c.args.count some.0 some.1 c.ranges.count.fits) may.0 own may.2
+    (omega (arith, may.3)) (omega (arith, c.requires.layouts)) why mid (g.met.S.Store.may_fewer s.store) adds)
+    c.in_err-commit_small.ensures.memory c.in_err-commit_small.ensures.undamaged
+
+pub returns-in_err-may_commit-clause-took : goal.returns-in_err-may_commit-clause-took
+returns-in_err-may_commit-clause-took g c = (early g c).took
 
 pub returns-in_err-may_commit-clause-number : goal.returns-in_err-may_commit-clause-number
-returns-in_err-may_commit-clause-number g c =
-    after_err (λ r. IfOk r (λ (n : ℕ). n ≡ c.args.self.now.commit_number)) _ c.from_residual.result
-    c.from_residual.ensures.1 tt
+returns-in_err-may_commit-clause-number g c = (early g c).number
 
 pub returns-in_err-may_commit-clause-memory : goal.returns-in_err-may_commit-clause-memory
-returns-in_err-may_commit-clause-memory g c =
-    let s = core_of c.args.self.now in
-    let why = c.in_err-may_commit.field-0.0 in
-    let reason : (r : Refusal) → c.purge_refusal.result ≡ Some r → IsNoWant r =
-    λ r e. other_reason (not (nat_lt 0 c.args.count && nat_le c.args.count s.history.cursor)) BadRange tt r
-    (sym (c.purge_refusal.ensures.value) ∙ e) in
-    let is : IsNoWant why = no_want s.stopped c.purge_refusal.result s.next_track 0 s.commit_number why reason
-    c.in_err-may_commit.ensures in
-    after_err (λ r. IfErr r IsNoWant) _ c.from_residual.result c.from_residual.ensures.1 is
+returns-in_err-may_commit-clause-memory g c = (early g c).memory
 
 pub returns-in_err-may_commit-clause-undamaged : goal.returns-in_err-may_commit-clause-undamaged
-returns-in_err-may_commit-clause-undamaged g c =
-    let s = core_of c.args.self.now in
-    let why = c.in_err-may_commit.field-0.0 in
-    let own : TellsNone c.purge_refusal.result =
-    subst TellsNone (sym (c.purge_refusal.ensures.value)) (range_tells 0 c.args.count s.history.cursor) in
-    let is : IsUndamaged why = undamaged_test s.stopped c.purge_refusal.result s.next_track 0 s.commit_number why own
-    c.in_err-may_commit.ensures in
-    after_err (λ r. IfErr r IsUndamaged) _ c.from_residual.result c.from_residual.ensures.1 is
+returns-in_err-may_commit-clause-undamaged g c = (early g c).undamaged
 
 pub returns-in_err-commit_small : goal.returns-in_err-commit_small
 returns-in_err-commit_small g c =
     let s = core_of c.args.self.now in
-    let why = c.in_err-commit_small.field-0.0 in record {
-      took =
-          let mid = core_of c.commit_small.new.self in
-          let may = c.in_ok-may_commit.ensures in
-          let own = sym (c.purge_refusal.ensures.value) ∙ may.1 in
-          let some = in_range c.args.count s.history.cursor own in
-          let adds =
-          subst (λ b. Adds g.S.Store s (b ∷ []) 1 (length b) (Err why) mid) c.purge_body.ensures
-          c.in_err-commit_small.ensures.record in
-          after_err
-          (λ r. Took g.S.Store s (quietly (Line (command.Purge c.args.count)) (as_reply (λ (n : ℕ). Done) r)) mid) _
-          c.from_residual-in_err-commit_small.result c.from_residual-in_err-commit_small.ensures.1
-          (fails g.S.Store s [] (Line (command.Purge c.args.count)) silent 0 (single (Purge c.args.count))
-          (purged s.history c.args.count) s.clipboard s.next_track c.requires (none_made g.S.Store s)
-          (purges g.S.Store s c.requires c.args.count some.0 some.1 c.ranges.count.fits) may.0 own may.2
-          (omega (arith, may.3)) (omega (arith, c.requires.layouts)) why mid
-          (g.met.S.Store.may_fewer s.store) adds);
-      number =
-          after_err (λ r. IfOk r (λ (n : ℕ). n ≡ c.commit_small.new.self.commit_number)) _
-          c.from_residual-in_err-commit_small.result c.from_residual-in_err-commit_small.ensures.1 tt;
-      memory =
-          after_err (λ r. IfErr r IsNoWant) _ c.from_residual-in_err-commit_small.result
-          c.from_residual-in_err-commit_small.ensures.1 c.in_err-commit_small.ensures.memory;
-      undamaged =
-          after_err (λ r. IfErr r IsUndamaged) _ c.from_residual-in_err-commit_small.result
-          c.from_residual-in_err-commit_small.ensures.1 c.in_err-commit_small.ensures.undamaged;
+    let why = c.in_err-commit_small.field-0.0 in
+    let is = late g c in record {
+      took = is.took;
+      number = is.number;
+      memory = is.memory;
+      undamaged = is.undamaged;
       range =
           let is : why ≡ BadRange → bad_range 0 c.args.count s.history.cursor ≡ Some BadRange =
           λ bad. absurd (added_range g.S.Store s (core_of c.commit_small.new.self) _ 1 _ why

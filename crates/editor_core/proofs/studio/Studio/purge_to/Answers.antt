@@ -1,12 +1,7 @@
 -- A purge to a size is a step.
-use Rattle.std.proofs.Common.{◌≡◌, subst, ℕ, ◌≤◌, IfErr, arith}
-use Rattle.pcm_base.proofs.Exits.{after_err}
-use Rattle.pcm_base.specs.{declared.command.Call.TheVariants.Line, declared.refusal.Refusal.Refusal}
-use Rattle.pcm_base.specs.{declared.refusal.Refusal.TheVariants.BadRange}
+use Rattle.editor_core.proofs.Common.{◌≡◌, subst, ℕ, ◌≤◌, IfErr, arith, after_err, Line, Refusal, BadRange, IsUndamaged}
+use Rattle.editor_core.proofs.Common.{core_of, Took, quietly, as_reply}
 use Rattle.purge_size.specs.Sizes.{IsPurgeTo}
-use Rattle.envelope_view.specs.Answers.{IsUndamaged}
-use Rattle.editor_core.specs.Core.{core_of}
-use Rattle.editor_state.specs.Took.{Took, quietly, as_reply}
 use Rattle.editor_commits.proofs.PurgeToSize.{numbered_points, purged_to, small_blocks, some_go, to_leaves, to_stopped}
 use Rattle.editor_commits.proofs.PurgeToSize.{to_wanting, unpurged_to}
 use Rattle.pcm_base.specs.declared.answer.Reply.TheVariants as reply

@@ -1,6 +1,5 @@
 -- Samples put in at a place are a step.
-use Rattle.std.proofs.Common.{refl}
-use Rattle.editor_state.specs.Took.{silent}
+use Rattle.editor_core.proofs.Common.{refl, silent}
 use Rattle.editor_tracks.proofs.InsertLaws.{put_call}
 use Rattle.pcm_base.specs.declared.command.Call.TheVariants as call
 use Rattle.pcm_base.specs.declared.command.Command.TheVariants as command

@@ -1,6 +1,5 @@
 -- A ramp is a step.
-use Rattle.std.proofs.{Common.arith, lemmas.Int.ints}
-use Rattle.editor_state.specs.Took.{silent}
+use Rattle.editor_core.proofs.Common.{arith, ints, silent}
 use Rattle.editor_tracks.proofs.InsertLaws.{ramp_again}
 use Rattle.pcm_base.specs.declared.command.Call.TheVariants as call
 use Rattle.pcm_base.specs.declared.command.Command.TheVariants as command

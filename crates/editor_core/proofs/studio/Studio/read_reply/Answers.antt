@@ -1,12 +1,8 @@
 -- What was heard of a pin is the answer.
-use Rattle.std.proofs.Common.{◌∙◌, refl, sym, ap, subst, List, length, Ok, arith}
-use Rattle.pcm_base.proofs.Exits.{after_err}
-use Rattle.pcm_base.specs.{declared.command.Call.TheVariants.ReadPin, declared.sound.Frame.Frame}
-use Rattle.editor_core.specs.Core.{core_of}
-use Rattle.editor_state.specs.Took.{Took, quietly, silent}
+use Rattle.editor_core.proofs.Common.{◌∙◌, refl, sym, ap, subst, List, length, Ok, arith, after_err, ReadPin, Frame}
+use Rattle.editor_core.proofs.Common.{core_of, Took, quietly, silent, view_front, wants}
 use Rattle.editor_views.proofs.PinRefusals.{len_refused, read_refused}
-use Rattle.editor_views.proofs.{PinReads.read_as_many, BufferFronts.view_front}
-use Rattle.editor_state.proofs.Refusals.EarlyRefusals.{wants}
+use Rattle.editor_views.proofs.{PinReads.read_as_many}
 use Rattle.pcm_base.specs.declared.answer.Reply.TheVariants as reply
 use Rattle.editor_core.proofs.studio.Studio.read_reply.Goals as goal
 

@@ -1,8 +1,6 @@
 -- The files that went, and the answer.
-use Rattle.std.proofs.Common.{◌≡◌, ◌∙◌, sym, ap, subst, Some, Err, Ok}
+use Rattle.editor_core.proofs.Common.{◌≡◌, ◌∙◌, sym, ap, subst, Some, Err, Ok, Core, core_of}
 use Rattle.pcm_base.specs.Studio.{fault_sum}
-use Rattle.editor_state.specs.Core.{Core}
-use Rattle.editor_core.specs.Core.{core_of}
 use Rattle.editor_cleanup.specs.{Frees.Reclaims, Passes.DropsFirst}
 use Rattle.editor_cleanup.proofs.ReclaimAnswers.{reclaim_stopped, reclaimed}
 use Rattle.editor_cleanup.proofs.{ForgetPass.forgotten, ReclaimFaults.reclaim_fails}

@@ -1,8 +1,7 @@
 -- One file after another.
-use Rattle.std.proofs.Common.{◌≡◌, inr, refl, sym, subst, ℕ, [], ◌∷◌, ◌++◌, IsSome, Some, Option, arith}
-use Rattle.block_ledger.specs.Entries.{count_of}
-use Rattle.editor_core.specs.Core.{core_of}
-use Rattle.editor_cleanup.proofs.{IdRemovals.long, RemovePass.next_here, RemovePass.none_here, RemovePass.removes_all}
+use Rattle.editor_core.proofs.Common.{◌≡◌, inr, refl, sym, subst, ℕ, [], ◌∷◌, ◌++◌, IsSome, Some, Option, arith}
+use Rattle.editor_core.proofs.Common.{count_of, core_of, long}
+use Rattle.editor_cleanup.proofs.{RemovePass.next_here, RemovePass.none_here, RemovePass.removes_all}
 use Rattle.editor_cleanup.proofs.{RemovePass.removes_fail, RemovePass.removing_more, RemovePass.removing_none}
 use Rattle.editor_core.proofs.studio.Studio.remove_first.Goals as goal
 
@@ -17,11 +16,10 @@ loop-count-init g c =
 pub returns-in_default : goal.returns-in_default
 returns-in_default g c =
     let s = core_of c.args.self.now in
-    let mid = core_of c.loop-count.self in
     let is = c.loop-count.invariant in
-    let few = c.loop-count-test.true in
-    removes_all g.S.Store s tt c.args.most c.loop-count.count is.0 c.loop-count.from mid is.2 is.1 (omega (arith, few))
-    (inr (none_here g.S.Store s is.0 c.loop-count.from mid is.2 c.in_default.ensures.none))
+    removes_all g.S.Store s tt c.args.most c.loop-count.count is.0 c.loop-count.from (core_of c.loop-count.self) is.2
+    is.1 (omega (arith, c.loop-count-test.true))
+    (inr (none_here g.S.Store s is.0 c.loop-count.from (core_of c.loop-count.self) is.2 c.in_default.ensures.none))
 
 pub remove_unnamed-requires : goal.remove_unnamed-requires
 remove_unnamed-requires g c =
@@ -37,10 +35,9 @@ returns-in-Err g c =
     let s = core_of c.args.self.now in
     let mid = core_of c.loop-count.self in
     let is = c.loop-count.invariant in
-    let few = c.loop-count-test.true in
     let next = next_here g.S.Store s is.0 c.loop-count.from c.in-Some.id mid is.2 c.in-Some.ensures.found in
     removes_fail g.S.Store s is.0 c.loop-count.from c.in-Some.id mid (core_of c.remove_unnamed.new.self) is.2 next
-    c.in-Err.fault c.args.most c.loop-count.count c.in-Err.ensures is.1 (omega (arith, few))
+    c.in-Err.fault c.args.most c.loop-count.count c.in-Err.ensures is.1 (omega (arith, c.loop-count-test.true))
 
 pub overflow_add-from : goal.overflow_add-from
 overflow_add-from g c =

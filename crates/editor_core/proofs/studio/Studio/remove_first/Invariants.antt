@@ -1,6 +1,5 @@
 -- The files so far.
-use Rattle.std.proofs.Common.{◌≡◌, ℕ, List, length}
-use Rattle.editor_core.specs.Core.{core_of}
+use Rattle.editor_core.proofs.Common.{◌≡◌, ℕ, List, length, core_of}
 use Rattle.editor_cleanup.proofs.RemovePass.{Removing}
 use Rattle.editor_core.proofs.studio.Studio.remove_first.Given as goal
 

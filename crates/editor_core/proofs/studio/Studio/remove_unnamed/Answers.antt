@@ -1,5 +1,5 @@
 -- By what the cache and the disk say.
-use Rattle.std.proofs.Common.{refl}
+use Rattle.editor_core.proofs.Common.{refl}
 use Rattle.editor_core.proofs.studio.Studio.remove_unnamed.Goals as goal
 
 pub returns : goal.returns

@@ -1,14 +1,13 @@
 -- A line is a step, of which the vault's move is a part.
-use Rattle.std.proofs.Common.{◌≡◌, ◌∙◌, refl, sym, ap, subst, is_some, ℕ, List, Result}
+use Rattle.editor_core.proofs.Common.{◌≡◌, ◌∙◌, refl, sym, ap, subst, ℕ, List, Result, Reply, Command, Line, Refusal}
+use Rattle.editor_core.proofs.Common.{Took, as_reply, with_sound, TookOver, moved_from, VaultCounted, core_of}
+use Rattle.editor_core.proofs.Common.{over_silent, spanned}
+use Rattle.std.proofs.Common.{is_some}
 use Rattle.std.proofs.{lemmas.Bool.true≢false, lemmas.Option.none-some}
-use Rattle.pcm_base.specs.{declared.answer.Reply.Reply, declared.command.Command.Command}
-use Rattle.pcm_base.specs.{declared.command.Call.TheVariants.Line, declared.refusal.Refusal.Refusal, Outside.Sounds}
-use Rattle.pcm_base.specs.{Run.name_in_line}
-use Rattle.editor_state.specs.Took.{Took, as_reply, with_sound}
-use Rattle.editor_state.specs.{Applied.Imported, Applied.TookOver, Exports.moved_from, Vaults.VaultCounted}
-use Rattle.editor_core.specs.Core.{core_of}
+use Rattle.pcm_base.specs.{Outside.Sounds, Run.name_in_line}
+use Rattle.editor_state.specs.{Applied.Imported}
 use Rattle.editor_state.proofs.Calls.VaultCalls.{counted_told, export_none, import_name, imported_done, names_none}
-use Rattle.editor_state.proofs.Calls.VaultCalls.{over_silent, over_sound, spanned}
+use Rattle.editor_state.proofs.Calls.VaultCalls.{over_sound}
 use Rattle.pcm_base.specs.declared.answer.Reply.TheVariants as reply
 use Rattle.pcm_base.specs.declared.command.Command.TheVariants as command
 use Rattle.editor_core.proofs.studio.Studio.reply_to.Goals as goal

@@ -1,9 +1,5 @@
 -- A line or another call.
-use Rattle.std.proofs.Common.{[], sym, subst}
-use Rattle.pcm_base.specs.declared.command.Call.{Call}
-use Rattle.editor_state.specs.Applied.{TookOver}
-use Rattle.editor_core.specs.Core.{core_of}
-use Rattle.editor_state.proofs.Calls.VaultCalls.{over_silent, spanned}
+use Rattle.editor_core.proofs.Common.{[], sym, subst, Call, TookOver, core_of, over_silent, spanned}
 use Rattle.editor_state.proofs.Calls.EventRuns.{other_none, other_of}
 use Rattle.editor_core.proofs.studio.Studio.reply_to_call.Goals as goal
 

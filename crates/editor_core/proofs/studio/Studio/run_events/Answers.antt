@@ -1,11 +1,9 @@
 -- One event more.
-use Rattle.std.proofs.Common.{◌∙◌, refl, sym, ap, subst, List, [], ◌∷◌, ◌++◌, append_assoc, length, length-append, take}
-use Rattle.std.proofs.Common.{arith}
-use Rattle.std.proofs.{lemmas.List.append-nil, lemmas.Option.slice_get_read}
-use Rattle.pcm_base.specs.{declared.answer.Answer.Answer, declared.entry.Event.Event}
-use Rattle.editor_state.specs.{Applied.reply_of, Events.RanOver}
-use Rattle.editor_core.specs.Core.{core_of}
-use Rattle.editor_state.proofs.Calls.VaultCalls.{spanned}
+use Rattle.editor_core.proofs.Common.{◌∙◌, refl, sym, ap, subst, List, [], ◌∷◌, ◌++◌, append_assoc, length}
+use Rattle.editor_core.proofs.Common.{length-append, take, arith, append-nil, slice_get_read, Answer, RanOver, core_of}
+use Rattle.editor_core.proofs.Common.{spanned}
+use Rattle.pcm_base.specs.{declared.entry.Event.Event}
+use Rattle.editor_state.specs.{Applied.reply_of}
 use Rattle.editor_state.proofs.Calls.EventRuns.{over_at, ran_more, ran_none, take_item}
 use Rattle.editor_core.proofs.studio.Studio.run_events.Goals as goal
 

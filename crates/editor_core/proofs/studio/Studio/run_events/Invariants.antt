@@ -1,8 +1,6 @@
 -- The events so far are a run.
-use Rattle.std.proofs.Common.{◌≡◌, ◌+◌, ◌-◌, ◌≤◌, ◌++◌, List, length, take, vec_capacity}
-use Rattle.pcm_base.specs.declared.answer.Answer.{Answer}
-use Rattle.editor_core.specs.Core.{core_of}
-use Rattle.editor_state.specs.Events.{RanOver}
+use Rattle.editor_core.proofs.Common.{◌≡◌, ◌+◌, ◌-◌, ◌≤◌, ◌++◌, List, length, take, vec_capacity, Answer, core_of}
+use Rattle.editor_core.proofs.Common.{RanOver}
 use Rattle.editor_core.proofs.studio.Studio.run_events.Given as goal
 
 abbrev pub invariant-events : goal.invariant-events

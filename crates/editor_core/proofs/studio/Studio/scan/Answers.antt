@@ -1,7 +1,5 @@
 -- A scan changes nothing, and tells of the block that was read.
-use Rattle.std.proofs.Common.{sym, subst}
-use Rattle.block_cache.specs.Caches.{Entries}
-use Rattle.editor_core.specs.Core.{core_of}
+use Rattle.editor_core.proofs.Common.{sym, subst, Entries, core_of}
 use Rattle.editor_views.specs.Scans.{ScansBlock}
 use Rattle.editor_views.proofs.BlockScans.{point_named, point_short, scans_block}
 use Rattle.editor_core.proofs.studio.Studio.scan.Goals as goal

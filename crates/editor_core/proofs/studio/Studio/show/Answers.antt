@@ -1,14 +1,8 @@
 -- Showing a track is a step that changes nothing.
-use Rattle.std.proofs.{Common.◌∙◌, Common.sym, Common.ap, Common.subst, Common.Err, lemmas.Result.err_from_is_err_and}
-use Rattle.pcm_base.proofs.Exits.{after_err}
-use Rattle.pcm_base.specs.{declared.answer.Reply.TheVariants.Cells, declared.command.Call.TheVariants.Line}
-use Rattle.pcm_base.specs.{declared.command.Command.TheVariants.Show}
-use Rattle.clip_track.specs.Clips.{layout_blocks}
-use Rattle.editor_core.specs.Core.{core_of}
-use Rattle.editor_state.specs.{Points.lacks, Reads.Sees}
-use Rattle.editor_commits.proofs.CursorTracks.{layout_may_read, layout_named, layout_whole}
-use Rattle.editor_state.proofs.Calls.LookAnswers.{idle_sees, read_sees, unread_sees, seen}
-use Rattle.editor_state.proofs.Blocks.CachePages.{reads_among}
+use Rattle.editor_core.proofs.Common.{◌∙◌, sym, ap, subst, Err, err_from_is_err_and, after_err, Line, layout_blocks}
+use Rattle.editor_core.proofs.Common.{core_of, lacks, Sees, layout_may_read, layout_named, layout_whole, idle_sees}
+use Rattle.editor_core.proofs.Common.{read_sees, unread_sees, seen, reads_among}
+use Rattle.pcm_base.specs.{declared.answer.Reply.TheVariants.Cells, declared.command.Command.TheVariants.Show}
 use Rattle.editor_views.proofs.CellViews.{show_stopped, show_lacks, show_beyond, show_done, show_failed}
 use Rattle.pcm_base.specs.declared.refusal.Refusal.TheVariants as refusal
 use Rattle.editor_core.proofs.studio.Studio.show.Goals as goal

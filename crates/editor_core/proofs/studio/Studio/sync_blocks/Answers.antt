@@ -1,7 +1,5 @@
 -- One sync after another.
-use Rattle.std.proofs.Common.{◌≡◌, ℕ, Some, refl, subst, arith}
-use Rattle.editor_core.specs.Core.{core_of}
-use Rattle.editor_state.specs.{Made.ids_from, Makes.Synced}
+use Rattle.editor_core.proofs.Common.{◌≡◌, ℕ, Some, refl, subst, arith, core_of, ids_from, Synced}
 use Rattle.editor_blocks.proofs.BlocksWritten.{synced_none, synced_more, unsynced_here}
 use Rattle.editor_core.proofs.studio.Studio.sync_blocks.Goals as goal
 

@@ -1,7 +1,5 @@
 -- The first files are synced.
-use Rattle.std.proofs.Common.{◌≡◌}
-use Rattle.editor_core.specs.Core.{core_of}
-use Rattle.editor_state.specs.{Made.ids_from, Makes.Synced}
+use Rattle.editor_core.proofs.Common.{◌≡◌, core_of, ids_from, Synced}
 use Rattle.editor_core.proofs.studio.Studio.sync_blocks.Given as goal
 
 abbrev pub invariant-rows : goal.invariant-rows

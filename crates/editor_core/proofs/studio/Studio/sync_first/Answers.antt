@@ -1,13 +1,8 @@
 -- One sync after another.
-use Rattle.std.proofs.Common.{◌≡◌, refl, sym, subst, ℕ, ◌+◌, [], ◌∷◌, ◌++◌, IsSome, Some, Option, Err, arith}
-use Rattle.pcm_base.proofs.Exits.{after_err}
-use Rattle.block_cache.specs.Caches.{Entries}
-use Rattle.block_ledger.specs.Entries.{count_of}
-use Rattle.editor_core.specs.Core.{core_of}
+use Rattle.editor_core.proofs.Common.{◌≡◌, refl, sym, subst, ℕ, ◌+◌, [], ◌∷◌, ◌++◌, IsSome, Some, Option, Err, arith}
+use Rattle.editor_core.proofs.Common.{after_err, Entries, count_of, core_of, Syncing, first_none, long}
 use Rattle.editor_cleanup.specs.Passes.{SyncsFirst}
-use Rattle.editor_cleanup.proofs.SyncPass.{Syncing, next_there, none_there, syncing_more, syncing_none, syncs_all}
-use Rattle.editor_cleanup.proofs.SyncPass.{syncs_fail}
-use Rattle.editor_cleanup.proofs.{FirstIds.first_none, IdRemovals.long}
+use Rattle.editor_cleanup.proofs.SyncPass.{next_there, none_there, syncing_more, syncing_none, syncs_all, syncs_fail}
 use Rattle.editor_core.proofs.studio.Studio.sync_first.Goals as goal
 
 is_some : (o : Option ℕ) → o ≡ Some 0 → IsSome o
@@ -21,12 +16,10 @@ loop-i-init g c =
 pub returns-in_default : goal.returns-in_default
 returns-in_default g c =
     let s = core_of c.args.self.now in
-    let mid = core_of c.loop-i.self in
     let is = c.loop-i.invariant in
-    let few = c.loop-i-test.true in
-    let none = none_there g.S.Store s is.0 c.loop-i.from mid is.2 c.in_default.ensures.none in
-    syncs_all g.S.Store s is.0 c.loop-i.from mid is.2 tt c.args.count
-    (first_none s.counts c.args.count is.0 c.loop-i.from is.2.next (omega (arith, is.1, few)) none)
+    syncs_all g.S.Store s is.0 c.loop-i.from (core_of c.loop-i.self) is.2 tt c.args.count
+    (first_none s.counts c.args.count is.0 c.loop-i.from is.2.next (omega (arith, is.1, c.loop-i-test.true))
+    (none_there g.S.Store s is.0 c.loop-i.from (core_of c.loop-i.self) is.2 c.in_default.ensures.none))
 
 pub returns-in_err-sync : goal.returns-in_err-sync
 returns-in_err-sync g c =

@@ -1,7 +1,5 @@
 -- The files so far.
-use Rattle.std.proofs.Common.{◌≡◌, ℕ, List, length}
-use Rattle.editor_core.specs.Core.{core_of}
-use Rattle.editor_cleanup.proofs.SyncPass.{Syncing}
+use Rattle.editor_core.proofs.Common.{◌≡◌, ℕ, List, length, core_of, Syncing}
 use Rattle.editor_core.proofs.studio.Studio.sync_first.Given as goal
 
 abbrev pub invariant-loop-i : goal.invariant-loop-i

@@ -1,11 +1,7 @@
 -- Telling of the tracks changes nothing.
-use Rattle.std.proofs.Common.{◌≡◌, ◌⊎◌, ◌∙◌, inl, inr, refl, sym, ap, subst, ℕ, List, map, Ok}
+use Rattle.editor_core.proofs.Common.{◌≡◌, ◌⊎◌, ◌∙◌, inl, inr, refl, sym, ap, subst, ℕ, List, map, Ok, after_err, Line}
+use Rattle.editor_core.proofs.Common.{line_of_track, Track, meant, core_of, Took, quietly, as_reply}
 use Rattle.std.specs.Prelude.{IfErr}
-use Rattle.pcm_base.proofs.Exits.{after_err}
-use Rattle.pcm_base.specs.{declared.command.Call.TheVariants.Line, Step.line_of_track}
-use Rattle.project_state.specs.{declared.track.Track.Track, Meaning.meant}
-use Rattle.editor_core.specs.Core.{core_of}
-use Rattle.editor_state.specs.Took.{Took, quietly, as_reply}
 use Rattle.editor_views.proofs.TrackListing.{tell_stopped, tell_wanting, told_of}
 use Rattle.pcm_base.specs.declared.answer.Reply.TheVariants as reply
 use Rattle.pcm_base.specs.declared.command.Command.TheVariants as command

@@ -1,8 +1,6 @@
 -- Letting a pin go is a step.
-use Rattle.std.proofs.Common.{refl, sym, subst, List, Err}
+use Rattle.editor_core.proofs.Common.{refl, sym, subst, List, Err, core_of, Pin, Took, quietly}
 use Rattle.pcm_base.specs.{declared.command.Call.TheVariants.Unpin, declared.refusal.Refusal.TheVariants.NoPin}
-use Rattle.editor_core.specs.Core.{core_of}
-use Rattle.editor_state.specs.{declared.pin.Pin.Pin, Took.Took, Took.quietly}
 use Rattle.editor_views.proofs.UnpinSteps.{pin_uses, unpinned, unpin_lacks}
 use Rattle.editor_core.proofs.studio.Studio.unpin.Goals as goal
 

@@ -1,7 +1,5 @@
 -- The lengths of records that come together, written out whole.
-use Rattle.record_body.specs.Saved.{current_tracks}
-use Rattle.editor_core.specs.Core.{core_of}
-use Rattle.editor_commits.proofs.RecordRows.{whole_total}
+use Rattle.editor_core.proofs.Common.{current_tracks, core_of, whole_total}
 use Rattle.editor_core.proofs.studio.Studio.whole_size.Goals as goal
 
 pub returns-clause-value : goal.returns-clause-value

@@ -1,10 +1,7 @@
 -- The same record as often as it is asked for.
-use Rattle.std.proofs.Common.{◌≡◌, ◌∙◌, ap, [], List, ℕ, subst, sym}
+use Rattle.editor_core.proofs.Common.{◌≡◌, ◌∙◌, ap, [], List, ℕ, subst, sym, with_point, Body, current_tracks}
+use Rattle.editor_core.proofs.Common.{BodyAgrees, again_agrees, body_bytes, core_of}
 use Rattle.std.proofs.lemmas.Result.{on_ok_weaker}
-use Rattle.record_body.specs.{Batches.with_point, declared.body.Body.Body, Saved.current_tracks, Numbers.BodyAgrees}
-use Rattle.record_body.proofs.Agreeing.{again_agrees}
-use Rattle.editor_state.specs.Bodies.{body_bytes}
-use Rattle.editor_core.specs.Core.{core_of}
 use Rattle.editor_commits.proofs.RecordRows.{again_waits}
 use Rattle.editor_core.proofs.studio.Studio.write_again.Goals as goal
 

@@ -1,18 +1,29 @@
 -- One block after another.
-use Rattle.std.proofs.Common.{◌≡◌, ◌∙◌, ℕ, false, length, refl, sym, subst, arith}
-use Rattle.std.proofs.lemmas.Option.{slice_get_read}
-use Rattle.pcm_base.proofs.Exits.{after_err}
-use Rattle.edit_ops.specs.declared.types.NewBlock.{NewBlock}
-use Rattle.block_writer.specs.Brought.{AreInOrder, Brought, MayBring}
-use Rattle.block_cache.specs.Caches.{AllPass}
-use Rattle.block_ledger.specs.Entries.{count_of}
-use Rattle.editor_state.specs.{Core.Core, Made.batch_of, Makes.MadeOne, Makes.Writes, Makes.Written, Studios.is_given}
-use Rattle.editor_core.specs.Core.{core_of}
+use Rattle.editor_core.proofs.Common.{◌≡◌, ◌∙◌, ℕ, false, Some, length, slice_get, refl, sym, subst, arith}
+use Rattle.editor_core.proofs.Common.{slice_get_read, after_err, NewBlock, Brought, MayBring, AllPass, count_of, Core}
+use Rattle.editor_core.proofs.Common.{batch_of, is_given, core_of}
+use Rattle.block_writer.specs.Brought.{AreInOrder}
+use Rattle.editor_state.specs.{Makes.MadeOne, Makes.Writes, Makes.Written}
 use Rattle.editor_blocks.proofs.BroughtSamples.{brought_more, brought_none, next_order}
 use Rattle.editor_blocks.proofs.BlocksWritten.{making_next, making_size}
-use Rattle.editor_blocks.proofs.NextBlock.{item, ready_item, fresh_next, stuck_here}
+use Rattle.editor_blocks.proofs.NextBlock.{IsReady, item, ready_item, fresh_next, stuck_here}
 use Rattle.editor_state.proofs.Blocks.CachePages.{pages_by_blocks}
+use Rattle.editor_core.proofs.studio.Studio.write_blocks.Given.{Over}
+use Rattle.editor_core.proofs.studio.Studio.write_blocks.Goals.{After-write_one-arg-in-rows-1}
 use Rattle.editor_core.proofs.studio.Studio.write_blocks.Goals as goal
+
+-- the block that is next, and what is asked of it
+here : (g : Over) (c : goal.After-write_one-arg-in-rows-1 g)
+    → slice_get c.args.makes.now c.rows.block-index ≡ Some c.block-item.result
+here g c =
+    slice_get_read c.args.makes.now _ c.rows.block-index c.block-item.result refl c.rows-test.true c.block-item.is
+
+ready : (g : Over) (c : goal.After-write_one-arg-in-rows-1 g)
+    → IsReady c.args.self.now.buffers c.args.self.now.next_block c.rows.block-index c.block-item.result
+ready g c =
+    let s = core_of c.args.self.now in
+    ready_item s.block_size s.next_block c.rows.block-index c.args.makes.now c.block-item.result c.rows-test.true
+    (here g c) c.requires.new c.requires.least c.requires.most c.requires.size
 
 pub rows-init : goal.rows-init
 rows-init g c = record {
@@ -29,100 +40,63 @@ rows-init g c = record {
 
 pub write_one-requires-clause-id : goal.write_one-requires-clause-id
 write_one-requires-clause-id g c =
-    let s = core_of c.args.self.now in
-    let bs = c.args.makes.now in
-    let n = c.rows.block-index in
-    let here = slice_get_read bs _ n c.block-item.result refl c.rows-test.true c.block-item.is in
-    let ready = ready_item s.block_size s.next_block n bs c.block-item.result c.rows-test.true here c.requires.new
-    c.requires.least c.requires.most c.requires.size in
-    ready.id ∙ sym (making_next g.S.Store s c.rows.invariant.brought.samples bs n (core_of c.rows.self)
-    c.rows.invariant.brought.written.making)
+    (ready g c).id ∙ sym (making_next g.S.Store (core_of c.args.self.now) c.rows.invariant.brought.samples
+    c.args.makes.now c.rows.block-index (core_of c.rows.self) c.rows.invariant.brought.written.making)
 
 pub write_one-requires-clause-block : goal.write_one-requires-clause-block
-write_one-requires-clause-block g c =
-    let s = core_of c.args.self.now in
-    let bs = c.args.makes.now in
-    let n = c.rows.block-index in
-    let here = slice_get_read bs _ n c.block-item.result refl c.rows-test.true c.block-item.is in
-    (ready_item s.block_size s.next_block n bs c.block-item.result c.rows-test.true here c.requires.new c.requires.least
-    c.requires.most c.requires.size).block
+write_one-requires-clause-block g c = (ready g c).block
 
 pub write_one-requires-clause-total : goal.write_one-requires-clause-total
-write_one-requires-clause-total g c =
-    let s = core_of c.args.self.now in
-    let bs = c.args.makes.now in
-    let n = c.rows.block-index in
-    let here = slice_get_read bs _ n c.block-item.result refl c.rows-test.true c.block-item.is in
-    (ready_item s.block_size s.next_block n bs c.block-item.result c.rows-test.true here c.requires.new c.requires.least
-    c.requires.most c.requires.size).total
+write_one-requires-clause-total g c = (ready g c).total
 
 pub write_one-requires-clause-size : goal.write_one-requires-clause-size
-write_one-requires-clause-size g c =
-    let s = core_of c.args.self.now in
-    let bs = c.args.makes.now in
-    let n = c.rows.block-index in
-    let here = slice_get_read bs _ n c.block-item.result refl c.rows-test.true c.block-item.is in
-    let ready = ready_item s.block_size s.next_block n bs c.block-item.result c.rows-test.true here c.requires.new
-    c.requires.least c.requires.most c.requires.size in
-    omega (
-      arith,
-      ready.few,
-      making_size g.S.Store s c.rows.invariant.brought.samples bs n (core_of c.rows.self)
-          c.rows.invariant.brought.written.making,
-    )
+write_one-requires-clause-size g c = omega (
+  arith,
+  (ready g c).few,
+  making_size g.S.Store (core_of c.args.self.now) c.rows.invariant.brought.samples c.args.makes.now c.rows.block-index
+      (core_of c.rows.self) c.rows.invariant.brought.written.making,
+)
 
 pub write_one-requires-clause-fresh : goal.write_one-requires-clause-fresh
 write_one-requires-clause-fresh g c =
     let s = core_of c.args.self.now in
-    let bs = c.args.makes.now in
-    let n = c.rows.block-index in
-    let here = slice_get_read bs _ n c.block-item.result refl c.rows-test.true c.block-item.is in
-    let ready = ready_item s.block_size s.next_block n bs c.block-item.result c.rows-test.true here c.requires.new
-    c.requires.least c.requires.most c.requires.size in
-    fresh_next s.next_block n s.counts (count_of c.rows.self.tally.ledger) c.block-item.result.id
-    c.rows.invariant.brought.written.making.ledger c.requires.below ready.id
+    fresh_next s.next_block c.rows.block-index s.counts (count_of c.rows.self.tally.ledger) c.block-item.result.id
+    c.rows.invariant.brought.written.making.ledger c.requires.below (ready g c).id
 
 pub returns-in_err-write_one-clause-written : goal.returns-in_err-write_one-clause-written
 returns-in_err-write_one-clause-written g c =
-    let s = core_of c.args.self.now in
-    let bs = c.args.makes.now in
-    let n = c.rows.block-index in
-    let b : NewBlock = c.block-item.result in
-    let here = slice_get_read bs _ n b refl c.rows-test.true c.block-item.is in
     let new = core_of c.write_one.new.self in
     let failed = c.in_err-write_one.ensures in
     let was = c.rows.invariant.brought in (
       was.samples,
       was.may,
-      after_err (λ r. Writes g.S.Store s (batch_of was.samples bs) r new) _ c.from_residual.result
-          c.from_residual.ensures.1
-          (stuck_here g.S.Store s was.samples bs n
-          (core_of c.rows.self) was.written.making c.rows-test.true c.requires.new b here
+      after_err (λ r. Writes g.S.Store (core_of c.args.self.now) (batch_of was.samples c.args.makes.now) r new) _
+          c.from_residual.result c.from_residual.ensures.1
+          (stuck_here g.S.Store (core_of c.args.self.now) was.samples c.args.makes.now c.rows.block-index
+          (core_of c.rows.self) was.written.making c.rows-test.true c.requires.new c.block-item.result
+          (here g (goal.at.returns-in_err-write_one-clause-written g c).After-write_one-arg-in-rows-1)
           c.in_err-write_one.field-0.0 new was.written.read_faults failed.made failed.valid failed.damaged),
     )
 
 pub write_one-requires-clause-order : goal.write_one-requires-clause-order
 write_one-requires-clause-order g c =
-    let s = core_of c.args.self.now in
     let bs = c.args.makes.now in
     let n = c.rows.block-index in
     let b : NewBlock = c.block-item.result in
-    let here = slice_get_read bs _ n b refl c.rows-test.true c.block-item.is in
-    let is = item bs n b b c.rows-test.true here in
     let B : Brought → Type 0 = λ x. x.tells ≡ false → AreInOrder 0 x.count b.pieces in
     subst B (sym c.rows.invariant.still.same) (λ quiet.
-    subst (λ (x : NewBlock). AreInOrder 0 (g.G.Brings.brings c.args.given.now).count x.pieces) is
-    (next_order g.S.Store s (g.G.Brings.brings c.args.given.now) bs n b (core_of c.rows.self) c.rows-test.true
-    c.rows.invariant.brought quiet))
+    subst (λ (x : NewBlock). AreInOrder 0 (g.G.Brings.brings c.args.given.now).count x.pieces)
+    (item bs n b b c.rows-test.true (here g c))
+    (next_order g.S.Store (core_of c.args.self.now) (g.G.Brings.brings c.args.given.now) bs n b (core_of c.rows.self)
+    c.rows-test.true c.rows.invariant.brought quiet))
 
 pub rows-preserved : goal.rows-preserved
 rows-preserved g c =
     let s = core_of c.args.self.now in
-    let bs = c.args.makes.now in
     let n = c.rows.block-index in
     let b : NewBlock = c.block-item.result in
-    let here = slice_get_read bs _ n b refl c.rows-test.true c.block-item.is in
-    let is = item bs n b b c.rows-test.true here in
+    let is = item c.args.makes.now n b b c.rows-test.true
+    (here g (goal.at.rows-preserved g c).After-write_one-arg-in-rows-1) in
     let mid = core_of c.rows.self in
     let new = core_of c.write_one.new.self in
     let done = c.in_ok-write_one.ensures in
@@ -130,7 +104,8 @@ rows-preserved g c =
     let brings = g.G.Brings.brings c.args.given.now in
     let may = subst (λ (x : Brought). MayBring x done.made.0) inv.still.same done.made.1 in
     let one = subst (λ (x : NewBlock). MadeOne g.S.Store mid done.made.0 x new) (sym is) done.made.2 in record {
-      brought = brought_more g.S.Store s brings bs n b mid new c.rows-test.true c.requires.new inv.brought done.made.0
+      brought = brought_more g.S.Store s brings c.args.makes.now n b mid new c.rows-test.true c.requires.new
+          inv.brought done.made.0
           may one;
       still = record {
         same = done.still.same ∙ inv.still.same;

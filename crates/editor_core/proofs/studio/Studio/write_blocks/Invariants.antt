@@ -1,7 +1,6 @@
 -- The first blocks are written, and the buffers have room.
-use Rattle.std.proofs.Common.{◌≡◌, ◌+◌, ◌≤◌}
+use Rattle.editor_core.proofs.Common.{◌≡◌, ◌+◌, ◌≤◌, core_of}
 use Rattle.block_writer.specs.Bringers.{StillBrings}
-use Rattle.editor_core.specs.Core.{core_of}
 use Rattle.editor_blocks.proofs.BroughtSamples.{IsBrought}
 use Rattle.editor_core.proofs.studio.Studio.write_blocks.Given as goal
 

@@ -1,10 +1,6 @@
 -- A block that was written has the samples that were brought for it.
-use Rattle.std.proofs.Common.{ℕ, ◌+◌, sym, subst, rules}
+use Rattle.editor_core.proofs.Common.{ℕ, ◌+◌, sym, subst, rules, AllPass, count_of, core_of, is_given}
 use Rattle.sample_block.specs.Blocks.{blocks}
-use Rattle.block_cache.specs.Caches.{AllPass}
-use Rattle.block_ledger.specs.Entries.{count_of}
-use Rattle.editor_core.specs.Core.{core_of}
-use Rattle.editor_state.specs.Studios.{is_given}
 use Rattle.editor_blocks.proofs.BroughtSamples.{filled_by}
 use Rattle.editor_core.proofs.studio.Studio.write_one.Goals as goal
 

@@ -1,5 +1,5 @@
 -- There is room for the numbers.
-use Rattle.std.proofs.{Common.arith, lemmas.List.length-take}
+use Rattle.editor_core.proofs.Common.{arith, length-take}
 use Rattle.editor_core.proofs.studio.Studio.write_packed.Goals as goal
 
 pub slice_bounds-write_header-end-2 : goal.slice_bounds-write_header-end-2

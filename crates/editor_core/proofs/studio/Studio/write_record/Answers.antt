@@ -1,7 +1,5 @@
 -- The current point is that of the history.
-use Rattle.std.proofs.Common.{List, subst, sym}
-use Rattle.project_state.specs.declared.track.Track.{Track}
-use Rattle.record_body.specs.Numbers.{BodyAgrees}
+use Rattle.editor_core.proofs.Common.{List, subst, sym, Track, BodyAgrees}
 use Rattle.editor_core.proofs.studio.Studio.write_record.Goals as goal
 
 pub write_delta_body-requires : goal.write_delta_body-requires

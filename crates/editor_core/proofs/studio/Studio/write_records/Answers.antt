@@ -1,11 +1,7 @@
 -- The last record comes after those that say the current point.
-use Rattle.std.proofs.Common.{◌≡◌, ◌∙◌, ap, ℕ, List, [], ◌∷◌, ◌++◌, length, arith, subst, sym}
+use Rattle.editor_core.proofs.Common.{◌≡◌, ◌∙◌, ap, ℕ, List, [], ◌∷◌, ◌++◌, length, arith, subst, sym, Stored, Track}
+use Rattle.editor_core.proofs.Common.{current_tracks, BodyAgrees, body_bytes, Core, core_of}
 use Rattle.project_journal.specs.Journal.{opened}
-use Rattle.undo_history.specs.Stored.{Stored}
-use Rattle.project_state.specs.declared.track.Track.{Track}
-use Rattle.record_body.specs.{Saved.current_tracks, Numbers.BodyAgrees}
-use Rattle.editor_state.specs.{Bodies.body_bytes, Core.Core}
-use Rattle.editor_core.specs.Core.{core_of}
 use Rattle.editor_commits.proofs.RecordRows.{all_wait, last_short}
 use Rattle.editor_core.proofs.studio.Studio.write_records.Goals as goal
 

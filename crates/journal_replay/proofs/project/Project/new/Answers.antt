@@ -1,7 +1,6 @@
 -- One point without tracks.
-use Rattle.std.proofs.Common.{List, length, sym, ap, subst, ◌∙◌, arith}
+use Rattle.journal_replay.proofs.Common.{List, length, sym, ap, subst, ◌∙◌, arith, Track, AreUnnumbered}
 use Rattle.pcm_base.specs.History.{history_of_one}
-use Rattle.project_state.specs.{declared.track.Track.Track, Numbers.AreUnnumbered}
 use Rattle.journal_replay.proofs.project.Project.new.Goals as goal
 
 pub new-requires-clause-plain : goal.new-requires-clause-plain

@@ -1,9 +1,6 @@
 -- A point after all others has its numbers by the one before it.
-use Rattle.std.proofs.Common.{sym, ap, subst, ◌∙◌, ℕ, ◌-◌, List}
-use Rattle.pcm_base.specs.History.{History, points_of}
-use Rattle.project_state.specs.{declared.track.Track.Track, Numbers.unnumbered_history}
-use Rattle.project_state.proofs.Plain.{plain_new, tracks_plain}
-use Rattle.layout_uses.specs.Drawing.{IsNumbered}
+use Rattle.layout_uses.proofs.Common.{sym, ap, subst, ◌∙◌, ℕ, ◌-◌, List, History, points_of, Track, unnumbered_history}
+use Rattle.layout_uses.proofs.Common.{plain_new, tracks_plain, IsNumbered}
 use Rattle.layout_uses.proofs.InTurn.{last_numbers, plain_last, point_among}
 use Rattle.layout_uses.proofs.numbering.Numbered.add_last.Goals.{in-Ok, in-Err}
 use Rattle.layout_uses.proofs.numbering.Numbered.add_last.Goals as goal

@@ -1,9 +1,6 @@
 -- One point has its numbers.
-use Rattle.std.proofs.Common.{sym, ap, subst, ◌∙◌, ℕ, List}
-use Rattle.pcm_base.specs.History.{History, history_of_one}
-use Rattle.project_state.specs.{declared.track.Track.Track, Numbers.unnumbered_history}
-use Rattle.project_state.proofs.Plain.{plain_new, tracks_plain}
-use Rattle.layout_uses.specs.Drawing.{DrawsPoint, IsNumbered}
+use Rattle.layout_uses.proofs.Common.{sym, ap, subst, ◌∙◌, ℕ, List, History, history_of_one, Track, unnumbered_history}
+use Rattle.layout_uses.proofs.Common.{plain_new, tracks_plain, DrawsPoint, IsNumbered}
 use Rattle.layout_uses.proofs.InTurn.{first_numbers}
 use Rattle.layout_uses.proofs.numbering.Numbered.new.Goals as goal
 

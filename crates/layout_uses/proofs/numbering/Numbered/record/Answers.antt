@@ -1,9 +1,7 @@
 -- A point that is recorded has its numbers by the current one.
-use Rattle.std.proofs.Common.{slice_get, sym, ap, subst, ◌∙◌, ℕ, List, map}
-use Rattle.pcm_base.specs.History.{History, points_of, recorded}
-use Rattle.project_state.specs.{declared.track.Track.Track, Numbers.unnumbered, Numbers.unnumbered_history}
+use Rattle.layout_uses.proofs.Common.{slice_get, sym, ap, subst, ◌∙◌, ℕ, List, map, History, points_of, recorded, Track}
+use Rattle.layout_uses.proofs.Common.{unnumbered, unnumbered_history, IsNumbered}
 use Rattle.project_state.proofs.MeantHistories.{mapped_recorded}
-use Rattle.layout_uses.specs.Drawing.{IsNumbered}
 use Rattle.layout_uses.proofs.InTurn.{point_among, recorded_numbers}
 use Rattle.layout_uses.proofs.numbering.Numbered.record.Goals.{in-Ok, in-Err}
 use Rattle.layout_uses.proofs.numbering.Numbered.record.Goals as goal

@@ -1,8 +1,5 @@
 -- The last use of a layout, or another one.
-use Rattle.std.proofs.Common.{sym, subst, ◌∙◌}
-use Rattle.block_ledger.specs.Entries.{count_of}
-use Rattle.clip_track.specs.Clips.{layout_blocks}
-use Rattle.layout_uses.specs.{Layouts.numbers_of, Occurrences.Dropped, Occurrences.HasAll}
+use Rattle.layout_uses.proofs.Common.{sym, subst, ◌∙◌, count_of, layout_blocks, numbers_of, Dropped, HasAll}
 use Rattle.layout_uses.proofs.Tracks.{has_last, left_last, left_used, true_false}
 use Rattle.layout_uses.proofs.tally.Tally.leave_track.Goals as goal
 

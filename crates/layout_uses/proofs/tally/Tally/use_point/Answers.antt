@@ -1,6 +1,5 @@
 -- One track more is used.
-use Rattle.std.proofs.Common.{◌≡◌, subst, ℕ, ◌+◌, ◌-◌, drop, arith}
-use Rattle.layout_uses.specs.Tallies.{Comes}
+use Rattle.layout_uses.proofs.Common.{◌≡◌, subst, ℕ, ◌+◌, ◌-◌, drop, arith, Comes}
 use Rattle.layout_uses.proofs.Onward.{came_here, there_here, few_here}
 use Rattle.layout_uses.proofs.tally.Tally.use_point.Goals as goal
 

@@ -1,6 +1,5 @@
 -- The tracks from a place on are used.
-use Rattle.std.proofs.Common.{drop}
-use Rattle.layout_uses.specs.Tallies.{Comes}
+use Rattle.layout_uses.proofs.Common.{drop, Comes}
 use Rattle.layout_uses.proofs.tally.Tally.use_point.Given as goal
 
 abbrev pub invariant-loop-i : goal.invariant-loop-i

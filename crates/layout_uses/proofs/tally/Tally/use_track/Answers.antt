@@ -1,8 +1,5 @@
 -- The first use of a layout, or a further one.
-use Rattle.std.proofs.Common.{sym, subst, ◌∙◌, [], arith}
-use Rattle.block_ledger.specs.Entries.{count_of}
-use Rattle.clip_track.specs.Clips.{layout_blocks}
-use Rattle.layout_uses.specs.{Layouts.numbers_of, Occurrences.Held}
+use Rattle.layout_uses.proofs.Common.{sym, subst, ◌∙◌, [], arith, count_of, layout_blocks, numbers_of, Held}
 use Rattle.layout_uses.proofs.Times.{named_append}
 use Rattle.layout_uses.proofs.Tracks.{came_first, came_again, none_is, some_is, numbers_length}
 use Rattle.layout_uses.proofs.tally.Tally.use_track.Goals as goal

@@ -1,6 +1,5 @@
 -- What is taken, choice by choice.
-use Rattle.std.proofs.Common.{ℕ, sym, ap, ◌∙◌, arith}
-use Rattle.std.proofs.{lemmas.Grind.common_steps, lemmas.Bool.Decides.nat_tests}
+use Rattle.memory_disk.proofs.Common.{ℕ, sym, ap, ◌∙◌, arith, common_steps, nat_tests}
 use Rattle.memory_disk.specs.Images.{next_state, takes}
 use Rattle.memory_disk.proofs.LeftFiles.{takes_all, takes_nothing}
 use Rattle.memory_disk.proofs.draws.Draws.takes.Goals as goal

@@ -1,7 +1,6 @@
 -- The files that have a size are there.
-use Rattle.std.proofs.{Common.◌≡◌, Common.List, Common.sym, Common.ap, Common.◌∙◌, lemmas.Result.on_ok_weaker}
-use Rattle.std.specs.Prelude.{is_some}
-use Rattle.memory_disk.specs.{History.reads_of, Index.head_of, Index.size_from, Ram.Log, declared.heads.Head.Head}
+use Rattle.memory_disk.proofs.Common.{◌≡◌, List, sym, ap, ◌∙◌, is_some, reads_of, head_of, size_from, Log, Head}
+use Rattle.std.proofs.{lemmas.Result.on_ok_weaker}
 use Rattle.memory_disk.proofs.ReadChain.{there_read}
 use Rattle.memory_disk.proofs.log.CallLog.list.Goals as goal
 

@@ -1,9 +1,6 @@
 -- The call stands in the list and in its index.
-use Rattle.std.proofs.Common.{◌≡◌, ◌+◌, ◌∷◌, [], ℕ, List, length, sym, subst, arith}
-use Rattle.std.proofs.lemmas.List.{take_all}
-use Rattle.std.specs.Prelude.{vec_len}
-use Rattle.memory_disk.specs.Calls.{AllHeld, step_by, history_of}
-use Rattle.memory_disk.specs.Index.{MakesFile, reads_at, file_at}
+use Rattle.memory_disk.proofs.Common.{◌≡◌, ◌+◌, ◌∷◌, [], ℕ, List, length, sym, subst, arith, take_all, vec_len, AllHeld}
+use Rattle.memory_disk.proofs.Common.{step_by, history_of, MakesFile, reads_at, file_at}
 use Rattle.memory_disk.proofs.Grown.{on_ok, indexed_grown, indexed_seen, makes_seen, mark_makes_none}
 use Rattle.memory_disk.proofs.log.CallLog.mark.Goals as goal
 

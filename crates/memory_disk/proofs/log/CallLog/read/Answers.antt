@@ -1,8 +1,6 @@
 -- The file's own calls, where it is there.
-use Rattle.std.proofs.Common.{◌≡◌, ◌++◌, ◌-◌, ℕ, Option, Some, None, List, length, min, take, drop, refl, sym, subst}
-use Rattle.std.proofs.Common.{ap, ◌∙◌, arith}
-use Rattle.disk_model.specs.Disk.{bytes_of}
-use Rattle.memory_disk.specs.{History.reads_of, Index.head_of, Index.size_from, Ram.Log, declared.heads.Head.Head}
+use Rattle.memory_disk.proofs.Common.{◌≡◌, ◌++◌, ◌-◌, ℕ, Option, Some, None, List, length, min, take, drop, refl, sym}
+use Rattle.memory_disk.proofs.Common.{subst, ap, ◌∙◌, arith, bytes_of, reads_of, head_of, size_from, Log, Head}
 use Rattle.memory_disk.proofs.ReadChain.{absent_read, reads_seen, head_seen}
 use Rattle.memory_disk.proofs.log.CallLog.read.Goals as goal
 

@@ -1,7 +1,6 @@
 -- The head has the size.
-use Rattle.std.proofs.Common.{ℕ, Option, IfSome, ◌≤◌, ◌^◌, length, sym, subst, ap, ◌∙◌}
-use Rattle.std.specs.Option.{option_map}
-use Rattle.memory_disk.specs.{History.reads_of, Ram.Log}
+use Rattle.memory_disk.proofs.Common.{ℕ, Option, IfSome, ◌≤◌, ◌^◌, length, sym, subst, ap, ◌∙◌, option_map, reads_of}
+use Rattle.memory_disk.proofs.Common.{Log}
 use Rattle.memory_disk.proofs.{Chains.size_bound, ReadChain.size_read}
 use Rattle.memory_disk.proofs.log.CallLog.size.Goals as goal
 

@@ -1,9 +1,8 @@
 -- The write stands in the list and in its index.
-use Rattle.std.proofs.Common.{◌≡◌, ◌+◌, ◌-◌, ◌∷◌, ℕ, None, List, length, refl, sym, ap, ◌∙◌, arith}
-use Rattle.std.proofs.lemmas.Bool.{false≢true}
-use Rattle.std.specs.Prelude.{vec_len}
-use Rattle.memory_disk.specs.{History.Step, History.Wrote, History.reads_of, Calls.history_of, Index.MakesFile}
-use Rattle.memory_disk.specs.{Index.reads_at, Index.file_at, Ram.Log, Ram.files_after, Ram.with_write}
+use Rattle.memory_disk.proofs.Common.{◌≡◌, ◌+◌, ◌-◌, ◌∷◌, ℕ, None, List, length, refl, sym, ap, ◌∙◌, arith, false≢true}
+use Rattle.memory_disk.proofs.Common.{vec_len, Step, Wrote, reads_of, history_of, MakesFile, reads_at, file_at, Log}
+use Rattle.memory_disk.proofs.Common.{files_after}
+use Rattle.memory_disk.specs.{Ram.with_write}
 use Rattle.memory_disk.proofs.Grown.{on_ok, indexed_grown, indexed_seen, makes_seen, made_absent}
 use Rattle.memory_disk.proofs.Places.{size_none, not_both, heads_fit, files_are, full_files, not_full}
 use Rattle.memory_disk.proofs.log.CallLog.write.Goals as goal
@@ -18,17 +17,13 @@ returns-in_err-take_place-clause-full c =
 
 pub note-requires-clause-indexed : goal.note-requires-clause-indexed
 note-requires-clause-indexed c =
-    let row = c.self.inside.row.items in
-    let calls = c.self.inside.calls.items in
-    let longer = c.note_write.new.row.items in
-    let more = c.note_write.new.calls.items in
     let was = c.self.invariant in
     let written = c.note_write.ensures.room (omega (arith, was.calls)) (omega (arith, was.bytes)) in
-    let kept = on_ok c.note_write.result written c.note_write.ensures.kept in
-    let earlier = on_ok c.note_write.result written c.note_write.ensures.earlier in
-    indexed_seen longer c.deref-2.result.now more c.deref.result.now
-    (length calls) _ _ _ c.deref-2.ensures.value c.deref.ensures.value (omega (arith, was.indexed.long))
-    (indexed_grown row longer calls more was.held kept earlier _ _ was.indexed)
+    indexed_seen c.note_write.new.row.items c.deref-2.result.now c.note_write.new.calls.items c.deref.result.now
+    (length c.self.inside.calls.items) _ _ _ c.deref-2.ensures.value c.deref.ensures.value
+    (omega (arith, was.indexed.long))
+    (indexed_grown _ _ _ _ was.held (on_ok c.note_write.result written c.note_write.ensures.kept)
+    (on_ok c.note_write.result written c.note_write.ensures.earlier) _ _ was.indexed)
 
 pub invariant_of-self-2 : goal.invariant_of-self-2
 invariant_of-self-2 c =

@@ -1,7 +1,5 @@
 -- What the choices leave.
-use Rattle.std.proofs.Common.{ℕ, sym, ◌∙◌, ap, subst, length}
-use Rattle.memory_disk.specs.{Histories.image_since, History.IsImage, Images.image_of, Ram.Ram}
-use Rattle.disk_model.specs.Disk.{Files}
+use Rattle.memory_disk.proofs.Common.{ℕ, sym, ◌∙◌, ap, subst, length, image_since, IsImage, image_of, Ram, Files}
 use Rattle.memory_disk.proofs.LeftFiles.{image_0, image_1, image_is_image}
 use Rattle.memory_disk.proofs.ram.RamStore.image.Goals as goal
 

@@ -1,6 +1,5 @@
 -- The images after a removal.
-use Rattle.std.proofs.Common.{◌∷◌, ap, ◌∙◌}
-use Rattle.memory_disk.specs.{History.Removed, Ram.Log, Ram.Ram}
+use Rattle.memory_disk.proofs.Common.{◌∷◌, ap, ◌∙◌, Removed, Log, Ram}
 use Rattle.memory_disk.proofs.Following.{remove_same, remove_more}
 use Rattle.memory_disk.proofs.ram.RamStoreStore.remove.Goals as goal
 

@@ -1,6 +1,5 @@
 -- The images after a sync.
-use Rattle.std.proofs.Common.{◌∷◌, ap, ◌∙◌}
-use Rattle.memory_disk.specs.{History.Synced, Ram.Log, Ram.Ram}
+use Rattle.memory_disk.proofs.Common.{◌∷◌, ap, ◌∙◌, Synced, Log, Ram}
 use Rattle.memory_disk.proofs.Following.{sync_more}
 use Rattle.memory_disk.proofs.ram.RamStoreStore.sync.Goals as goal
 

@@ -1,6 +1,5 @@
 -- The images after a write.
-use Rattle.std.proofs.Common.{◌∷◌, ap, ◌∙◌}
-use Rattle.memory_disk.specs.{History.Wrote, Ram.Log, Ram.Ram}
+use Rattle.memory_disk.proofs.Common.{◌∷◌, ap, ◌∙◌, Wrote, Log, Ram}
 use Rattle.memory_disk.proofs.Following.{write_same, write_more}
 use Rattle.memory_disk.proofs.ram.RamStoreStore.write_at.Goals as goal
 

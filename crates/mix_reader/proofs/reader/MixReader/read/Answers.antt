@@ -1,14 +1,8 @@
 -- As many as there are.
-use Rattle.std.proofs.Common.{◌≡◌, ◌+◌, ◌-◌, ℕ, length, take, drop, map, min, ap, ◌∙◌, arith}
-use Rattle.std.proofs.lemmas.List.{length-take}
-use Rattle.pcm_base.proofs.Exits.{exit_err}
-use Rattle.disk_model.specs.Disk.{Files}
-use Rattle.pcm_base.specs.Mix.{frame_at, mix_length, mix_of}
-use Rattle.pcm_base.specs.{declared.sound.Frame.Frame, Arithmetic.counted_from, Cells.Project}
-use Rattle.project_state.specs.Meaning.{meant, point_blocks}
-use Rattle.block_cache.proofs.ReaderLaws.{reads_err, reads_ok}
-use Rattle.cell_reader.specs.Stored.{stored_of}
-use Rattle.cell_reader.proofs.{SeenLaws.valid_in, PartLists.take_front, PartLists.drop_front}
+use Rattle.mix_reader.proofs.Common.{◌≤◌, ◌≡◌, ◌+◌, ◌-◌, ℕ, length, take, drop, map, min, ap, ◌∙◌, arith, length-take}
+use Rattle.mix_reader.proofs.Common.{exit_err, Files, frame_at, mix_length, mix_of, Frame, counted_from, Project, meant}
+use Rattle.mix_reader.proofs.Common.{point_blocks, reads_err, reads_ok, stored_of, valid_in, take_front, drop_front}
+use Rattle.mix_reader.proofs.Common.{mix_length_of}
 use Rattle.mix_reader.proofs.{CountLaws.made_from, PageLaws.heard_part, TrackLaws.stored_meant}
 use Rattle.mix_reader.proofs.reader.MixReader.read.Goals as goal
 
@@ -61,9 +55,16 @@ returns-in_err-mix_stretches-clause-hit g c =
     let at = a.self.now.at in
     let count = c.min-count.result in
     let m : ℕ = length (take count a.out.now) in
-    rw (exit_err c.from_residual.result c.from_residual.ensures.1)
-    (λ has. c.in_err-mix_stretches.ensures.hit (heard_part a.reader.now.cache at (at + length a.out.now) at (at + m)
-    a.self.now.point.now (omega arith) (omega (arith, length-take count a.out.now)) has))
+    let to : ℕ = at + min (length a.out.now) (mix_length_of a.self.now.point.now - at) in
+    let within : at + m ≤ to = omega (
+      arith,
+      length-take count a.out.now,
+      c.min-count.ensures,
+      c.saturating_sub-left.ensures,
+      c.mix_len.ensures.value,
+    ) in
+    rw (exit_err c.from_residual.result c.from_residual.ensures.1) (λ has. c.in_err-mix_stretches.ensures.hit
+    (heard_part a.reader.now.cache at to at (at + m) a.self.now.point.now (omega arith) within has))
 
 pub returns-clause-hit : goal.returns-clause-hit
 returns-clause-hit g c = λ has.
@@ -71,5 +72,13 @@ returns-clause-hit g c = λ has.
     let at = a.self.now.at in
     let count = c.min-count.result in
     let m : ℕ = length (take count a.out.now) in
-    c.in_ok-mix_stretches.ensures.hit (heard_part a.reader.now.cache at (at + length a.out.now) at (at + m)
-    a.self.now.point.now (omega arith) (omega (arith, length-take count a.out.now)) has)
+    let to : ℕ = at + min (length a.out.now) (mix_length_of a.self.now.point.now - at) in
+    let within : at + m ≤ to = omega (
+      arith,
+      length-take count a.out.now,
+      c.min-count.ensures,
+      c.saturating_sub-left.ensures,
+      c.mix_len.ensures.value,
+    ) in
+    c.in_ok-mix_stretches.ensures.hit
+    (heard_part a.reader.now.cache at to at (at + m) a.self.now.point.now (omega arith) within has)

@@ -1,8 +1,6 @@
 -- One frame more is stored.
-use Rattle.std.proofs.Common.{◌≡◌, ℤ, refl, arith, ◌∙◌, to_z, of_z, w32}
-use Rattle.std.proofs.{lemmas.Int.ints, lemmas.List.take_more_set, lemmas.List.FromFn.map-range_with_len_more}
-use Rattle.std.specs.Prelude.{◌+ℤ◌}
-use Rattle.mixdown.specs.Sums.{sum_in, limited, frame_in}
+use Rattle.mixdown.proofs.Common.{◌≡◌, ℤ, refl, arith, ◌∙◌, to_z, of_z, w32, ints, take_more_set}
+use Rattle.mixdown.proofs.Common.{map-range_with_len_more, ◌+ℤ◌, sum_in, limited, frame_in}
 use Rattle.mixdown.proofs.sums.Sums.limit.Goals as goal
 
 frame_is : (a b l r : ℤ) → a ≡ l → b ≡ r → limited a b ≡ limited l r

@@ -1,7 +1,5 @@
 -- The first k frames are those of the sums.
-use Rattle.std.proofs.Common.{◌≡◌, map, take}
-use Rattle.std.specs.List.{range_with_len}
-use Rattle.mixdown.specs.Sums.{frame_in}
+use Rattle.mixdown.proofs.Common.{◌≡◌, map, take, range_with_len, frame_in}
 use Rattle.mixdown.proofs.sums.Sums.limit.Given as goal
 
 abbrev pub invariant-loop-k : goal.invariant-loop-k

@@ -8,50 +8,23 @@ invariant_of-seat g c =
     record { rests = rests _ _ c.in_default.ensures.took (ap (λ s. s.me.0.stage) c.args.seat.now.rests) }
 
 pub give-requires-clause-value : goal.give-requires-clause-value
-give-requires-clause-value g c = gives_value g.T.Stands.stands g.T.Stands.maker c.args.self.now.table.shared.key.value
-    g.F.FnMut c.args.f.now c.f-reply.new.self g.J.AddsEntry.added c.f-reply.result
-    c.args.seat.now.place.me c.take.new.place.me c.swap.new.place.me c.swap-left.new.place.me c.in-Some.word
-    c.swap.result c.unwrap-value.result c.f-reply.new.arg2 c.in-Some.ensures.took.0
-    (ap (λ s. s.me.1) c.args.seat.now.rests) c.requires.seat.1 c.in-Some.ensures.took.2 c.swap.ensures.2
-    c.swap.ensures.3 c.unwrap-value.ensures
-    record {
-      shown = _;
-      shows = refl;
-      left = _;
-      called = c.f-reply.ensures;
-      leaves = refl;
-    } c.swap-left.ensures.3 c.requires.fits
+give-requires-clause-value g c = gives_value c.in-Some.ensures.took.0 (ap (λ s. s.me.1) c.args.seat.now.rests)
+    c.requires.seat.1 c.in-Some.ensures.took.2 c.swap.ensures.2 c.swap.ensures.3 c.unwrap-value.ensures
+    record { shown = _; shows = refl; left = _; called = c.f-reply.ensures; leaves = refl }
+    c.swap-left.ensures.3 c.requires.fits
 
 pub give-requires-clause-entry : goal.give-requires-clause-entry
-give-requires-clause-entry g c = gives_entry g.T.Stands.stands g.T.Stands.maker c.args.self.now.table.shared.key.value
-    g.F.FnMut c.args.f.now c.f-reply.new.self g.J.AddsEntry.added c.f-reply.result
-    c.args.seat.now.place.me c.take.new.place.me c.swap.new.place.me c.swap-left.new.place.me c.in-Some.word
-    c.swap.result c.unwrap-value.result c.f-reply.new.arg2 c.in-Some.ensures.took.0
-    (ap (λ s. s.me.1) c.args.seat.now.rests) c.requires.seat.1 c.in-Some.ensures.took.2 c.swap.ensures.2
-    c.swap.ensures.3 c.unwrap-value.ensures
-    record {
-      shown = _;
-      shows = refl;
-      left = _;
-      called = c.f-reply.ensures;
-      leaves = refl;
-    } c.swap-left.ensures.3 c.requires.fits
+give-requires-clause-entry g c = gives_entry c.in-Some.ensures.took.0 (ap (λ s. s.me.1) c.args.seat.now.rests)
+    c.requires.seat.1 c.in-Some.ensures.took.2 c.swap.ensures.2 c.swap.ensures.3 c.unwrap-value.ensures
+    record { shown = _; shows = refl; left = _; called = c.f-reply.ensures; leaves = refl }
+    c.swap-left.ensures.3 c.requires.fits
 
 pub invariant_of-seat-2 : goal.invariant_of-seat-2
 invariant_of-seat-2 g c = record { rests = rests _ _ c.give.ensures.2 refl }
 
 pub returns-clause-turned : goal.returns-clause-turned
-returns-clause-turned g c = turned g.T.Stands.stands g.T.Stands.maker c.args.self.now.table.shared.key.value g.F.FnMut
-    c.args.f.now c.f-reply.new.self g.J.AddsEntry.added c.f-reply.result
-    c.args.seat.now.place.me c.take.new.place.me c.swap.new.place.me c.swap-left.new.place.me c.in-Some.word
-    c.swap.result c.unwrap-value.result c.f-reply.new.arg2 c.in-Some.ensures.took.0
-    (ap (λ s. s.me.1) c.args.seat.now.rests) c.requires.seat.1 c.in-Some.ensures.took.2 c.swap.ensures.2
-    c.swap.ensures.3 c.unwrap-value.ensures
-    record {
-      shown = _;
-      shows = refl;
-      left = _;
-      called = c.f-reply.ensures;
-      leaves = refl;
-    } c.swap-left.ensures.3 c.requires.fits
+returns-clause-turned g c = turned c.in-Some.ensures.took.0 (ap (λ s. s.me.1) c.args.seat.now.rests)
+    c.requires.seat.1 c.in-Some.ensures.took.2 c.swap.ensures.2 c.swap.ensures.3 c.unwrap-value.ensures
+    record { shown = _; shows = refl; left = _; called = c.f-reply.ensures; leaves = refl }
+    c.swap-left.ensures.3 c.requires.fits
     _ (ap (λ m. m.0) c.give.ensures.2) (ap (λ s. s.me.0.stage) c.args.seat.now.rests)

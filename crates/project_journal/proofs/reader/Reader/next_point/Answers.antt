@@ -1,6 +1,5 @@
 -- A step after what stands at the reader's place among the points.
-use Rattle.std.proofs.Common.{sym, subst}
-use Rattle.project_journal.specs.{declared.reader.Reader.Reader, Reader.GoesOn}
+use Rattle.project_journal.proofs.Common.{sym, subst, Reader, GoesOn}
 use Rattle.project_journal.proofs.Readings.{goes_on}
 use Rattle.project_journal.proofs.reader.Reader.next_point.Goals as goal
 

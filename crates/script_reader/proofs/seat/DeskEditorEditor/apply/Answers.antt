@@ -1,12 +1,12 @@
 -- A command is one turn of the seat.
-use Rattle.std.proofs.Common.{◌≡◌, ◌==◌, inl, sym, ap, refl, ◌∙◌, nat_lt, if◌then◌else◌, Bool, true, false}
+use Rattle.std.proofs.Common.{◌≡◌, ◌==◌, sym, ap, refl, ◌∙◌, nat_lt, if◌then◌else◌, Bool, true, false}
 use Rattle.pcm_base.specs.{declared.command.Command.TheVariants.Bounce, Shape.is_commit, Shape.shape_of}
 use Rattle.pin_turn.specs.Calls.{known}
 use Rattle.studio_seats.specs.Desks.{start_at}
-use Rattle.studio_seats.proofs.OnwardLemmas.{onward_on, onward_turn}
+use Rattle.studio_seats.proofs.OnwardLemmas.{onward_on}
 use Rattle.script_reader.specs.{Calls.IsOfScript, Place.place_of, Place.with_number}
 use Rattle.script_reader.proofs.BounceLemmas.{bounce_as, turn_of}
-use Rattle.script_reader.proofs.SeatLemmas.{err_turn, ok_turn, stays_low}
+use Rattle.script_reader.proofs.SeatLemmas.{err_turn, line_goes, ok_turn, stays_low}
 use Rattle.script_reader.proofs.seat.DeskEditorEditor.apply.Goals as goal
 
 -- a line is one commit or none
@@ -59,23 +59,15 @@ returns-in-Err-clause-turn g c =
 
 pub returns-in-Ok-clause-goes : goal.returns-in-Ok-clause-goes
 returns-in-Ok-clause-goes g c = λ first h.
-    let s = c.args.self.now in (
-      h.0,
-      h.1,
-      onward_on IsOfScript (known first.seat) (known s.seat) (known c.apply-at.new.seat) h.2
-          (onward_turn IsOfScript g.S.Store g.V.Vault (start_at s.desk.now) (known s.seat) (known c.apply-at.new.seat)
-          _ _ _ c.apply-at.result (inl (c.args.command.now, refl)) c.apply-at.ensures.says),
-    )
+    let on = line_goes g.S.Store g.V.Vault (start_at c.args.self.now.desk.now) (known first.seat)
+    (known c.args.self.now.seat) (known c.apply-at.new.seat) _ _ _ c.apply-at.result c.apply-at.ensures.says h.2 in
+    (h.0, h.1, on)
 
 pub returns-in-Err-clause-goes : goal.returns-in-Err-clause-goes
 returns-in-Err-clause-goes g c = λ first h.
-    let s = c.args.self.now in (
-      h.0,
-      h.1,
-      onward_on IsOfScript (known first.seat) (known s.seat) (known c.apply-at.new.seat) h.2
-          (onward_turn IsOfScript g.S.Store g.V.Vault (start_at s.desk.now) (known s.seat) (known c.apply-at.new.seat)
-          _ _ _ c.apply-at.result (inl (c.args.command.now, refl)) c.apply-at.ensures.says),
-    )
+    let on = line_goes g.S.Store g.V.Vault (start_at c.args.self.now.desk.now) (known first.seat)
+    (known c.args.self.now.seat) (known c.apply-at.new.seat) _ _ _ c.apply-at.result c.apply-at.ensures.says h.2 in
+    (h.0, h.1, on)
 
 pub apply-at-requires : goal.apply-at-requires
 apply-at-requires g c = record {

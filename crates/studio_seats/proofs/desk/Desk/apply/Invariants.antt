@@ -1,9 +1,5 @@
 -- The deed of the turn.
-use Rattle.std.proofs.Common.{[], ◌∷◌}
-use Rattle.pcm_base.specs.{declared.command.Call.TheVariants.Line, Run.name_in_line}
-use Rattle.pin_turn.specs.Calls.{known}
-use Rattle.editor_state.specs.{Applied.move_of, Took.as_reply}
-use Rattle.studio_seats.specs.Deeds.{deed}
+use Rattle.studio_seats.proofs.Common.{[], ◌∷◌, Line, name_in_line, known, move_of, as_reply, deed}
 use Rattle.studio_seats.proofs.desk.Desk.apply.Given as goal
 
 abbrev pub ghosts-with : goal.ghosts-with

@@ -1,7 +1,6 @@
 -- At the start there is no deed.
+use Rattle.studio_seats.proofs.Common.{origin, core_of}
 use Rattle.studio_seats.proofs.Chains.{begins}
-use Rattle.studio_seats.specs.Stands.{origin}
-use Rattle.editor_core.specs.Core.{core_of}
 use Rattle.studio_seats.proofs.desk.Desk.new.Goals as goal
 
 pub new-requires : goal.new-requires

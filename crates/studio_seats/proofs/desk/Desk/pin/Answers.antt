@@ -1,28 +1,19 @@
 -- The studio made the call, so the turn made the list longer by its deed.
-use Rattle.std.proofs.Common.{[], refl}
-use Rattle.pin_turn.specs.Calls.{known, start_of}
-use Rattle.editor_state.specs.Took.{silent, as_reply}
-use Rattle.studio_seats.specs.Desks.{start_at}
-use Rattle.studio_seats.proofs.{Grown.does_silent, FrameLemmas.pinned_made, Turns.fits, Turns.is_studio, Turns.says}
-use Rattle.pcm_base.specs.declared.answer.Reply.TheVariants as reply
-use Rattle.pcm_base.specs.declared.command.Call.TheVariants as call
+use Rattle.studio_seats.proofs.Common.{[], refl, Pinned, Pin, as_reply, known, start_at}
+use Rattle.studio_seats.proofs.FrameLemmas.{pinned_made}
+use Rattle.studio_seats.proofs.Turns.{fits_quiet, says_quiet}
 use Rattle.studio_seats.proofs.desk.Desk.pin.Goals as goal
 
 pub with-requires-clause-fits : goal.with-requires-clause-fits
 with-requires-clause-fits g c =
-    fits g.S.Store g.V.Vault _ _ _ _ call.Pin (λ s f'. as_reply reply.Pinned s.what) (λ f'. silent)
-    (λ more x others stood y is. is_studio g.S.Store g.V.Vault (start_of c.args.self.now.turn) x y.now _ stood is)
-    (λ s f' x x' called. does_silent g.S.Store _ _ call.Pin _ [] _ refl called.called.met.0)
+    fits_quiet g.S.Store g.V.Vault _ _ _ _ Pin (λ s. as_reply Pinned s.what) refl (λ y is. is)
+    (λ s f' x x' called. ([], called.called.met.0))
 
 pub returns-clause-says : goal.returns-clause-says
-returns-clause-says g c = says g.S.Store g.V.Vault _ _ _ _ call.Pin (λ s f'. as_reply reply.Pinned s.what)
-    (λ f'. silent) _ (λ s. as_reply reply.Pinned s.what) silent _ _ _ c.with.ensures.turned c.said_by.ensures
-    (λ s x x' called. record {
-      does = does_silent g.S.Store _ _ call.Pin _ [] _ refl called.called.met.0;
-      number = called.called.met.1;
-      what_is = refl;
-      sound_is = refl;
-    })
+returns-clause-says g c =
+    says_quiet g.S.Store g.V.Vault _ _ _ _ Pin (λ s. as_reply Pinned s.what) refl _ _ _ _
+    c.with.ensures.turned c.said_by.ensures
+    (λ s x x' called. (([], called.called.met.0), called.called.met.1))
 
 pub returns-clause-made : goal.returns-clause-made
 returns-clause-made g c = pinned_made g.S.Store g.V.Vault (start_at c.args.self.now) (known c.args.seat.now)

@@ -1,15 +1,10 @@
 -- The deed of the turn.
-use Rattle.std.proofs.Common.{[], ◌∷◌}
-use Rattle.pin_turn.specs.Calls.{known}
-use Rattle.editor_state.specs.Took.{silent, as_reply}
-use Rattle.studio_seats.specs.Deeds.{deed}
-use Rattle.pcm_base.specs.declared.answer.Reply.TheVariants as reply
-use Rattle.pcm_base.specs.declared.command.Call.TheVariants as call
-use Rattle.pcm_base.specs.declared.command.Command.TheVariants as command
+use Rattle.studio_seats.proofs.Common.{Freed, Line, Reclaim, known, as_reply}
+use Rattle.studio_seats.proofs.Turns.{quiet}
 use Rattle.studio_seats.proofs.desk.Desk.reclaim.Given as goal
 
 abbrev pub ghosts-with : goal.ghosts-with
 ghosts-with g a = record {
-  added = λ r f'. deed (known a.seat.now).number (call.Line (command.Reclaim (a.f.now.0.now)))
-      (as_reply reply.Freed r.what) silent ∷ [];
+  added = λ r f'. quiet (known a.seat.now) (Line (Reclaim (a.f.now.0.now)))
+      (as_reply Freed r.what);
 }

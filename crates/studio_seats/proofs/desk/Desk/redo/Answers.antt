@@ -1,26 +1,15 @@
 -- The studio made the call, so the turn made the list longer by its deed.
-use Rattle.std.proofs.Common.{[], refl}
-use Rattle.pin_turn.specs.Calls.{start_of}
-use Rattle.editor_state.specs.Took.{silent, as_reply}
-use Rattle.studio_seats.proofs.{Grown.does_silent, Turns.fits, Turns.is_studio, Turns.says}
-use Rattle.pcm_base.specs.declared.answer.Reply.TheVariants as reply
-use Rattle.pcm_base.specs.declared.command.Call.TheVariants as call
-use Rattle.pcm_base.specs.declared.command.Command.TheVariants as command
+use Rattle.studio_seats.proofs.Common.{[], refl, Done, Line, Redo, as_reply}
+use Rattle.studio_seats.proofs.Turns.{fits_quiet, says_quiet}
 use Rattle.studio_seats.proofs.desk.Desk.redo.Goals as goal
 
 pub with-requires-clause-fits : goal.with-requires-clause-fits
 with-requires-clause-fits g c =
-    fits g.S.Store g.V.Vault _ _ _ _ (call.Line command.Redo) (λ s f'. as_reply (λ _. reply.Done) s.what) (λ f'. silent)
-    (λ more x others stood y is. is_studio g.S.Store g.V.Vault (start_of c.args.self.now.turn) x y.now _ stood is)
-    (λ s f' x x' called. does_silent g.S.Store _ _ (call.Line command.Redo) _ [] _ refl called.called.met.0)
+    fits_quiet g.S.Store g.V.Vault _ _ _ _ (Line Redo) (λ s. as_reply (λ _. Done) s.what) refl (λ y is. is)
+    (λ s f' x x' called. ([], called.called.met.0))
 
 pub returns-clause-says : goal.returns-clause-says
 returns-clause-says g c =
-    says g.S.Store g.V.Vault _ _ _ _ (call.Line command.Redo) (λ s f'. as_reply (λ _. reply.Done) s.what)
-    (λ f'. silent) _ (λ s. as_reply (λ _. reply.Done) s.what) silent _ _ _ c.with.ensures.turned c.said_by.ensures
-    (λ s x x' called. record {
-      does = does_silent g.S.Store _ _ (call.Line command.Redo) _ [] _ refl called.called.met.0;
-      number = called.called.met.1.0;
-      what_is = refl;
-      sound_is = refl;
-    })
+    says_quiet g.S.Store g.V.Vault _ _ _ _ (Line Redo) (λ s. as_reply (λ _. Done) s.what) refl _ _ _ _
+    c.with.ensures.turned c.said_by.ensures
+    (λ s x x' called. (([], called.called.met.0), called.called.met.1.0))

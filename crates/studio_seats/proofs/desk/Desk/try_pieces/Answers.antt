@@ -1,15 +1,14 @@
 -- The studio made the call, so the turn made the list longer by its deed.
-use Rattle.std.proofs.Common.{◌≡◌, ◌⊎◌, inl, ℕ, ◌<◌, [], ◌∙◌, refl, sym, ap, subst, length, take}
-use Rattle.pin_turn.specs.Calls.{start_of}
-use Rattle.editor_state.specs.Took.{silent, as_reply}
+use Rattle.studio_seats.proofs.Common.{◌≡◌, ◌⊎◌, inl, ℕ, ◌<◌, [], ◌∙◌, refl, sym, ap, subst, length, take, start_of}
+use Rattle.studio_seats.proofs.Common.{silent, as_reply}
 use Rattle.studio_seats.proofs.Grown.{does_silent}
-use Rattle.studio_seats.proofs.Turns.{either_by, fits_by, is_studio, says_by, tag_fits}
+use Rattle.studio_seats.proofs.Turns.{either_way, fits, is_studio, says, tag_fits}
 use Rattle.pcm_base.specs.declared.answer.Reply.TheVariants as reply
 use Rattle.pcm_base.specs.declared.command.Call.TheVariants as call
 use Rattle.studio_seats.proofs.desk.Desk.try_pieces.Goals as goal
 
 pub with-requires-clause-fits : goal.with-requires-clause-fits
-with-requires-clause-fits g c = fits_by g.S.Store g.V.Vault _ _ _ _
+with-requires-clause-fits g c = fits g.S.Store g.V.Vault _ _ _ _
     (λ f'. call.Piece c.args.next.track c.args.next.tag (take f'.4.now c.args.next.samples.now))
     (λ s f'. as_reply (λ _. reply.Done) s.what) (λ f'. silent)
     (λ more x others stood y is. (
@@ -28,7 +27,7 @@ with-requires-clause-fits g c = fits_by g.S.Store g.V.Vault _ _ _ _
     called.called.met.1.0)
 
 pub returns-clause-says : goal.returns-clause-says
-returns-clause-says g c = says_by g.S.Store g.V.Vault _ _ _ _
+returns-clause-says g c = says g.S.Store g.V.Vault _ _ _ _
     (λ f'. call.Piece c.args.next.track c.args.next.tag (take f'.4.now c.args.next.samples.now))
     (λ s f'. as_reply (λ _. reply.Done) s.what) (λ f'. silent) _
     (call.Piece c.args.next.track c.args.next.tag (take c.count-1.given.0 c.args.next.samples.now))
@@ -46,9 +45,7 @@ returns-clause-says g c = says_by g.S.Store g.V.Vault _ _ _ _
 pub returns-clause-count : goal.returns-clause-count
 returns-clause-count g c =
     let all : ℕ = length c.args.next.samples.now in
-    either_by g.S.Store g.V.Vault _ _ _ _
-    (λ f'. call.Piece c.args.next.track c.args.next.tag (take f'.4.now c.args.next.samples.now))
-    (λ s f'. as_reply (λ _. reply.Done) s.what) (λ f'. silent) _ _ _ _ c.with.ensures.turned
+    either_way g.S.Store g.V.Vault _ _ _ _ _ _ _ _ _ c.with.ensures.turned
     (λ same. inl (c.count-1.given.1 (sym (λ i. (same i).4.ghost_name)) ∙ (λ i. (same i).4.now) ∙ c.requires.whole))
     (λ s x x' called. subst (λ (n : ℕ). (n ≡ all) ⊎ ((n ≡ 256) × (256 < all)))
     (sym (c.count-1.given.1 (sym called.called.met.0.4))) called.called.met.1.1.1.1)

@@ -1,15 +1,10 @@
 -- The deed of the turn.
-use Rattle.std.proofs.Common.{[], ◌∷◌, take}
-use Rattle.pin_turn.specs.Calls.{known}
-use Rattle.editor_state.specs.Took.{silent, as_reply}
-use Rattle.studio_seats.specs.Deeds.{deed}
-use Rattle.pcm_base.specs.declared.answer.Reply.TheVariants as reply
-use Rattle.pcm_base.specs.declared.command.Call.TheVariants as call
+use Rattle.studio_seats.proofs.Common.{take, Done, Piece, known, as_reply}
+use Rattle.studio_seats.proofs.Turns.{quiet}
 use Rattle.studio_seats.proofs.desk.Desk.try_pieces.Given as goal
 
 abbrev pub ghosts-with : goal.ghosts-with
 ghosts-with g a = record {
-  added = λ r f'. deed (known a.seat.now).number
-      (call.Piece (a.f.now.1.now) (a.f.now.2.now) (take f'.4.now a.f.now.3.now)) (as_reply (λ _. reply.Done) r.what)
-      silent ∷ [];
+  added = λ r f'. quiet (known a.seat.now) (Piece (a.f.now.1.now) (a.f.now.2.now) (take f'.4.now a.f.now.3.now))
+      (as_reply (λ _. Done) r.what);
 }

@@ -1,8 +1,5 @@
 -- A read is one turn of the seat.
-use Rattle.std.proofs.Common.{ℕ, length, subst, sym}
-use Rattle.edit_ports.specs.Answers.{NextAt, after_read}
-use Rattle.pin_turn.specs.Calls.{known}
-use Rattle.studio_seats.specs.{Desks.start_at, Onward.worker, Reads.ReadsOn}
+use Rattle.studio_seats.proofs.Common.{ℕ, length, subst, sym, NextAt, after_read, known, start_at, worker, ReadsOn}
 use Rattle.studio_seats.proofs.FrameLemmas.{back_frames, gives, same_frames, still_made}
 use Rattle.studio_seats.proofs.ReadLemmas.{reads_turn}
 use Rattle.studio_seats.proofs.giver.DeskGiverFrameGiver.give_frames.Goals as goal

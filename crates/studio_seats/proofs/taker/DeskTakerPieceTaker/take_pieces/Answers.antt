@@ -1,13 +1,7 @@
 -- The pieces of some chunks are one turn of the seat, and a reclaim after it another.
-use Rattle.std.proofs.Common.{◌≡◌, ◌+◌, ◌-◌, ◌≤◌, List, ℤ, ℕ, Bool, length, take, sym, ◌∙◌, subst, false, arith}
-use Rattle.std.proofs.lemmas.List.{length-take-le}
-use Rattle.std.specs.Prelude.{IfErr, IfOk, is_err}
-use Rattle.pcm_base.specs.{declared.answer.Reply.TheVariants.Done, declared.command.Call.TheVariants.Piece}
-use Rattle.pin_turn.specs.Calls.{known}
-use Rattle.editor_state.specs.Took.{silent, as_reply}
-use Rattle.edit_ports.specs.Answers.{AreTaken, samples_of}
-use Rattle.studio_seats.specs.Desks.{Says, asked, start_at, views}
-use Rattle.studio_seats.specs.{Pieces.pieces_by, Recording.RecordsOn, Recording.recorder, Stands.origin}
+use Rattle.studio_seats.proofs.Common.{◌≡◌, ◌+◌, ◌-◌, ◌≤◌, List, ℤ, ℕ, Bool, take, sym, ◌∙◌, subst, false, arith, IfErr}
+use Rattle.studio_seats.proofs.Common.{IfOk, is_err, Done, Piece, known, silent, as_reply, AreTaken, samples_of, Says}
+use Rattle.studio_seats.proofs.Common.{asked, start_at, views, pieces_by, RecordsOn, recorder, origin}
 use Rattle.studio_seats.proofs.Batches.{are_taken, if_ok_as, taken_err, taken_is_err, taken_ok, taken_on, tried_first}
 use Rattle.studio_seats.proofs.PieceLemmas.{tagged, takes_err, takes_ok}
 use Rattle.studio_seats.proofs.RecordingLemmas.{number_free, pieces_free, records_free, records_turn}
@@ -34,11 +28,9 @@ pub count_pieces-self-requires-clause-few : goal.count_pieces-self-requires-clau
 count_pieces-self-requires-clause-few g c =
     let s = c.args.self.now in
     let j = c.join_chunks-joined in
-    let xs : List ℤ = take j.result j.new.batch in
-    let long : length xs ≡ j.result =
-    length-take-le j.result j.new.batch (omega (arith, j.ensures.wide, j.ensures.bound)) in
-    let first = tried_first c.args.chunks.now xs j.result c.pieces-tried.result.count (64 - s.since) long
-    j.ensures.pieces j.ensures.known j.ensures.few c.pieces-tried.ensures.count in
+    let first = tried_first c.args.chunks.now j.new.batch j.result c.pieces-tried.result.count (64 - s.since)
+    (omega (arith, j.ensures.wide, j.ensures.bound)) j.ensures.pieces j.ensures.known j.ensures.few
+    c.pieces-tried.ensures.count in
     let few = first.few in
     omega (arith, few, s.few, c.pieces_in-pieces.ensures)
 
@@ -47,13 +39,11 @@ returns-clause-taken g c =
     let s = c.args.self.now in
     let number = (start_at s.desk.now).commit_number in
     let j = c.join_chunks-joined in
-    let xs : List ℤ = take j.result j.new.batch in
-    let long : length xs ≡ j.result =
-    length-take-le j.result j.new.batch (omega (arith, j.ensures.wide, j.ensures.bound)) in
     let tried = c.pieces-tried.result in
-    let samples : List ℤ = take tried.count xs in
-    let first = tried_first c.args.chunks.now xs j.result tried.count (64 - s.since) long
-    j.ensures.pieces j.ensures.known j.ensures.few c.pieces-tried.ensures.count in
+    let samples : List ℤ = take tried.count (take j.result j.new.batch) in
+    let first = tried_first c.args.chunks.now j.new.batch j.result tried.count (64 - s.since)
+    (omega (arith, j.ensures.wide, j.ensures.bound)) j.ensures.pieces j.ensures.known j.ensures.few
+    c.pieces-tried.ensures.count in
     let mid = known c.pieces-tried.new.seat in
     let end = known c.count_pieces-self.new.seat in
     let old = pieces_by s.track s.tag (known s.seat).number number (known s.seat).seen in
@@ -96,15 +86,12 @@ pub returns-clause-goes : goal.returns-clause-goes
 returns-clause-goes g c = λ first h.
     let s = c.args.self.now in
     let j = c.join_chunks-joined in
-    let xs : List ℤ = take j.result j.new.batch in
-    let long : length xs ≡ j.result =
-    length-take-le j.result j.new.batch (omega (arith, j.ensures.wide, j.ensures.bound)) in
-    let tried = c.pieces-tried.result in
-    let samples : List ℤ = take tried.count xs in
-    let firsts = tried_first c.args.chunks.now xs j.result tried.count (64 - s.since) long
-    j.ensures.pieces j.ensures.known j.ensures.few c.pieces-tried.ensures.count in
+    let samples : List ℤ = take c.pieces-tried.result.count (take j.result j.new.batch) in
+    let firsts = tried_first c.args.chunks.now j.new.batch j.result c.pieces-tried.result.count (64 - s.since)
+    (omega (arith, j.ensures.wide, j.ensures.bound)) j.ensures.pieces j.ensures.known j.ensures.few
+    c.pieces-tried.ensures.count in
     let many = firsts.many ∙ sym c.pieces_in-pieces.ensures in
-    let said = tried.said in
+    let said = c.pieces-tried.result.said in
     let mid = known c.pieces-tried.new.seat in
     let end = known c.count_pieces-self.new.seat in
     let low = firsts.few in
