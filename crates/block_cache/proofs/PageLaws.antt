@@ -4,14 +4,16 @@ use Rattle.block_cache.proofs.Common.{refl, sym, ap, ◌∙◌, ◌<◌, subst, 
 use Rattle.block_cache.proofs.Common.{bytes_of, BlockRef, Summary, frame_count, samples_in, Level, Short, Long}
 use Rattle.block_cache.proofs.Common.{HasHeader, frame_len, level_place, stored_frames, PageKey, IsFramePage, IsPage}
 use Rattle.block_cache.proofs.Common.{IsSamplePage, frame_key, frames_end, page_end, page_len, sample_key, Entries}
-use Rattle.block_cache.proofs.Common.{IsCacheOf}
+use Rattle.block_cache.proofs.Common.{IsCacheOf, frames_within, size_of}
 use Rattle.std.proofs.lemmas.List.{get_or-drop, get_or-take, length-take, same_lists}
 use Rattle.std.proofs.lemmas.List.FromFn.{get_or-map-range_with_len}
-use Rattle.std.specs.Int.{w16, cast_signed}
+use Rattle.std.proofs.{lemmas.List.Sums.fold-append}
+use Rattle.std.specs.{Int.w16, Int.cast_signed, Prelude.fold}
+use Rattle.peak_summary.specs.Peaks.{joined, nothing}
 use Rattle.sample_block.specs.Faults.{number_at}
 use Rattle.sample_block.proofs.Laws.{get_samples, length_samples}
 use Rattle.block_store.specs.Reads.{stored_frame}
-use Rattle.block_store.proofs.FrameLaws.{length_stored}
+use Rattle.block_store.proofs.FrameLaws.{frames_more, length_stored}
 
 samples_cut : (bytes : List ℕ) (at m skip n : ℕ) → skip + n ≤ m
     → take n (drop skip (samples_in bytes at m)) ≡ samples_in bytes (at + 2 * skip) n
@@ -190,3 +192,35 @@ ends_on was now once l b from done n m same got size =
     let end : from + done + m ≡ from + (done + n) = omega (arith, size) in
     subst (λ (f : Files). frames_end once l b (from + (done + n)) ≤ length (bytes_of (f b.id))) same
     (subst (λ (e : ℕ). frames_end once l b e ≤ length (bytes_of (now b.id))) end got)
+
+-- frames of one page that is read end where the page does, which has so many
+pub at_page_end : {len : ℕ} (P : ℕ → Type 0) (once : Bool) (l : Level) (b : BlockRef) (from n : ℕ)
+    → P (level_place l b.len + 12 * (256 * (from / 256) + len)) → once ≡ false → 0 < n → from % 256 + n ≤ 256
+    → from + n ≤ frame_count (frame_len l) b.len → len ≡ min 256 (frame_count (frame_len l) b.len - 256 * (from / 256))
+    → P (frames_end once l b (from + n))
+at_page_end {len = len} P once l b from n is kept some one within size =
+    let last = page_last (level_place l b.len) (frame_count (frame_len l) b.len) from n some one in
+    let end : level_place l b.len + 12 * (256 * (from / 256) + len) ≡ frames_end false l b (from + n) =
+    omega (arith, last, size, within, some) in
+    subst P (end ∙ ap (λ (o : Bool). frames_end o l b (from + n)) (sym kept)) is
+
+-- frames of a block end within its file
+pub end_in_file : (once : Bool) (l : Level) (b : BlockRef) (from n : ℕ) → from + n ≤ frame_count (frame_len l) b.len
+    → frames_end once l b (from + n) ≤ size_of b.len
+end_in_file true l b from n le = frames_within l b.len from n le
+end_in_file false l b from n le =
+    let within = frames_within l b.len 0 (page_end 256 (frame_count (frame_len l) b.len) (from + n - 1)) (omega arith) in
+    omega (arith, within)
+
+-- the frames so far joined, and the next ones
+pub joined_on : (was now : Files) (l : Level) (b : BlockRef) (from done n : ℕ) (s : Summary) → now ≡ was
+    → s ≡ fold joined nothing (stored_frames (bytes_of (was b.id)) l b.len from done)
+    → fold joined s (stored_frames (bytes_of (now b.id)) l b.len (from + done) n)
+    ≡ fold joined nothing (stored_frames (bytes_of (was b.id)) l b.len from (done + n))
+joined_on was now l b from done n s same is =
+    let bytes : List ℕ = bytes_of (was b.id) in
+    let next : List Summary = stored_frames bytes l b.len (from + done) n in
+    ap (λ (f : Files). fold joined s (stored_frames (bytes_of (f b.id)) l b.len (from + done) n)) same
+    ∙ ap (λ (t : Summary). fold joined t next) is
+    ∙ sym (fold-append joined nothing (stored_frames bytes l b.len from done) next)
+    ∙ ap (fold joined nothing) (sym (frames_more bytes l b.len from done n))

@@ -1,15 +1,17 @@
 -- Reads in turn, by what each leaves of a reader.
 use Rattle.block_cache.proofs.Common.{◌≡◌, ◌∙◌, ◌≤◌, ℕ, ℤ, List, [], ◌∷◌, Contains, Option, refl, ap, subst, IsTrue}
 use Rattle.block_cache.proofs.Common.{Contains-head, Files, bytes_of, Kept, Ghosts, tells_on, kept_none, kept_turn}
-use Rattle.block_cache.proofs.Common.{BlockRef, size_of, KeepsCache}
+use Rattle.block_cache.proofs.Common.{BlockRef, size_of, KeepsCache, Entries, sym}
 use Rattle.std.proofs.Common.{Result, Ok, Err}
 use Rattle.std.proofs.lemmas.Result.{IfErr-weaker}
 use Rattle.std.specs.Prelude.{IfErr}
 use Rattle.disk_model.proofs.Frames.{Fewer}
-use Rattle.block_store.specs.{declared.fault.BlockFault.BlockFault, Reads.Counted, Reads.IsFaultIn, Reads.IsReadFault}
+use Rattle.block_store.specs.{declared.fault.BlockFault.BlockFault, Reads.Counted, Reads.IsFault, Reads.IsFaultIn}
+use Rattle.block_store.specs.{Reads.IsReadFault}
 use Rattle.block_store.proofs.FaultLaws.{fault_on}
 use Rattle.sample_block.specs.{Blocks.blocks}
 use Rattle.block_cache.specs.{declared.reader.BlockReader.BlockReader, Readers.Reads}
+use Rattle.block_store.specs.declared.fault.BlockFault.TheVariants as fault
 use Rattle.block_cache.proofs.CacheLaws.{keeps_more, keeps_same, keeps_then, same_none}
 
 -- a fault of a read of a block, among those of this block alone
@@ -33,6 +35,23 @@ module _ {D : Type 0} {disk : Ghosts D} where
     faults = faults;
     cache = cache;
     damaged = λ told. fault_in (disk.reads old.store) b end r le (damaged told);
+  }
+
+  -- a read that names no block, which the disk alone may refuse, among reads of some blocks
+  pub reads_any : {T : Type 0} (bs : List BlockRef) (b : BlockRef) (old new : BlockReader D disk)
+      (r : Result T BlockFault) → Contains bs b → Kept disk old.store new.store
+      → Counted r (disk.read_fault_count old.store) (disk.read_fault_count new.store) → new.cache ≡ old.cache
+      → IfErr r (λ e. e ≡ fault.DiskFault) → Reads bs old new r
+  reads_any bs b old new r has kept faults same only = record {
+    kept = kept;
+    faults = faults;
+    cache = subst (λ (c : Entries). KeepsCache (disk.tells old.store) (disk.reads old.store) bs old.cache c) (sym same)
+        (keeps_same (same_none old.cache));
+    damaged = λ told.
+        let files : Files = disk.reads old.store in
+        IfErr-weaker r (λ e. e ≡ fault.DiskFault) (λ e. IsFaultIn files bs e)
+        (λ e is. (b, has, subst (λ (why : BlockFault). IsFault b.id b.len (bytes_of (files b.id)) why) (sym is) tt))
+        only;
   }
 
   -- no read at all

@@ -1,7 +1,8 @@
 // The cache.
 ghost use Rattle.std.specs.Prelude.{◌≡◌, ◌⊎◌, ◌+◌, ◌≤◌, Bool, true, false, ℕ, ℤ, List, IfOk, length, take, drop};
-ghost use Rattle.std.specs.Prelude.{Contains};
+ghost use Rattle.std.specs.Prelude.{Contains, IfSome, None, fold};
 ghost use Rattle.disk_model.specs.Disk.{Files};
+ghost use Rattle.peak_summary.specs.Peaks.{joined};
 ghost use Rattle.peak_summary.specs.declared.stretch.Summary.{Summary as summary_of};
 ghost use Rattle.block_cache.specs.declared.keys.PageKey.{PageKey as key_of};
 ghost use Rattle.block_cache.specs.Entries.{HasKey};
@@ -9,7 +10,7 @@ ghost use Rattle.block_cache.specs.Pages.{IsPage, page_len};
 ghost use Rattle.block_cache.specs.Caches.{AllPass, IsBounded, IsCacheOf, IsCacheWithout, SameCache, no_entries};
 
 use super::keys::PageKey;
-use super::pages::{copy_page, drop_pages, keep_page, release_page};
+use super::pages::{copy_page, drop_pages, join_page, keep_page, release_page};
 use lru::LruCache;
 use pcm_base::NoMemory;
 use peak_summary::Summary;
@@ -106,6 +107,13 @@ impl Cache {
         let _ = self.headers.demote(&key);
     }
 
+    // Whether a page of samples is there.
+    pub(crate) fn has_samples(&self, key: PageKey) -> bool
+        ensures { result ≡ false → HasKey self.now.samples key → ⊥ }
+    {
+        self.samples.contains(&key)
+    }
+
     // Copies samples of a page from a number on, where the page is there, and answers whether it is.
     pub(crate) fn copy_samples(&mut self, key: PageKey, skip: usize, out: &mut [i16]) -> bool
         requires { skip + length out.old ≤ page_len key }
@@ -145,6 +153,23 @@ impl Cache {
         ensures same { SameCache self.old self.new }
     {
         copy_page(&mut self.frames, key, skip, out)
+    }
+
+    // Joins frames of a page from a number on to what is before them, where the page is there.
+    pub(crate) fn join_frames(
+        &mut self,
+        key: PageKey,
+        skip: usize,
+        count: usize,
+        before: Summary,
+    ) -> Option<Summary>
+        requires { skip + count ≤ page_len key }
+        ensures there { IfSome result (λ s. (fs : List summary_of) × Contains self.old.frames (key, fs)
+            × IsPage key (length fs) × (s ≡ fold joined before (take count (drop skip fs)))) }
+        ensures missed { result ≡ None → HasKey self.old.frames key → ⊥ }
+        ensures same { SameCache self.old self.new }
+    {
+        join_page(&mut self.frames, key, skip, count, before)
     }
 
     pub(crate) fn keep_frames(&mut self, key: PageKey, frames: &[Summary])

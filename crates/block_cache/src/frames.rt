@@ -1,9 +1,9 @@
 // Frames of a block, by pages that are kept.
 ghost use Rattle.std.specs.Prelude.{◌≡◌, ◌+◌, ◌-◌, ◌*◌, ◌/◌, ◌%◌, ◌<◌, ◌≤◌, [], ◌∷◌, length, take, drop, IsTrue, IsOk};
-ghost use Rattle.std.specs.Prelude.{IsOkUnless, List, ℤ, Some, OnOk, IfErr};
+ghost use Rattle.std.specs.Prelude.{IsOkUnless, List, ℤ, Some, OnOk, IfErr, IfOk, fold, min, true, false};
 ghost use Rattle.disk_model.specs.Disk.{bytes_of};
 ghost use Rattle.disk_model.specs.Frames.{Kept};
-ghost use Rattle.peak_summary.specs.Peaks.{frame_count, frames_of};
+ghost use Rattle.peak_summary.specs.Peaks.{frame_count, frames_of, joined, nothing};
 ghost use Rattle.sample_block.specs.Spelling.{IsBlock};
 ghost use Rattle.sample_block.specs.Blocks.{blocks};
 ghost use Rattle.block_store.specs.declared.fault.BlockFault.TheVariants as fault;
@@ -15,6 +15,7 @@ ghost use Rattle.block_cache.specs.Caches.{HasFrames, IsCacheOf, KeepsCache, Sam
 use super::cache::Cache;
 use super::headers::compare_kept;
 use super::keys::frame_key;
+use super::pages::join_all;
 use block_store::{BlockFault, Level, read_compared_frames};
 use disk_model::Store;
 use pcm_base::BlockRef;
@@ -32,6 +33,44 @@ fn frames_in(level: Level, len: usize) -> usize
         Level::Short => len.div_ceil(256),
         Level::Long => len.div_ceil(LONG_FRAME as usize),
     }
+}
+
+/// Reads a whole page of frames, and keeps it.
+fn fill_page<S: Store>(
+    store: &mut S,
+    cache: &mut Cache,
+    block: BlockRef,
+    level: Level,
+    page: usize,
+    frames: &mut [Summary],
+) -> Result<(), BlockFault>
+    requires block { IsBlock block.id block.len }
+    requires within { 256 * page < frame_count (frame_len level) block.len }
+    requires size { length frames.old ≡ min 256 (frame_count (frame_len level) block.len - 256 * page) }
+    requires cached { IsTrue (S.tells store.old) → IsCacheOf (S.reads store.old) cache.old }
+    ensures cache { KeepsCache (S.tells store.old) (S.reads store.old) (block ∷ []) cache.old cache.new }
+    ensures frames { IsTrue (S.tells store.old)
+        → OnOk result (frames.new
+        ≡ stored_frames (bytes_of (S.reads store.old block.id)) level block.len (256 * page) (length frames.old)) }
+    ensures header { IsTrue (S.tells store.old)
+        → OnOk result (HasHeader block.id block.len (bytes_of (S.reads store.old block.id))) }
+    ensures whole { IsTrue (S.tells store.old) → OnOk result
+        (level_place level block.len + 12 * (256 * page + length frames.old)
+        ≤ length (bytes_of (S.reads store.old block.id))) }
+    ensures damaged { IsTrue (S.tells store.old) → IfErr result (λ e. IsReadFault block.id block.len
+        (level_place level block.len + 12 * (256 * page + length frames.old))
+        (bytes_of (S.reads store.old block.id)) e) }
+    ensures kept { Kept S.Store store.old store.new }
+    ensures faults { Counted result (S.read_fault_count store.old) (S.read_fault_count store.new) }
+{
+    if let Err(fault) = compare_kept(store, cache, block) {
+        return Err(fault);
+    }
+    if let Err(fault) = read_compared_frames(store, block, level, (PAGE * page) as u32, frames) {
+        return Err(fault);
+    }
+    cache.keep_frames(frame_key(level, block, page as u32), frames);
+    Ok(())
 }
 
 /// Reads the whole page of frames that lie on one page, and keeps it.
@@ -65,17 +104,12 @@ fn load_page<S: Store>(
 {
     let page = from / PAGE;
     let skip = from % PAGE;
-    let start = page * PAGE;
     let mut buf = [NOTHING; PAGE];
-    let len = PAGE.min(frames_in(level, block.len as usize) - start);
-    if let Err(fault) = compare_kept(store, cache, block) {
-        return Err(fault);
-    }
+    let len = PAGE.min(frames_in(level, block.len as usize) - PAGE * page);
     let frames = &mut buf[..len];
-    if let Err(fault) = read_compared_frames(store, block, level, start as u32, frames) {
+    if let Err(fault) = fill_page(store, cache, block, level, page, frames) {
         return Err(fault);
     }
-    cache.keep_frames(frame_key(level, block, page as u32), frames);
     out.copy_from_slice(&frames[skip..skip + out.len()]);
     Ok(())
 }
@@ -114,11 +148,11 @@ fn read_alone<S: Store>(
 
 /// Frames of a level of a block, from a number on. Those that are read once are read alone where their page is not kept.
 #[derive(Clone, Copy)]
-struct FramePart {
-    block: BlockRef,
-    level: Level,
-    from: usize,
-    once: bool,
+pub(crate) struct FramePart {
+    pub(crate) block: BlockRef,
+    pub(crate) level: Level,
+    pub(crate) from: usize,
+    pub(crate) once: bool,
 }
 
 /// Reads frames that lie on one page, by the page where it is kept.
@@ -306,4 +340,166 @@ pub fn read_frames_once<S: Store>(
         once: true,
     };
     read_pages(store, cache, part, out)
+}
+
+/// Joins frames of one page to what is before them. The whole page is read, and kept.
+#[inline(never)]
+fn join_loaded<S: Store>(
+    store: &mut S,
+    cache: &mut Cache,
+    part: FramePart,
+    count: usize,
+    before: Summary,
+) -> Result<Summary, BlockFault>
+    requires block { IsBlock part.block.id part.block.len }
+    requires within { part.from + count ≤ frame_count (frame_len part.level) part.block.len }
+    requires some { 0 < count }
+    requires one { part.from % 256 + count ≤ 256 }
+    requires cached { IsTrue (S.tells store.old) → IsCacheOf (S.reads store.old) cache.old }
+    requires kept { part.once ≡ false }
+    ensures cache { KeepsCache (S.tells store.old) (S.reads store.old) (part.block ∷ []) cache.old cache.new }
+    ensures sum { IsTrue (S.tells store.old) → IfOk result (λ s. s ≡ fold joined before
+        (stored_frames (bytes_of (S.reads store.old part.block.id)) part.level part.block.len part.from count)) }
+    ensures header { IsTrue (S.tells store.old)
+        → OnOk result (HasHeader part.block.id part.block.len (bytes_of (S.reads store.old part.block.id))) }
+    ensures whole { IsTrue (S.tells store.old) → OnOk result
+        (frames_end part.once part.level part.block (part.from + count)
+        ≤ length (bytes_of (S.reads store.old part.block.id))) }
+    ensures damaged { IsTrue (S.tells store.old) → IfErr result (λ e. IsReadFault part.block.id part.block.len
+        (frames_end part.once part.level part.block (part.from + count))
+        (bytes_of (S.reads store.old part.block.id)) e) }
+    ensures kept { Kept S.Store store.old store.new }
+    ensures faults { Counted result (S.read_fault_count store.old) (S.read_fault_count store.new) }
+{
+    let page = part.from / PAGE;
+    let skip = part.from % PAGE;
+    let mut buf = [NOTHING; PAGE];
+    let len = PAGE.min(frames_in(part.level, part.block.len as usize) - PAGE * page);
+    let frames = &mut buf[..len];
+    if let Err(fault) = fill_page(store, cache, part.block, part.level, page, frames) {
+        return Err(fault);
+    }
+    Ok(join_all(before, &frames[skip..skip + count]))
+}
+
+/// The same, and the frames are read alone.
+#[inline(never)]
+fn join_alone<S: Store>(
+    store: &mut S,
+    cache: &mut Cache,
+    part: FramePart,
+    count: usize,
+    before: Summary,
+) -> Result<Summary, BlockFault>
+    requires block { IsBlock part.block.id part.block.len }
+    requires within { part.from + count ≤ frame_count (frame_len part.level) part.block.len }
+    requires some { 0 < count }
+    requires one { part.from % 256 + count ≤ 256 }
+    requires cached { IsTrue (S.tells store.old) → IsCacheOf (S.reads store.old) cache.old }
+    requires once { part.once ≡ true }
+    ensures cache { KeepsCache (S.tells store.old) (S.reads store.old) (part.block ∷ []) cache.old cache.new }
+    ensures sum { IsTrue (S.tells store.old) → IfOk result (λ s. s ≡ fold joined before
+        (stored_frames (bytes_of (S.reads store.old part.block.id)) part.level part.block.len part.from count)) }
+    ensures header { IsTrue (S.tells store.old)
+        → OnOk result (HasHeader part.block.id part.block.len (bytes_of (S.reads store.old part.block.id))) }
+    ensures whole { IsTrue (S.tells store.old) → OnOk result
+        (frames_end part.once part.level part.block (part.from + count)
+        ≤ length (bytes_of (S.reads store.old part.block.id))) }
+    ensures damaged { IsTrue (S.tells store.old) → IfErr result (λ e. IsReadFault part.block.id part.block.len
+        (frames_end part.once part.level part.block (part.from + count))
+        (bytes_of (S.reads store.old part.block.id)) e) }
+    ensures kept { Kept S.Store store.old store.new }
+    ensures faults { Counted result (S.read_fault_count store.old) (S.read_fault_count store.new) }
+{
+    let mut buf = [NOTHING; PAGE];
+    let frames = &mut buf[..count];
+    if let Err(fault) = read_alone(store, cache, part.block, part.level, part.from, frames) {
+        return Err(fault);
+    }
+    Ok(join_all(before, frames))
+}
+
+/// The same: of a page that is kept they are joined where they are, and nothing is read or copied.
+fn join_page<S: Store>(
+    store: &mut S,
+    cache: &mut Cache,
+    part: FramePart,
+    count: usize,
+    before: Summary,
+) -> Result<Summary, BlockFault>
+    requires block { IsBlock part.block.id part.block.len }
+    requires within { part.from + count ≤ frame_count (frame_len part.level) part.block.len }
+    requires some { 0 < count }
+    requires one { part.from % 256 + count ≤ 256 }
+    requires cached { IsTrue (S.tells store.old) → IsCacheOf (S.reads store.old) cache.old }
+    ensures cache { KeepsCache (S.tells store.old) (S.reads store.old) (part.block ∷ []) cache.old cache.new }
+    ensures hit { HasKey cache.old.frames (key_at part.level part.block (part.from / 256))
+        → IsOk result × (store.new ≡ store.old) × SameCache cache.old cache.new }
+    ensures sum { IsTrue (S.tells store.old) → IfOk result (λ s. s ≡ fold joined before
+        (stored_frames (bytes_of (S.reads store.old part.block.id)) part.level part.block.len part.from count)) }
+    ensures header { IsTrue (S.tells store.old)
+        → OnOk result (HasHeader part.block.id part.block.len (bytes_of (S.reads store.old part.block.id))) }
+    ensures whole { IsTrue (S.tells store.old) → OnOk result
+        (frames_end part.once part.level part.block (part.from + count)
+        ≤ length (bytes_of (S.reads store.old part.block.id))) }
+    ensures damaged { IsTrue (S.tells store.old) → IfErr result (λ e. IsReadFault part.block.id part.block.len
+        (frames_end part.once part.level part.block (part.from + count))
+        (bytes_of (S.reads store.old part.block.id)) e) }
+    ensures kept { Kept S.Store store.old store.new }
+    ensures faults { Counted result (S.read_fault_count store.old) (S.read_fault_count store.new) }
+{
+    let key = frame_key(part.level, part.block, (part.from / PAGE) as u32);
+    if let Some(all) = cache.join_frames(key, part.from % PAGE, count, before) {
+        return Ok(all);
+    }
+    if part.once {
+        return join_alone(store, cache, part, count, before);
+    }
+    join_loaded(store, cache, part, count, before)
+}
+
+/// Joins frames, those of a page at a time.
+pub(crate) fn join_pages<S: Store>(
+    store: &mut S,
+    cache: &mut Cache,
+    part: FramePart,
+    count: usize,
+) -> Result<Summary, BlockFault>
+    requires block { IsBlock part.block.id part.block.len }
+    requires within { part.from + count ≤ frame_count (frame_len part.level) part.block.len }
+    requires cached { IsTrue (S.tells store.old) → IsCacheOf (S.reads store.old) cache.old }
+    ensures cache { KeepsCache (S.tells store.old) (S.reads store.old) (part.block ∷ []) cache.old cache.new }
+    ensures hit { HasFrames cache.old part.level part.block part.from count
+        → IsOk result × (store.new ≡ store.old) × SameCache cache.old cache.new }
+    ensures sum { IsTrue (S.tells store.old) → IfOk result (λ s. s ≡ fold joined nothing
+        (stored_frames (bytes_of (S.reads store.old part.block.id)) part.level part.block.len part.from count)) }
+    ensures header { IsTrue (S.tells store.old)
+        → OnOk result (0 < count → HasHeader part.block.id part.block.len (bytes_of (S.reads store.old part.block.id))) }
+    ensures whole { IsTrue (S.tells store.old) → OnOk result (0 < count
+        → frames_end part.once part.level part.block (part.from + count)
+        ≤ length (bytes_of (S.reads store.old part.block.id))) }
+    ensures damaged { IsTrue (S.tells store.old) → IfErr result (λ e. IsReadFault part.block.id part.block.len
+        (frames_end part.once part.level part.block (part.from + count))
+        (bytes_of (S.reads store.old part.block.id)) e) }
+    ensures kept { Kept S.Store store.old store.new }
+    ensures faults { Counted result (S.read_fault_count store.old) (S.read_fault_count store.new) }
+{
+    let mut all = NOTHING;
+    let mut done = 0;
+    'pages: while done < count {
+        let from = part.from + done;
+        let size = (PAGE - from % PAGE).min(count - done);
+        let page = FramePart {
+            block: part.block,
+            level: part.level,
+            from,
+            once: part.once,
+        };
+        match join_page(store, cache, page, size, all) {
+            Ok(more) => all = more,
+            Err(fault) => return Err(fault),
+        }
+        done += size;
+    }
+    Ok(all)
 }

@@ -15,6 +15,7 @@ mod frames;
 mod headers;
 mod keys;
 mod pages;
+mod parts;
 mod reader;
 mod samples;
 mod samples_once;

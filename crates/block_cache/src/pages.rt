@@ -1,12 +1,15 @@
 // Pages of one kind of item, in the order in which they give their places, the next one last.
 ghost use Rattle.std.specs.Prelude.{◌≡◌, ◌≢◌, ◌⊎◌, ◌+◌, ◌≤◌, None, IfSome, true, false, List, length, take, drop};
-ghost use Rattle.std.specs.Prelude.{Contains};
+ghost use Rattle.std.specs.Prelude.{Contains, fold};
 ghost use Rattle.std.specs.Global.{Vec as vec_of};
+ghost use Rattle.peak_summary.specs.Peaks.{joined};
+ghost use Rattle.peak_summary.specs.declared.stretch.Summary.{Summary as summary_of};
 ghost use Rattle.block_cache.specs.declared.keys.PageKey.{PageKey as key_of};
 ghost use Rattle.block_cache.specs.Entries.{HasKey, SameEntries, IsWithout};
 
 use super::keys::PageKey;
 use lru::LruCache;
+use peak_summary::{Summary, join};
 
 /// Copies items of a page from a number on, as many as `out` holds, where the page is there, and answers whether it
 /// is. It is then the one that was used last.
@@ -29,6 +32,39 @@ pub(crate) fn copy_page<T: Copy + Drop>(
             true
         }
         None => false,
+    }
+}
+
+/// The summary of stretches that follow one another, after what is before them.
+pub(crate) fn join_all(before: Summary, frames: &[Summary]) -> Summary
+    ensures { result ≡ fold joined before frames.now }
+{
+    let mut all = before;
+    for frame in frames {
+        all = join(all, *frame);
+    }
+    all
+}
+
+/// Joins frames of a page from a number on, where the page is there, as `copy_page` copies them: they stay where they
+/// are.
+pub(crate) fn join_page(
+    pages: &mut LruCache<PageKey, Vec<Summary>>,
+    key: PageKey,
+    skip: usize,
+    count: usize,
+    before: Summary,
+) -> Option<Summary>
+    requires { (v : vec_of summary_of) → Contains pages.old.entries (key, v) → skip + count ≤ length v.items }
+    ensures there { IfSome result (λ s. (v : vec_of summary_of) × Contains pages.old.entries (key, v)
+        × (s ≡ fold joined before (take count (drop skip v.items)))) }
+    ensures missed { result ≡ None → HasKey pages.old.entries key → ⊥ }
+    ensures same { SameEntries pages.old.entries pages.new.entries }
+    ensures cap { pages.new.cap ≡ pages.old.cap }
+{
+    match pages.get(&key) {
+        Some(page) => Some(join_all(before, &page[skip..skip + count])),
+        None => None,
     }
 }
 

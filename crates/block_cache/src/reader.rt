@@ -5,11 +5,14 @@ ghost use Rattle.block_cache.specs.Rights.{right_prop};
 
 use super::cache::Cache;
 use super::drops::remove_block_cached;
-use super::frames::{read_frames_cached, read_frames_once};
-use super::samples::read_samples_cached;
+use super::frames::{FramePart, join_pages, read_frames_cached, read_frames_once};
+use super::headers::compare_kept;
+use super::keys::sample_key;
+use super::parts::read_together;
+use super::samples::{PAGE, read_samples_cached};
 use super::samples_once::read_samples_once;
 use block_store::{BlockFault, Level, sync_block};
-use disk_model::Store;
+use disk_model::{Part, Store};
 use pcm_base::BlockRef;
 use peak_summary::Summary;
 
@@ -25,19 +28,23 @@ pub struct BlockReader<S: Store> {
 }
 
 impl<S: Store> BlockReader<S> {
-    ghost use Rattle.std.specs.Prelude.{◌≡◌, ◌^◌, ◌+◌, ◌-◌, ◌*◌, ◌<◌, ◌≤◌, [], ◌∷◌, List, ℤ, length, take, drop};
-    ghost use Rattle.std.specs.Prelude.{Some, None, IsOk, OnOk, IfErr, IsOkUnless};
+    ghost use Rattle.std.specs.Prelude.{◌≡◌, ◌^◌, ◌+◌, ◌-◌, ◌*◌, ◌/◌, ◌<◌, ◌≤◌, ◌↔◌, [], ◌∷◌, List, ℤ, length, take};
+    ghost use Rattle.std.specs.Prelude.{drop, true, false, Some, None, IsOk, OnOk, IfOk, IfErr, IsOkUnless, Contains};
+    ghost use Rattle.std.specs.Prelude.{Bool, fold};
     ghost use Rattle.pcm_base.specs.declared.limits.TheConstants.{COUNTER_LIMIT, FIRST_BLOCK};
     ghost use Rattle.pcm_base.specs.Causes.{HasCause};
     ghost use Rattle.disk_model.specs.Disk.{Files, RemoveStep, StaysStep, bytes_of};
     ghost use Rattle.disk_model.specs.Frames.{Changed};
-    ghost use Rattle.peak_summary.specs.Peaks.{frame_count, frames_of};
+    ghost use Rattle.disk_model.specs.Parts.{AllThere, AreParts, filled};
+    ghost use Rattle.pcm_base.specs.declared.block.BlockRef.{BlockRef as block_of};
+    ghost use Rattle.peak_summary.specs.Peaks.{frame_count, frames_of, joined, nothing};
     ghost use Rattle.sample_block.specs.Spelling.{IsBlock};
     ghost use Rattle.sample_block.specs.Blocks.{blocks};
     ghost use Rattle.sample_block.specs.Faults.{samples_in};
     ghost use Rattle.block_store.specs.declared.fault.BlockFault.TheVariants as fault;
     ghost use Rattle.block_store.specs.Reads.{HasHeader, IsReadFault, frame_len, level_place, stored_frames};
-    ghost use Rattle.block_cache.specs.Pages.{page_end};
+    ghost use Rattle.block_cache.specs.Entries.{HasKey};
+    ghost use Rattle.block_cache.specs.Pages.{frames_end, page_end, sample_key as key_at};
     ghost use Rattle.block_cache.specs.Caches.{HasFrames, HasSamples, IsCacheWithout, SameCache};
     ghost use Rattle.block_cache.specs.Readers.{Reads};
 
@@ -123,6 +130,41 @@ impl<S: Store> BlockReader<S> {
         read_samples_once(&mut self.store, &mut self.cache, block, from, out)
     }
 
+    /// Whether the cache has the page of a sample. It stays in its place there.
+    pub fn has_page(&self, block: BlockRef, from: u32) -> bool
+        ensures { result ≡ false → HasKey self.now.cache.samples (key_at block (from / 4096)) → ⊥ }
+    {
+        self.cache
+            .has_samples(sample_key(block, from / PAGE as u32))
+    }
+
+    /// Compares the header of a block as `compare_header` does, unless the cache has that it was.
+    #[tactic(auto, using(crate::proofs::CacheLaws::cached_on))]
+    pub fn compare(&mut self, block: BlockRef) -> Result<(), BlockFault>
+        requires { IsBlock block.id block.len }
+        ensures reads { Reads (block ∷ []) self.old self.new result }
+        ensures header { IsTrue (S.tells self.old.store)
+            → OnOk result (HasHeader block.id block.len (bytes_of (S.reads self.old.store block.id))) }
+    {
+        compare_kept(&mut self.store, &mut self.cache, block)
+    }
+
+    /// Reads parts of files past the cache, each at its place, in one call of the store. It answers whether each file
+    /// has all of its parts. It compares no header, and keeps no page. Where a part is not there, and after an error,
+    /// `out` may have been written in part.
+    pub fn read_parts(&mut self, parts: &[Part], out: &mut [i16]) -> Result<bool, BlockFault>
+        requires { AreParts 0 (length out.old) parts.now }
+        // Nothing but the disk refuses. So these are reads of whatever blocks the caller has.
+        ensures reads { (b : block_of) (bs : List block_of) → Contains bs b → Reads bs self.old self.new result }
+        ensures there { IsTrue (S.tells self.old.store)
+            → IfOk result (λ all. (all ≡ true) ↔ AllThere (S.reads self.old.store) parts.now) }
+        ensures read { IsTrue (S.tells self.old.store)
+            → IfOk result (λ all. all ≡ true → out.new ≡ filled (S.reads self.old.store) parts.now out.old) }
+        ensures same { self.new.cache ≡ self.old.cache }
+    {
+        read_together(&mut self.store, parts, out)
+    }
+
     /// Reads frames of a level of a block as `read_frames` does, by whole pages of 256 frames, the last of fewer, and
     /// keeps them, as `samples` does. After an error `out` may have been written in part.
     #[tactic(auto, using(crate::proofs::CacheLaws::cached_on))]
@@ -202,6 +244,51 @@ impl<S: Store> BlockReader<S> {
             (bytes_of (S.reads self.old.store block.id)) e) }
     {
         read_frames_once(&mut self.store, &mut self.cache, block, level, from, out)
+    }
+
+    /// Joins so many frames of a level of a block, from a number on. They come as those of `frames`, or `once` as those
+    /// of `frames_once`. Of a page that the cache has they are joined where they are, and not copied.
+    #[tactic(auto, using(crate::proofs::CacheLaws::cached_on))]
+    pub fn join_frames(
+        &mut self,
+        block: BlockRef,
+        level: Level,
+        from: u32,
+        count: u32,
+        once: bool,
+    ) -> Result<Summary, BlockFault>
+        requires block { IsBlock block.id block.len }
+        requires within { from + count ≤ frame_count (frame_len level) block.len }
+        ensures reads { Reads (block ∷ []) self.old self.new result }
+        // Where all pages are there it is Ok, whatever the store would answer, and the store is not called.
+        ensures hit { HasFrames self.old.cache level block from count
+            → IsOk result × (self.new.store ≡ self.old.store) × SameCache self.old.cache self.new.cache }
+        // Of a block of the disk it joins the summaries of its stretches, and then nothing but the disk refuses.
+        ensures read { (xs : List ℤ) → IsTrue (S.tells self.old.store)
+            → blocks (S.reads self.old.store) block.id ≡ Some xs → length xs ≡ block.len
+            → IfOk result (λ s. s ≡ fold joined nothing (take count (drop from (frames_of (frame_len level) xs)))) }
+        ensures valid { (xs : List ℤ) → IsTrue (S.tells self.old.store)
+            → blocks (S.reads self.old.store) block.id ≡ Some xs → length xs ≡ block.len
+            → IsOkUnless result fault.DiskFault }
+        // Of any file it joins what stands there.
+        ensures sum { IsTrue (S.tells self.old.store) → IfOk result (λ s. s ≡ fold joined nothing
+            (stored_frames (bytes_of (S.reads self.old.store block.id)) level block.len from count)) }
+        // Ok comes for the header of this block alone, and where the file has all of the pages, or of them if `once`.
+        ensures header { IsTrue (S.tells self.old.store) → OnOk result (0 < count
+            → HasHeader block.id block.len (bytes_of (S.reads self.old.store block.id))) }
+        ensures whole { IsTrue (S.tells self.old.store) → OnOk result (0 < count
+            → frames_end once level block (from + count) ≤ length (bytes_of (S.reads self.old.store block.id))) }
+        // A fault is a header of another block, or else that the file ends before the last of these does.
+        ensures damaged { IsTrue (S.tells self.old.store) → IfErr result (λ e. IsReadFault block.id block.len
+            (frames_end once level block (from + count)) (bytes_of (S.reads self.old.store block.id)) e) }
+    {
+        let part = FramePart {
+            block,
+            level,
+            from: from as usize,
+            once,
+        };
+        join_pages(&mut self.store, &mut self.cache, part, count as usize)
     }
 
     /// Takes the entries of a block out of the cache and then removes its file, as `remove_block` does: it does not

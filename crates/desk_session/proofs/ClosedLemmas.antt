@@ -2,10 +2,8 @@
 use Rattle.std.proofs.Common.{◌≡◌, inl, inr, ℕ, Bool, true, List, [], ◌∷◌, ◌++◌, length, Option, Some, None, refl, sym}
 use Rattle.std.proofs.Common.{◌∙◌, ap, subst}
 use Rattle.std.specs.Prelude.{IsSomeAnd}
-use Rattle.pcm_base.specs.{declared.limits.TheConstants.COUNTER_LIMIT, declared.command.Call.Call}
-use Rattle.pcm_base.specs.{declared.command.Call.TheVariants.Unpin, Counters.commits_of}
+use Rattle.pcm_base.specs.{declared.limits.TheConstants.COUNTER_LIMIT, declared.command.Call.Call, Counters.commits_of}
 use Rattle.disk_model.specs.declared.store.Store.{Ghosts}
-use Rattle.player_threads.specs.Filled.{reads_to}
 use Rattle.pin_turn.specs.{declared.view.View.View, Counts.Each, Counts.once_below, Counts.times, Rule.ByOthers}
 use Rattle.pin_turn.proofs.Sums.{Each-left}
 use Rattle.editor_state.specs.Core.{Core}
@@ -21,14 +19,13 @@ use Rattle.desk_session.specs.Opening.{IsOpening, Opens, PinDeed, TrackDeed, pla
 use Rattle.desk_session.specs.Sessions.{IsMadeOf, IsScripted, IsSession, place_behind}
 use Rattle.desk_session.specs.Sounds.{AreRecorded, IsRecorded, Recorded, piece_numbers}
 use Rattle.desk_session.specs.{declared.side.Side.Side, declared.outcome.RecordOutcome.RecordOutcome, Lent.Kinds}
-use Rattle.desk_session.specs.{Lent.Lent, Lent.Outcome, Parts.NewPart, Parts.Parted, Sat.Sat, Sides.WhereMade}
+use Rattle.desk_session.specs.{Lent.Lent, Lent.Outcome, Parts.NewPart, Sat.Sat, Sides.WhereMade}
 use Rattle.desk_session.proofs.OpeningLemmas.{own_later, pin_later, track_later}
 use Rattle.desk_session.proofs.RecordedLemmas.{no_numbers, piece_commits, pieces_in}
-use Rattle.desk_session.proofs.{EndLemmas.reads_later, EndLemmas.recorded_later, ListLemmas.all_numbers}
-use Rattle.desk_session.proofs.{ListLemmas.same_rest, MakerLemmas.own_deeds, RejoinLemmas.own_mine, SideLemmas.some_as}
-use Rattle.desk_session.proofs.{SideLemmas.where_both}
+use Rattle.desk_session.proofs.EndLemmas.{reads_later, recorded_later}
+use Rattle.desk_session.proofs.ListLemmas.{all_numbers, same_rest}
+use Rattle.desk_session.proofs.{MakerLemmas.own_deeds, RejoinLemmas.own_mine, SideLemmas.some_as, SideLemmas.where_both}
 use Rattle.edit_ports.specs.declared.source.Source as source
-use Rattle.edit_ports.specs.declared.vault.Vault as vault
 use Rattle.desk_session.specs.declared.side.Side.TheVariants as side
 use Rattle.desk_session.proofs.ListLemmas as list
 
@@ -78,9 +75,6 @@ module _ {D V M P : Type 0} (k : Kinds D V M P) (start final : Core D) (mid : V)
   abbrev n : ℕ
   n = start.commit_number
 
-  abbrev x : Parted D V disk
-  x = record { seat = v; script = s.script; recorder = s.recorder; player = s.player; joined = w }
-
   is_zero : v.number ≡ 0
   is_zero = o.onward.number ∙ first.number
 
@@ -88,17 +82,11 @@ module _ {D V M P : Type 0} (k : Kinds D V M P) (start final : Core D) (mid : V)
   own = own_mine IsOpening u v o.onward (first.mine ∙ sym (ap (places_of (by_seat u.number) 0) first.seen))
       ∙ ap (λ (a : ℕ). places_of (by_seat a) 0 v.seen) (sym o.onward.number)
 
-  abbrev pieces : Call → Type 0
-  pieces = record_calls start.next_track opened.recording
-
-  abbrev reads : Call → Type 0
-  reads = play_calls opened.pin
-
   added_is : v.seen ≡ o.onward.added
-  added_is = o.onward.seen ∙ ap (λ (l : List Deed). l ++ o.onward.added) first.seen
+  added_is = o.onward.seen ∙ (λ i. first.seen i ++ o.onward.added)
 
   all_opening : Each (λ e. by_seat v.number e ≡ true) v.seen
-  all_opening = list.all_opening n pieces reads x s.seats (quiet opened.pin) own counts
+  all_opening = list.all_opening s.seats own counts
 
   opening_is : v.seen ≡ o.track_own ++ o.pin_own
   opening_is = sym (own_deeds (by_seat v.number) v.seen all_opening)
@@ -109,10 +97,10 @@ module _ {D V M P : Type 0} (k : Kinds D V M P) (start final : Core D) (mid : V)
       ∙ ((λ i. numbers_of (by_seat (o.onward.number i)) (number_after n (sym first.seen i)) (added_is i)) ∙ o.numbers)
 
   abbrev rest : List Deed
-  rest = list.rest n pieces reads x s.seats (quiet opened.pin) own counts
+  rest = list.rest s.seats own counts
 
   whole : w.seen ≡ v.seen ++ rest
-  whole = list.whole n pieces reads x s.seats (quiet opened.pin) own counts
+  whole = list.whole s.seats own counts
 
   -- what the seat found before the script it still knows
   known_later : v.used_up ≡ true → w.used_up ≡ true
@@ -120,9 +108,9 @@ module _ {D V M P : Type 0} (k : Kinds D V M P) (start final : Core D) (mid : V)
 
   abbrev made : IsMadeOf w.used_up start.next_track opened w.seen
   made = record {
-    seats = list.seats n pieces reads x s.seats (quiet opened.pin) own counts;
+    seats = list.seats s.seats own counts;
     script_seat = is_zero;
-    apart = list.apart n pieces reads x s.seats (quiet opened.pin) own counts;
+    apart = list.apart s.seats own counts;
     opening = v.seen;
     rest = rest;
     split = whole;
@@ -130,14 +118,13 @@ module _ {D V M P : Type 0} (k : Kinds D V M P) (start final : Core D) (mid : V)
     pin_own = o.pin_own;
     opening_is = opening_is;
     track_is = subst (λ (a : ℕ). TrackDeed w.used_up a opened.recording o.track_own) first.number
-        (track_later v.used_up w.used_up u.number opened.recording o.track_own known_later o.track);
+        (track_later known_later u.number opened.recording o.track_own o.track);
     pin_is = subst (λ (a : ℕ). PinDeed w.used_up a opened.pin o.pin_own) first.number
-        (pin_later v.used_up w.used_up u.number opened.pin o.pin_own known_later o.pin);
-    all = list.all_rest n pieces reads x s.seats (quiet opened.pin) own counts;
-    lines = subst (λ (a : ℕ). Asks IsOfScript a rest) is_zero
-        (list.asks_lines n pieces reads x s.seats (quiet opened.pin) own counts);
-    pieces = list.asks_pieces n pieces reads x s.seats (quiet opened.pin) own counts;
-    reads = list.asks_reads n pieces reads x s.seats (quiet opened.pin) own counts;
+        (pin_later known_later u.number opened.pin o.pin_own o.pin);
+    all = list.all_rest s.seats own counts;
+    lines = subst (λ (a : ℕ). Asks IsOfScript a rest) is_zero (list.asks_lines s.seats own counts);
+    pieces = list.asks_pieces s.seats own counts;
+    reads = list.asks_reads s.seats own counts;
   }
 
   abbrev p : Place
@@ -172,7 +159,7 @@ module _ {D V M P : Type 0} (k : Kinds D V M P) (start final : Core D) (mid : V)
   own_is : deeds_of (by_seat 0) adds.added ≡ deeds_of (by_seat 0) rest
   own_is = ap (deeds_of (by_seat 0)) more_is
       ∙ subst (λ (a : ℕ). deeds_of (by_seat a) s.seats.by_script.added ≡ deeds_of (by_seat a) rest) is_zero
-      (list.script_deeds n pieces reads x s.seats (quiet opened.pin) own counts)
+      (list.script_deeds s.seats own counts)
 
   script_numbers : told.commits ≡ numbers_of (by_seat 0) (number_after n v.seen) s.seats.by_script.added
   script_numbers = adds.numbers ∙ ap (numbers_of (by_seat 0) (number_after n v.seen)) more_is
@@ -193,12 +180,11 @@ module _ {D V M P : Type 0} (k : Kinds D V M P) (start final : Core D) (mid : V)
     later = s.seats.more_script;
     seen = sym whole ∙ s.seats.script_is;
     by_others = subst (λ (a : ℕ). ByOthers actor_of (a ∷ []) s.seats.more_script) is_zero
-        (list.made n pieces reads x s.seats (quiet opened.pin) own counts).script;
+        (list.made s.seats own counts).script;
     numbers = script_numbers
         ∙ subst (λ (a : ℕ). numbers_of (by_seat a) (number_after n v.seen) s.seats.by_script.added
         ≡ numbers_of (by_seat a) (number_after n v.seen) rest) is_zero
-        (list.script_numbers n pieces reads x s.seats (quiet opened.pin) own counts
-        (number_after n v.seen));
+        (list.script_numbers s.seats own counts (number_after n v.seen));
     found = s.seats.script_spent;
     tell_spent = λ had told. s.seats.script_spent ((scripts_spend s.ran.1.lines s.ran.1.printed.answers p q by_line).found
         (Each-left HadTurn q.seen s.seats.more_script
@@ -218,7 +204,7 @@ module _ {D V M P : Type 0} (k : Kinds D V M P) (start final : Core D) (mid : V)
   numbers : Numbers n final.commit_number
       record { opening = record_commits opened.recording; script = told.commits; pieces = piece_numbers out.kept }
   numbers =
-      let merged = list.merged n pieces reads x s.seats (quiet opened.pin) own counts in
+      let merged = list.merged s.seats own counts n (quiet opened.pin) in
       let all = merged_numbers n w.seen _ _ merged in
       let script : numbers_of (by_seat v.number) (number_after n v.seen) s.seats.by_script.added ≡ told.commits =
       ap (λ (a : ℕ). numbers_of (by_seat a) (number_after n v.seen) s.seats.by_script.added) is_zero
@@ -259,29 +245,24 @@ module _ {D V M P : Type 0} (k : Kinds D V M P) (start final : Core D) (mid : V)
           told = is.told;
           is = subst (λ ps. IsRecorded k.mics lent.mic (change [] ps) is.told kept)
               (sym (pieces_in start.next_track tag s.recorder.number n w.seen s.recorder.seen s.seats.more_recorder
-              s.seats.recorder_is
-              (list.made n pieces reads x s.seats (quiet opened.pin) own counts).recorder)) is.is;
-          own_are = recorded_later s.recorder.used_up w.used_up is.told (deeds_of (by_seat s.recorder.number) rest)
-              s.seats.recorder_spent
-              (subst (λ (l : List Deed). AreRecorded s.recorder.used_up is.told l)
-              (list.recorder_deeds n pieces reads x s.seats (quiet opened.pin) own counts) is.own_are);
+              s.seats.recorder_is (list.made s.seats own counts).recorder)) is.is;
+          own_are = recorded_later s.seats.recorder_spent (subst
+              (λ (l : List Deed). AreRecorded s.recorder.used_up is.told l) (list.recorder_deeds s.seats own counts)
+              is.own_are);
         }))
         (λ h. h);
     opening_numbers = opening_numbers;
-    pieces_are = sym piece_numbers_are
-        ∙ list.recorder_numbers n pieces reads x s.seats (quiet opened.pin) own counts (number_after n v.seen);
+    pieces_are = sym piece_numbers_are ∙ list.recorder_numbers s.seats own counts (number_after n v.seen);
     played = where_both opened.pin s.played
         (λ pin h. some_as out.heard h (λ heard is. record {
           place = is.place;
           is = is.is;
           reads = is.reads;
           release = is.release;
-          own_is = sym (list.player_deeds n pieces reads x s.seats (quiet opened.pin) own counts) ∙ is.own_is;
-          in_order = reads_later s.player.used_up w.used_up pin heard.refused (reads_to heard.refused is.place) is.reads
-              s.seats.player_spent is.in_order;
+          own_is = sym (list.player_deeds s.seats own counts) ∙ is.own_is;
+          in_order = reads_later s.seats.player_spent is.in_order;
           what = is.what;
-          released = own_later s.player.used_up w.used_up s.player.number (Unpin pin) is.what is.release
-              s.seats.player_spent is.released;
+          released = own_later s.seats.player_spent is.released;
         }))
         (λ h. h);
     served = served;

@@ -19,17 +19,17 @@ use Rattle.desk_session.proofs.ListLemmas.{same_rest}
 use Rattle.edit_ports.specs.declared.sink.Sink as sink
 
 -- a seat that found that no turn is left still knows
-pub recorded_later : (a b : Bool) (told : Option Refusal) (ds : List Deed) → (a ≡ true → b ≡ true)
+pub recorded_later : {a b : Bool} {told : Option Refusal} {ds : List Deed} → (a ≡ true → b ≡ true)
     → AreRecorded a told ds → AreRecorded b told ds
-recorded_later a b told ds later h = record {
+recorded_later {a} {b} {told} {ds} later h = record {
   ends = ends_later a b told (deeds_of asks_piece ds) later h.ends;
   freed = h.freed;
   freed_last = ⊎_elim (λ none. inl none) (λ used. inr (later used)) h.freed_last;
 }
 
-pub reads_later : (a b : Bool) (pin : ℕ) (refused : Option Refusal) (reading : Reading) (ds : List Deed)
+pub reads_later : {a b : Bool} {pin : ℕ} {refused : Option Refusal} {reading : Reading} {ds : List Deed}
     → (a ≡ true → b ≡ true) → ReadsTo a pin refused reading ds → ReadsTo b pin refused reading ds
-reads_later a b pin refused reading ds later h = record {
+reads_later {a} {b} {pin} {refused} {reading} later h = record {
   place = h.place;
   full = h.full;
   last = h.last;
@@ -98,8 +98,7 @@ module _ {D V : Type 0} {disk : Ghosts D} where
         reads = deeds_of (by_seat u.number) before;
         release = deeds_of (by_seat u.number) later;
         own_is = (λ i. deeds_of (by_seat (number i)) (added i)) ∙ deeds_append (by_seat u.number) before later;
-        in_order = reads_later u.used_up w.used_up pin heard.refused (reads_to heard.refused place)
-            (deeds_of (by_seat u.number) before) lets.calls.onward.used_up
+        in_order = reads_later lets.calls.onward.used_up
             (subst (λ (n : ℕ). ReadsTo u.used_up pin heard.refused (reads_to heard.refused place)
             (deeds_of (by_seat n) before)) (sym reads.onward.number) (reads.reads refl));
         what = lets.what;

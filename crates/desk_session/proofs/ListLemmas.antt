@@ -99,9 +99,8 @@ all_numbers kind n [] h = refl
 all_numbers kind n (e ∷ es) h =
     (λ i. numbers_if (h.0 i) (deeds.made e) n ++ all_numbers kind (raised_by e n) es h.1 i)
 
-module _ {D V : Type 0} {disk : Ghosts D} (first : ℕ) (pieces reads : Call → Type 0) (x : Parted D V disk)
-    (h : Rejoined pieces reads x) (quiet : (c : Call) → reads c → commits_of c ≡ 0)
-    (own : x.seat.mine ≡ places_of (by_seat x.seat.number) 0 x.seat.seen)
+module _ {D V : Type 0} {disk : Ghosts D} {pieces reads : Call → Type 0} {x : Parted D V disk}
+    (h : Rejoined pieces reads x) (own : x.seat.mine ≡ places_of (by_seat x.seat.number) 0 x.seat.seen)
     (counts : (k : ℕ) → times k x.joined.mine ≡ once_below k (length x.joined.seen)) where
   abbrev pub seats : Seats
   seats = record { script = x.seat.number; recorder = x.recorder.number; player = x.player.number }
@@ -194,12 +193,13 @@ module _ {D V : Type 0} {disk : Ghosts D} (first : ℕ) (pieces reads : Call →
   recorder_numbers n = own_numbers x.recorder.number n rest h.by_recorder.part.added h.more_recorder recorder_rest
       made.recorder
 
-  pub merged : Merged first x.joined.seen record { script = x.seat.number; recorder = x.recorder.number } record {
-    opening = numbers_of any_seat first x.seat.seen;
-    script = numbers_of (by_seat x.seat.number) (number_after first x.seat.seen) h.by_script.added;
-    pieces = numbers_of (by_seat x.recorder.number) (number_after first x.seat.seen) h.by_recorder.part.added;
-  }
-  merged = record {
+  pub merged : (first : ℕ) → ((c : Call) → reads c → commits_of c ≡ 0)
+      → Merged first x.joined.seen record { script = x.seat.number; recorder = x.recorder.number } record {
+        opening = numbers_of any_seat first x.seat.seen;
+        script = numbers_of (by_seat x.seat.number) (number_after first x.seat.seen) h.by_script.added;
+        pieces = numbers_of (by_seat x.recorder.number) (number_after first x.seat.seen) h.by_recorder.part.added;
+      }
+  merged first quiet = record {
     opening = x.seat.seen;
     rest = rest;
     split = whole;

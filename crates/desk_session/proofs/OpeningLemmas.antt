@@ -10,10 +10,10 @@ use Rattle.pcm_base.specs.{declared.said.Said.Said, Arithmetic.counted_from, Cou
 use Rattle.disk_model.specs.declared.store.Store.{Ghosts}
 use Rattle.pin_turn.specs.declared.view.View.{View}
 use Rattle.editor_state.specs.{Core.Core, Took.silent, Took.as_reply}
-use Rattle.studio_seats.specs.Desks.{Says, Spends, Turned, asked, spent, views}
-use Rattle.studio_seats.specs.{declared.deed.Deed.Deed, declared.held.Held.Held, Deeds.number_after, Merge.numbers_of}
-use Rattle.studio_seats.specs.{Deeds.commits, Deeds.deed, Merge.by_seat, Merge.deeds_of, Onward.Onward, Stands.origin}
-use Rattle.studio_seats.proofs.MergeLemmas.{deeds_append, deeds_others, numbers_append, numbers_others}
+use Rattle.studio_seats.specs.{Desks.Says, Desks.Turned, Desks.asked, Desks.spent, Desks.views, declared.deed.Deed.Deed}
+use Rattle.studio_seats.specs.{declared.held.Held.Held, Deeds.number_after, Deeds.commits, Deeds.deed, Merge.numbers_of}
+use Rattle.studio_seats.specs.{Merge.by_seat, Merge.deeds_of, Onward.Onward, Stands.origin}
+use Rattle.studio_seats.proofs.MergeLemmas.{deeds_append, numbers_append, numbers_others, own_order}
 use Rattle.studio_seats.proofs.OnwardLemmas.{onward_on, onward_self, onward_turn}
 use Rattle.studio_seats.proofs.{Grown.number_append, Turns.number_on, Turns.turned_number}
 use Rattle.desk_session.specs.Opening.{IsOpening, LetsGo, MakesCall, Opens, OwnDeed, PinDeed, TellsNumber, TrackDeed}
@@ -23,11 +23,6 @@ use Rattle.desk_session.proofs.ListLemmas.{same_rest}
 use Rattle.pcm_base.specs.declared.answer.Reply.TheVariants as reply
 use Rattle.edit_ports.specs.declared.vault.Vault as vault
 use Rattle.desk_session.specs.declared.side.Side.TheVariants as side
-
-own_one : (seat : ℕ) (call : Call) (what : Result Reply Refusal)
-    → deeds_of (by_seat seat) (deed seat call what silent ∷ []) ≡ deed seat call what silent ∷ []
-own_one seat call what =
-    ap (λ (b : Bool). (if b then deed seat call what silent ∷ [] else []) ++ []) (eq-eqb seat seat refl)
 
 -- the numbers of a call that makes one commit at most, where this one is told
 abbrev numbers_told : ℕ → ℕ → List ℕ
@@ -56,49 +51,40 @@ nothing_more xs ys h = same_rest xs ys [] (sym h ∙ sym (append-nil xs))
 module _ {D V A : Type 0} (disk : Ghosts D) (vaults : vault.Ghosts V) (start : Core D) (v w : View (Held D V disk) Deed)
     (fits : Call → Type 0) (call : Call) (what : Result Reply Refusal) (said : Said A) (fit : fits call)
     (none : (why : Refusal) → said.what ≡ Err why → what ≡ Err why) (few : commits_of call ≤ 1) where
-  turned : (x : Turned (origin disk vaults start) (asked call what silent) said.at (views v w))
+  -- the deed of a call, and its number
+  pub opens_call : Says (origin disk vaults start) (asked call what silent) said (views v w)
       → MakesCall fits start.commit_number (OwnDeed w.used_up v.number call what) (numbers_told (commits what call) said.at) v w
-  turned x =
+  opens_call (inl x) =
       let e = deed v.number call what silent in
       let n = v.number in
       let m = number_after start.commit_number v.seen in
       let on = onward_turn fits disk vaults start v w call what silent said fit (inl x) in
       let seen : w.seen ≡ v.seen ++ (x.between ++ e ∷ []) =
-      ap (λ (z : View (Held D V disk) Deed). z.seen) x.view ∙ append_assoc v.seen x.between (e ∷ []) in
+      (λ i. (x.view i).seen) ∙ append_assoc v.seen x.between (e ∷ []) in
       let is : on.added ≡ x.between ++ e ∷ [] = same_rest v.seen on.added (x.between ++ e ∷ []) (sym on.seen ∙ seen) in
       let at : said.at ≡ number_after m x.between + commits what call =
       x.number ∙ (turned_number x ∙ (number_append start.commit_number (v.seen ++ x.between) (e ∷ [])
       ∙ ap (λ (k : ℕ). k + commits what call) (number_append start.commit_number v.seen x.between))) in
       record {
         onward = on;
-        own = inl (ap (deeds_of (by_seat n)) is ∙ (deeds_append (by_seat n) x.between (e ∷ [])
-            ∙ (λ i. deeds_others n x.between x.by_others i ++ own_one n call what i)));
+        own = inl (ap (deeds_of (by_seat n)) is ∙ own_order n [] x.between e refl x.by_others);
         numbers_are = ap (numbers_of (by_seat n) m) is ∙ (numbers_append (by_seat n) m x.between (e ∷ [])
             ∙ ((λ i. numbers_others n m x.between x.by_others i
             ++ number_one n (number_after m x.between) call what few i)
             ∙ ap (numbers_told (commits what call)) (sym at)));
       }
-
-  spends : Spends v said w
-      → MakesCall fits start.commit_number (OwnDeed w.used_up v.number call what) (numbers_told (commits what call) said.at) v w
-  spends x =
+  opens_call (inr x) =
       let n = v.number in
       let m = number_after start.commit_number v.seen in
       let on = onward_turn fits disk vaults start v w call what silent said fit (inr x) in
-      let is : on.added ≡ [] =
-      nothing_more v.seen on.added (sym (ap (λ (z : View (Held D V disk) Deed). z.seen) x.view) ∙ on.seen) in
+      let is : on.added ≡ [] = nothing_more v.seen on.added (sym (λ i. (x.view i).seen) ∙ on.seen) in
       let refused : what ≡ Err spent = none spent x.what in
       record {
         onward = on;
-        own = inr (refused, ap (deeds_of (by_seat n)) is, ap (λ (z : View (Held D V disk) Deed). z.used_up) x.view);
+        own = inr (refused, ap (deeds_of (by_seat n)) is, λ i. (x.view i).used_up);
         numbers_are = ap (numbers_of (by_seat n) m) is
             ∙ sym (ap (λ (r : Result Reply Refusal). numbers_told (commits r call) said.at) refused);
       }
-
-  -- the deed of a call, and its number
-  pub opens_call : Says (origin disk vaults start) (asked call what silent) said (views v w)
-      → MakesCall fits start.commit_number (OwnDeed w.used_up v.number call what) (numbers_told (commits what call) said.at) v w
-  opens_call h = ⊎_elim turned spends h
 
 -- nothing was called
 pub opens_none : {D V : Type 0} {disk : Ghosts D} (first : ℕ) (v : View (Held D V disk) Deed)
@@ -113,34 +99,32 @@ opens_none {D} {V} first v =
     }
 
 -- the same of a call, told in other words
-pub opens_as : {D V : Type 0} {disk : Ghosts D} (first : ℕ) (One Other : List Deed → Type 0) (numbers others : List ℕ)
-    (v w : View (Held D V disk) Deed)
-    → ((own : List Deed) → One own → Other own) → numbers ≡ others → MakesCall IsOpening first One numbers v w
-    → MakesCall IsOpening first Other others v w
-opens_as first One Other numbers others v w f is h =
-    record {
-      onward = h.onward;
-      own = f (deeds_of (by_seat v.number) h.onward.added) h.own;
-      numbers_are = h.numbers_are ∙ is;
-    }
-
-pub own_later : (a b : Bool) (n : ℕ) (call : Call) (what : Result Reply Refusal) (own : List Deed)
-    → (a ≡ true → b ≡ true) → OwnDeed a n call what own → OwnDeed b n call what own
-own_later a b n call what own later (inl is) = inl is
-own_later a b n call what own later (inr h) = inr (h.0, h.1, later h.2)
+pub opens_as : {D V : Type 0} {disk : Ghosts D} {fits : Call → Type 0} {first : ℕ} {One Other : List Deed → Type 0}
+    {numbers others : List ℕ} {v w : View (Held D V disk) Deed} → ((own : List Deed) → One own → Other own)
+    → numbers ≡ others → MakesCall fits first One numbers v w → MakesCall fits first Other others v w
+opens_as {v = v} f is h = record {
+  onward = h.onward;
+  own = f (deeds_of (by_seat v.number) h.onward.added) h.own;
+  numbers_are = h.numbers_are ∙ is;
+}
 
 -- a seat that found that no turn is left still knows
-pub track_later : (a b : Bool) (n : ℕ) (made : Side) (own : List Deed) → (a ≡ true → b ≡ true)
-    → TrackDeed a n made own → TrackDeed b n made own
-track_later a b n side.NotAsked own later h = h
-track_later a b n (side.Made tag) own later (r, h) = (r, own_later a b n (Line Track) (Ok r) own later h)
-track_later a b n (side.Refused why) own later h = own_later a b n (Line Track) (Err why) own later h
+pub own_later : {a b : Bool} → (a ≡ true → b ≡ true) → {n : ℕ} {call : Call} {what : Result Reply Refusal}
+    {own : List Deed} → OwnDeed a n call what own → OwnDeed b n call what own
+own_later later (inl is) = inl is
+own_later later (inr (refused, none, found)) = inr (refused, none, later found)
 
-pub pin_later : (a b : Bool) (n : ℕ) (made : Side) (own : List Deed) → (a ≡ true → b ≡ true)
+pub track_later : {a b : Bool} → (a ≡ true → b ≡ true) → (n : ℕ) (made : Side) (own : List Deed)
+    → TrackDeed a n made own → TrackDeed b n made own
+track_later later n side.NotAsked own h = h
+track_later later n (side.Made tag) own (r, h) = (r, own_later later h)
+track_later later n (side.Refused why) own h = own_later later h
+
+pub pin_later : {a b : Bool} → (a ≡ true → b ≡ true) → (n : ℕ) (made : Side) (own : List Deed)
     → PinDeed a n made own → PinDeed b n made own
-pin_later a b n side.NotAsked own later h = h
-pin_later a b n (side.Made pin) own later h = own_later a b n Pin (Ok (reply.Pinned pin)) own later h
-pin_later a b n (side.Refused why) own later h = own_later a b n Pin (Err why) own later h
+pin_later later n side.NotAsked own h = h
+pin_later later n (side.Made pin) own h = own_later later h
+pin_later later n (side.Refused why) own h = own_later later h
 
 -- both, one after the other
 pub opens_both : {D V : Type 0} {disk : Ghosts D} (first : ℕ) (opened : Opened) (u v w : View (Held D V disk) Deed)
@@ -163,8 +147,7 @@ opens_both {D} {V} first opened u v w h k =
       track_own = deeds_of (by_seat n) h.onward.added;
       pin_own = deeds_of (by_seat n) k.onward.added;
       own = ap (deeds_of (by_seat n)) is ∙ deeds_append (by_seat n) h.onward.added k.onward.added;
-      track = track_later v.used_up w.used_up n opened.recording (deeds_of (by_seat n) h.onward.added)
-          k.onward.used_up h.own;
+      track = track_later k.onward.used_up n opened.recording (deeds_of (by_seat n) h.onward.added) h.own;
       pin = subst (λ (a : ℕ). PinDeed w.used_up a opened.pin (deeds_of (by_seat a) k.onward.added)) same k.own;
       numbers = ap (numbers_of (by_seat n) m) is ∙ (numbers_append (by_seat n) m h.onward.added k.onward.added
           ∙ ((λ i. h.numbers_are i ++ later i) ∙ append-nil (record_commits opened.recording)));
@@ -183,29 +166,23 @@ tag_on (side.Refused why) first seen seen' more is h = tt
 
 module _ {D V A : Type 0} (disk : Ghosts D) (vaults : vault.Ghosts V) (start : Core D) (v w : View (Held D V disk) Deed)
     (call : Call) (what : Result Reply Refusal) (said : Said A) where
-  told_turn : (x : Turned (origin disk vaults start) (asked call what silent) said.at (views v w))
-      → TellsNumber start.commit_number v said.at w
-  told_turn x = λ last is.
-      let n = start.commit_number in
-      let e = deed v.number call what silent in
-      let seen : w.seen ≡ v.seen ++ (x.between ++ e ∷ []) =
-      ap (λ (z : View (Held D V disk) Deed). z.seen) x.view ∙ append_assoc v.seen x.between (e ∷ []) in
-      let same : said.at ≡ number_after n w.seen = x.number
-      ∙ (turned_number x ∙ sym (ap (λ (z : View (Held D V disk) Deed). number_after n z.seen) x.view)) in
-      let on = number_on n v.seen (x.between ++ e ∷ []) in
-      let at = ap (number_after n) seen in
-      let up : max last said.at ≡ said.at = omega (arith, is, same, on, at) in up ∙ same
-
-  told_spent : Spends v said w → TellsNumber start.commit_number v said.at w
-  told_spent x = λ last is.
-      let none = x.at in
-      let stays : max last said.at ≡ last = omega (arith, none) in
-      stays ∙ (is ∙ sym (ap (λ (z : View (Held D V disk) Deed). number_after start.commit_number z.seen) x.view))
-
   -- a call tells the commit number after it
   pub tells_number : Says (origin disk vaults start) (asked call what silent) said (views v w)
       → TellsNumber start.commit_number v said.at w
-  tells_number h = ⊎_elim told_turn told_spent h
+  tells_number (inl x) = λ last is.
+      let n = start.commit_number in
+      let e = deed v.number call what silent in
+      let seen : w.seen ≡ v.seen ++ (x.between ++ e ∷ []) =
+      (λ i. (x.view i).seen) ∙ append_assoc v.seen x.between (e ∷ []) in
+      let same : said.at ≡ number_after n w.seen =
+      x.number ∙ turned_number x ∙ sym (λ i. number_after n (x.view i).seen) in
+      let on = number_on n v.seen (x.between ++ e ∷ []) in
+      let at = ap (number_after n) seen in
+      let up : max last said.at ≡ said.at = omega (arith, is, same, on, at) in up ∙ same
+  tells_number (inr x) = λ last is.
+      let none = x.at in
+      let stays : max last said.at ≡ last = omega (arith, none) in
+      stays ∙ (is ∙ sym (λ i. number_after start.commit_number (x.view i).seen))
 
 -- where no call is made, 0 is answered
 pub tells_none : {D V : Type 0} {disk : Ghosts D} (first : ℕ) (v : View (Held D V disk) Deed) → TellsNumber first v 0 v
@@ -233,9 +210,12 @@ module _ {D V A : Type 0} (disk : Ghosts D) (vaults : vault.Ghosts V) (start : C
   pub track_made : (x : A) → said.what ≡ Ok x
       → MakesCall IsOpening start.commit_number (TrackDeed w.used_up v.number (side.Made said.at))
       (record_commits (side.Made said.at)) v w
-  track_made x is = opens_as start.commit_number (OwnDeed w.used_up v.number (Line Track) told)
-      (TrackDeed w.used_up v.number (side.Made said.at)) (numbers_told (commits told (Line Track)) said.at) (said.at ∷ []) v w
-      (λ own h. (f x, subst (λ (r : Result A Refusal). OwnDeed w.used_up v.number (Line Track) (as_reply f r) own) is h))
+  track_made x is = opens_as
+      (λ own h. (
+        f x,
+        subst (λ (r : Result A Refusal). OwnDeed w.used_up v.number (Line Track) (as_reply f r) own)
+            is h,
+      ))
       (ap (λ (r : Result A Refusal). numbers_told (commits (as_reply f r) (Line Track)) said.at) is) called
 
   taken_above : (x : A) → said.what ≡ Ok x
@@ -256,18 +236,14 @@ module _ {D V A : Type 0} (disk : Ghosts D) (vaults : vault.Ghosts V) (start : C
       let last = number_after start.commit_number v.seen in
       let up : max last said.at ≡ number_after start.commit_number w.seen =
       tells_number disk vaults start v w (Line Track) told said says last refl in (
-        ⊎_elim (taken_above x is) (λ (t : Spends v said w). absurd (no_answer x (sym is ∙ t.what))) says,
+        ⊎_elim (taken_above x is) (λ t. absurd (cc (sym is ∙ t.what))) says,
         omega (arith, up),
       )
-    where
-      no_answer : (x : A) → Ok x ≡ Err spent → ⊥
-      no_answer x is = cc
 
   pub track_refused : (why : Refusal) → said.what ≡ Err why
       → MakesCall IsOpening start.commit_number (TrackDeed w.used_up v.number (side.Refused why))
       (record_commits (side.Refused why)) v w
-  track_refused why is = opens_as start.commit_number (OwnDeed w.used_up v.number (Line Track) told)
-      (TrackDeed w.used_up v.number (side.Refused why)) (numbers_told (commits told (Line Track)) said.at) [] v w
+  track_refused why is = opens_as
       (λ own h. subst (λ (r : Result A Refusal). OwnDeed w.used_up v.number (Line Track) (as_reply f r) own) is h)
       (ap (λ (r : Result A Refusal). numbers_told (commits (as_reply f r) (Line Track)) said.at) is) called
 
@@ -287,9 +263,7 @@ pub pinned : {D V : Type 0} (disk : Ghosts D) (vaults : vault.Ghosts V) (start :
     → MakesCall IsOpening start.commit_number (PinDeed w.used_up v.number (made_by said.what)) [] v w
 pinned {D} {V} disk vaults start v w said says =
     let told = as_reply reply.Pinned said.what in
-    opens_as start.commit_number (OwnDeed w.used_up v.number Pin told)
-    (PinDeed w.used_up v.number (made_by said.what)) (numbers_told (commits told Pin) said.at) [] v w
-    (pin_deed w.used_up v.number said.what) (no_numbers said.what said.at)
+    opens_as (pin_deed w.used_up v.number said.what) (no_numbers said.what said.at)
     (opens_call disk vaults start v w IsOpening Pin told said (inr refl)
     (λ why is. ap (λ (r : Result ℕ Refusal). as_reply reply.Pinned r) is) (let none : 0 ≤ 1 = omega arith in none) says)
 
@@ -301,16 +275,12 @@ pub lets_go : {D V : Type 0} (disk : Ghosts D) (vaults : vault.Ghosts V) (start 
     → LetsGo start.commit_number pin v w
 lets_go {D} {V} disk vaults start v w pin said says =
     let told = as_reply (λ _. reply.Done) said.what in
-    let called = opens_call disk vaults start v w (λ call. call ≡ Unpin pin) (Unpin pin) told said refl
-    (λ why is. ap (λ (r : Result (Unit {0}) Refusal). as_reply (λ _. reply.Done) r) is)
-    (let none : 0 ≤ 1 = omega arith in none) says in
     record {
       what = told;
-      calls = record {
-        onward = called.onward;
-        own = called.own;
-        numbers_are = called.numbers_are ∙ no_unpin said.what said.at;
-      };
+      calls = opens_as (λ own h. h) (no_unpin said.what said.at)
+          (opens_call disk vaults start v w (λ call. call ≡ Unpin pin) (Unpin pin) told said refl
+          (λ why is. ap (λ (r : Result (Unit {0}) Refusal). as_reply (λ _. reply.Done) r) is)
+          (let none : 0 ≤ 1 = omega arith in none) says);
     }
   where
     no_unpin : (r : Result (Unit {0}) Refusal) (at : ℕ)

@@ -71,6 +71,17 @@ others_after a b c ab ac es xs more is h = all_others a b c ab ac more
     let u = no_later (by_seat b) n 0 xs (omega (arith, low)) in
     let v = no_later (by_seat c) n 0 xs (omega (arith, low)) in omega (arith, one, x, y, u, v)))
 
+-- each place of the list is a turn of one of three seats; so after what the first has seen, all is by the others
+by_others : (a b c : ℕ) (es x y z more more_y more_z : List Deed) → a ≢ b → a ≢ c → es ≡ x ++ more → es ≡ y ++ more_y
+    → es ≡ z ++ more_z → ((n : ℕ) → n < length es → 1 ≤ times n (places_of (by_seat a) 0 x)
+    + times n (places_of (by_seat b) 0 y) + times n (places_of (by_seat c) 0 z)) → ByOthers actor_of (a ∷ []) more
+by_others a b c es x y z more more_y more_z ab ac x_is y_is z_is has =
+    others_after a b c ab ac es x more x_is (λ n low high.
+    let one = has n high in
+    let none = no_later (by_seat a) n 0 x (omega (arith, low)) in
+    let two = longer_has (by_seat b) n es y more_y y_is in
+    let three = longer_has (by_seat c) n es z more_z z_is in omega (arith, one, none, two, three))
+
 flip : (a b : ℕ) → a ≢ b → b ≢ a
 flip a b h e = h (sym e)
 
@@ -82,36 +93,21 @@ module _ (s : Seats) (apart : Apart s) (es : List Deed) (p : Parts s es) where
       let one = sum_of n (length es) (places_of (by_seat s.script) 0 p.script) (places_of (by_seat s.player) 0 p.player)
       (places_of (by_seat s.recorder) 0 p.recorder) p.mine low p.counts p.mine_is in omega (arith, one)
 
-  on_script : (n : ℕ) → times n (places_of (by_seat s.script) 0 p.script) ≤ times n (places_of (by_seat s.script) 0 es)
-  on_script n = longer_has (by_seat s.script) n es p.script p.more_script p.script_is
-
-  on_recorder : (n : ℕ)
-      → times n (places_of (by_seat s.recorder) 0 p.recorder) ≤ times n (places_of (by_seat s.recorder) 0 es)
-  on_recorder n = longer_has (by_seat s.recorder) n es p.recorder p.more_recorder p.recorder_is
-
-  on_player : (n : ℕ) → times n (places_of (by_seat s.player) 0 p.player) ≤ times n (places_of (by_seat s.player) 0 es)
-  on_player n = longer_has (by_seat s.player) n es p.player p.more_player p.player_is
-
   made : Made s es p
   made = record {
     all = each_has (by_seat s.script) (by_seat s.recorder) (by_seat s.player) 0 es (λ n low high.
         let one = has n (omega (arith, high)) in
-        let x = on_script n in let y = on_recorder n in let z = on_player n in omega (arith, one, x, y, z));
-    script = others_after s.script s.recorder s.player apart.script_recorder apart.script_player es p.script
-        p.more_script p.script_is (λ n low high.
-        let one = has n high in
-        let x = no_later (by_seat s.script) n 0 p.script (omega (arith, low)) in
-        let y = on_recorder n in let z = on_player n in omega (arith, one, x, y, z));
-    recorder = others_after s.recorder s.script s.player (flip s.script s.recorder apart.script_recorder)
-        apart.recorder_player es p.recorder p.more_recorder p.recorder_is (λ n low high.
-        let one = has n high in
-        let x = no_later (by_seat s.recorder) n 0 p.recorder (omega (arith, low)) in
-        let y = on_script n in let z = on_player n in omega (arith, one, x, y, z));
-    player = others_after s.player s.script s.recorder (flip s.script s.player apart.script_player)
-        (flip s.recorder s.player apart.recorder_player) es p.player p.more_player p.player_is (λ n low high.
-        let one = has n high in
-        let x = no_later (by_seat s.player) n 0 p.player (omega (arith, low)) in
-        let y = on_script n in let z = on_recorder n in omega (arith, one, x, y, z));
+        let x = longer_has (by_seat s.script) n es p.script p.more_script p.script_is in
+        let y = longer_has (by_seat s.recorder) n es p.recorder p.more_recorder p.recorder_is in
+        let z = longer_has (by_seat s.player) n es p.player p.more_player p.player_is in omega (arith, one, x, y, z));
+    script = by_others s.script s.recorder s.player es p.script p.recorder p.player p.more_script p.more_recorder
+        p.more_player apart.script_recorder apart.script_player p.script_is p.recorder_is p.player_is has;
+    recorder = by_others s.recorder s.script s.player es p.recorder p.script p.player p.more_recorder p.more_script
+        p.more_player (flip s.script s.recorder apart.script_recorder) apart.recorder_player p.recorder_is p.script_is
+        p.player_is (λ n low. let one = has n low in omega (arith, one));
+    player = by_others s.player s.script s.recorder es p.player p.script p.recorder p.more_player p.more_script
+        p.more_recorder (flip s.script s.player apart.script_player) (flip s.recorder s.player apart.recorder_player)
+        p.player_is p.script_is p.recorder_is (λ n low. let one = has n low in omega (arith, one));
   }
 
 pub parts_made : PartsMade

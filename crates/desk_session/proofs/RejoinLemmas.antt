@@ -77,7 +77,7 @@ module _ {D V : Type 0} {disk : Ghosts D} where
       ∙ sym (ap (λ (l : List Deed). places_of (by_seat v.number) 0 l) on.seen
       ∙ places_behind (by_seat v.number) v.seen on.added))
 
-  module _ (pieces reads : Call → Type 0) (v v1 r v2 p script recorder player : View (Held D V disk) Deed)
+  module _ {pieces reads : Call → Type 0} {v v1 r v2 p script recorder player : View (Held D V disk) Deed}
       (kept : v1 ≡ record v { away = v.away ++ r.number ∷ [] })
       (new : r ≡ record v { number = r.number; mine = []; away = [] }) (number : IsNewNumber actor_of v r.number)
       (kept2 : v2 ≡ record v1 { away = v1.away ++ p.number ∷ [] })
@@ -92,35 +92,30 @@ module _ {D V : Type 0} {disk : Ghosts D} where
     pub second_join : (j : View (Held D V disk) Deed) → j ≡ joined script player
         → (0 < times recorder.number j.away) × (recorder.away ≡ []) × ((joined j recorder).away ≡ v.away)
     second_join j is = rejoins actor_of v v1 j r recorder kept new number
-        (ap (λ (z : View (Held D V disk) Deed). z.away) is ∙ first_join.2) rec.number rec.away
+        ((λ i. (is i).away) ∙ first_join.2) rec.number rec.away
 
     pub rejoined : (j w : View (Held D V disk) Deed) → j ≡ joined script player → w ≡ joined j recorder
         → Begins actor_of script player ⊎ Begins actor_of player script
         → Begins actor_of j recorder ⊎ Begins actor_of recorder j
         → Rejoined pieces reads (record { seat = v; script = script; recorder = recorder; player = player; joined = w })
     rejoined j w is is2 alike alike2 =
-        let seen1 : v1.seen ≡ v.seen = ap (λ (z : View (Held D V disk) Deed). z.seen) kept in
-        let seen2 : v2.seen ≡ v.seen = ap (λ (z : View (Held D V disk) Deed). z.seen) kept2 ∙ seen1 in
-        let number1 : v1.number ≡ v.number = ap (λ (z : View (Held D V disk) Deed). z.number) kept in
-        let number_2 : v2.number ≡ v.number = ap (λ (z : View (Held D V disk) Deed). z.number) kept2 ∙ number1 in
-        let mine2 : v2.mine ≡ v.mine =
-        ap (λ (z : View (Held D V disk) Deed). z.mine) kept2 ∙ ap (λ (z : View (Held D V disk) Deed). z.mine) kept in
+        let seen1 : v1.seen ≡ v.seen = λ i. (kept i).seen in
+        let seen2 : v2.seen ≡ v.seen = (λ i. (kept2 i).seen) ∙ seen1 in
+        let number1 : v1.number ≡ v.number = λ i. (kept i).number in
+        let number_2 : v2.number ≡ v.number = (λ i. (kept2 i).number) ∙ number1 in
+        let mine2 : v2.mine ≡ v.mine = (λ i. (kept2 i).mine) ∙ (λ i. (kept i).mine) in
         let one = both_begin script player alike in
         let two = both_begin j recorder alike2 in
-        let j_seen : j.seen ≡ longer script.seen player.seen = ap (λ (z : View (Held D V disk) Deed). z.seen) is in
-        let w_seen : w.seen ≡ longer j.seen recorder.seen = ap (λ (z : View (Held D V disk) Deed). z.seen) is2 in
-        let j_used : j.used_up ≡ (script.used_up || player.used_up) =
-        ap (λ (z : View (Held D V disk) Deed). z.used_up) is in
-        let w_used : w.used_up ≡ (j.used_up || recorder.used_up) =
-        ap (λ (z : View (Held D V disk) Deed). z.used_up) is2 in
+        let j_seen : j.seen ≡ longer script.seen player.seen = λ i. (is i).seen in
+        let w_seen : w.seen ≡ longer j.seen recorder.seen = λ i. (is2 i).seen in
+        let j_used : j.used_up ≡ (script.used_up || player.used_up) = λ i. (is i).used_up in
+        let w_used : w.used_up ≡ (j.used_up || recorder.used_up) = λ i. (is2 i).used_up in
         let w_j : w.seen ≡ j.seen ++ two.0.0 = w_seen ∙ two.0.1 in
         let below : r.number < p.number = last_of v.away (λ k. k < p.number) r.number
-        (subst (λ (l : List ℕ). Each (λ k. k < p.number) l) (ap (λ (z : View (Held D V disk) Deed). z.away) kept)
-        number2.above_away) in
+        (subst (λ (l : List ℕ). Each (λ k. k < p.number) l) (λ i. (kept i).away) number2.above_away) in
         record {
-          by_script = part_of IsOfScript v v2 script seen2 (λ is.
-              ap (λ (z : View (Held D V disk) Deed). z.used_up) kept2
-              ∙ (ap (λ (z : View (Held D V disk) Deed). z.used_up) kept ∙ is)) on;
+          by_script = part_of IsOfScript v v2 script seen2
+              (λ used. (λ i. (kept2 i).used_up) ∙ (λ i. (kept i).used_up) ∙ used) on;
           script_number = on.number ∙ number_2;
           by_recorder = new_part pieces v r recorder new number.above_own number.above_makers rec;
           by_player = new_part reads v p player
@@ -136,16 +131,15 @@ module _ {D V : Type 0} {disk : Ghosts D} where
           more_player = one.1.0 ++ two.0.0;
           player_is = w_j
               ∙ (ap (λ (l : List Deed). l ++ two.0.0) (j_seen ∙ one.1.1) ∙ append_assoc player.seen one.1.0 two.0.0);
-          mine = ap (λ (z : View (Held D V disk) Deed). z.mine) is2
-              ∙ ap (λ (l : List ℕ). l ++ recorder.mine) (ap (λ (z : View (Held D V disk) Deed). z.mine) is);
-          number = ap (λ (z : View (Held D V disk) Deed). z.number) is2
-              ∙ (ap (λ (z : View (Held D V disk) Deed). z.number) is ∙ (on.number ∙ number_2));
-          away = ap (λ (z : View (Held D V disk) Deed). z.away) is2 ∙ (second_join j is).2;
-          script_spent = λ h. w_used ∙ (ap (λ (b : Bool). b || recorder.used_up) (j_used
-              ∙ ap (λ (b : Bool). b || player.used_up) h));
-          recorder_spent = λ h. w_used ∙ (ap (λ (b : Bool). j.used_up || b) h ∙ or_true j.used_up);
-          player_spent = λ h. w_used ∙ ap (λ (b : Bool). b || recorder.used_up) (j_used
-              ∙ (ap (λ (b : Bool). script.used_up || b) h ∙ or_true script.used_up));
+          mine = (λ i. (is2 i).mine) ∙ (λ i. (is i).mine ++ recorder.mine);
+          number = (λ i. (is2 i).number) ∙ (λ i. (is i).number) ∙ on.number ∙ number_2;
+          away = (λ i. (is2 i).away) ∙ (second_join j is).2;
+          script_spent = λ h. w_used ∙ (λ i. j_used i || recorder.used_up)
+              ∙ (λ i. (h i || player.used_up) || recorder.used_up);
+          recorder_spent = λ h. w_used ∙ (λ i. j.used_up || h i) ∙ or_true j.used_up;
+          player_spent = λ h. w_used ∙ (λ i. j_used i || recorder.used_up)
+              ∙ (λ i. (script.used_up || h i) || recorder.used_up)
+              ∙ (λ i. or_true script.used_up i || recorder.used_up);
           script_mine = λ own. own_mine IsOfScript v2 script on
               (mine2 ∙ (own ∙ (λ i. places_of (by_seat (sym number_2 i)) 0 (sym seen2 i))))
               ∙ ap (λ (n : ℕ). places_of (by_seat n) 0 script.seen) number_2;

@@ -7,7 +7,9 @@ use Rattle.studio_seats.specs.{declared.deed.Deed.Deed, declared.held.Held.Held,
 use Rattle.studio_seats.specs.{Pieces.pieces_by, Recording.RecorderAsks}
 use Rattle.studio_seats.proofs.OnwardLemmas.{onward_on, onward_self}
 use Rattle.studio_seats.proofs.{PieceLemmas.pieces_others, WorkLemmas.onward_as, MergeLemmas.lower_others}
-use Rattle.desk_session.specs.{declared.side.Side.Side, Opening.play_calls, Opening.record_calls, Sides.WhereMade}
+use Rattle.desk_session.specs.{declared.side.Side.Side, Opening.play_calls, Opening.record_calls, Opening.LetsGo}
+use Rattle.desk_session.specs.{Sides.WhereMade, Lent.Kinds, Lent.Lent, Lent.Outcome, Works.Works, Works.Working}
+use Rattle.desk_session.proofs.SideLemmas.{where_both, some_any}
 use Rattle.desk_session.specs.declared.side.Side.TheVariants as side
 
 module _ {D V : Type 0} {disk : Ghosts D} where
@@ -33,6 +35,20 @@ module _ {D V : Type 0} {disk : Ghosts D} where
       (onward_as (IsReadOf pin) (play_calls (side.Made pin)) v u (λ c is. inl is) h)
       (onward_as (λ call. call ≡ Unpin pin) (play_calls (side.Made pin)) u w (λ c is. inr is) k)
   player_goes (side.Refused why) v u w h k = idle (play_calls (side.Refused why)) v u w h k
+
+  -- what the seats of recorder and player asked while all worked, and the call that lets the pin go
+  module _ {M P : Type 0} {k : Kinds D V M P} {s : Working D V disk} {lent : Lent V M P} {out : Outcome}
+      (works : Works k s lent out) where
+    pub recorder_went : Onward (record_calls s.track out.opened.recording) s.recorder.before s.recorder.now
+    recorder_went = recorder_goes out.opened.recording s.track s.recorder.before s.recorder.now
+        (where_both out.opened.recording works.records (λ tag h. h.1.onward) (λ h. h.0))
+
+    pub player_went : (first : ℕ) (w : View (Held D V disk) Deed)
+        → WhereMade out.opened.pin (λ pin. LetsGo first pin s.player.now w) (w ≡ s.player.now)
+        → Onward (play_calls out.opened.pin) s.player.before w
+    player_went first w goes = player_goes out.opened.pin s.player.before s.player.now w
+        (where_both out.opened.pin works.plays (λ pin h. some_any out.heard h (λ heard r. r.1.onward)) (λ h. h.0))
+        (where_both out.opened.pin goes (λ pin h. h.calls.onward) (λ h. h))
 
   -- a seat that was split off has no pieces yet
   pub no_piece : (track tag first : ℕ) (v o : View (Held D V disk) Deed)

@@ -4,3 +4,4 @@ pub mod Faults
 pub mod Moment
 pub mod MomentLaws
 pub mod Frames
+pub mod Parts

@@ -6,8 +6,10 @@
 //! not proved here; `docs/DISK.md` says what it must do.
 #![tactic(auto)]
 
+mod parts;
 mod store;
 mod through;
 
+pub use parts::Part;
 pub use store::{ListFault, Store};
 pub use through::{remove_through, sync_file, write_through};

@@ -1,5 +1,5 @@
 // Numbered files, as the layers above see them.
-ghost use Rattle.std.specs.Prelude.{◌≡◌, ◌⊎◌, ◌+◌, ◌-◌, ◌^◌, ◌≤◌, ◌↔◌, ℕ, Bool, IsTrue, Option, None, Some, IsSome};
+ghost use Rattle.std.specs.Prelude.{◌≡◌, ◌⊎◌, ◌+◌, ◌-◌, ◌^◌, ◌≤◌, ◌↔◌, ℕ, Bool, true, IsTrue, Option, None, Some, IsSome};
 ghost use Rattle.std.specs.Prelude.{◌++◌, length, take, drop, min, IfOk, OnOk, OnErr, IfSome, Contains};
 ghost use Rattle.std.specs.List.Sorted.{IsStrictlyIncreasing};
 ghost use Rattle.std.specs.Option.{option_map};
@@ -9,8 +9,10 @@ ghost use Rattle.disk_model.specs.Moment.{Moment, IsUpTo};
 ghost use Rattle.disk_model.specs.Disk.{Files, bytes_of, written, TornFile, SameElsewhere, WriteStep, RemoveStep};
 ghost use Rattle.disk_model.specs.Disk.{StaysStep, Follows};
 ghost use Rattle.disk_model.specs.Faults.{HasListCause};
+ghost use Rattle.disk_model.specs.Parts.{AllThere, AreParts, filled};
 ghost use Rattle.disk_model.specs.Room.{Room, raised, met, IsSpent, StaysRoom};
 
+use super::parts::Part;
 use pcm_base::Failed;
 
 /// What can go wrong where the files are listed.
@@ -42,7 +44,7 @@ pub trait Store {
     // What a stop may leave that comes at that moment or later, up to now: the images of the disk since then.
     ghost may_leave: { Self → Moment → Files → Type 0 };
 
-    // How many calls of `size`, `read_at` and `files` failed, up to the greatest u64.
+    // How many calls of `size`, `read_at`, `read_parts` and `files` failed, up to the greatest u64.
     ghost read_fault_count: { Self → ℕ };
 
     // How many calls of `write_at`, `sync` and `remove` failed, up to the greatest u64.
@@ -95,6 +97,27 @@ pub trait Store {
         ensures count { IsTrue (tells self.old)
             → IfOk result (λ n. n ≡ min (length buf.old) (length (bytes_of (reads self.old file)) - at)) }
         ensures within { IfOk result (λ n. n ≤ length buf.old) }
+        ensures tells { tells self.new ≡ tells self.old }
+        ensures reads { reads self.new ≡ reads self.old }
+        ensures model { keeps_model self.new ≡ keeps_model self.old }
+        ensures calls { change_calls self.new ≡ change_calls self.old }
+        ensures bytes { asked_bytes self.new ≡ asked_bytes self.old }
+        ensures absent { absent_writes self.new ≡ absent_writes self.old }
+        ensures room { room self.new ≡ room self.old }
+        ensures unfailing { IsSome (room self.old) → read_fault_count self.new ≡ read_fault_count self.old }
+        ensures clock { clock self.new ≡ clock self.old }
+        ensures images { Follows StaysStep (clock self.old) (clock self.new) (may_leave self.old) (may_leave self.new) }
+        ensures faults { HasCause (read_fault_count self.old) (read_fault_count self.new) result }
+        ensures changes { change_fault_count self.new ≡ change_fault_count self.old };
+
+    /// Reads parts of files into `out`, each at its place, in any order or at the same time. It answers whether each file
+    /// has all of its parts. Where one has not, and after an error, `out` may have been written in part.
+    fn read_parts(&mut self, parts: &[Part], out: &mut [i16]) -> Result<bool, Failed>
+        requires { AreParts 0 (length out.old) parts.now }
+        ensures there { IsTrue (tells self.old)
+            → IfOk result (λ all. (all ≡ true) ↔ AllThere (reads self.old) parts.now) }
+        ensures read { IsTrue (tells self.old)
+            → IfOk result (λ all. all ≡ true → out.new ≡ filled (reads self.old) parts.now out.old) }
         ensures tells { tells self.new ≡ tells self.old }
         ensures reads { reads self.new ≡ reads self.old }
         ensures model { keeps_model self.new ≡ keeps_model self.old }

@@ -1,5 +1,5 @@
 -- Counts, files and room while blocks are made.
-use Rattle.editor_blocks.proofs.Common.{rules, ◌≡◌, inl, inr, ⊎_elim, refl, ℕ, ◌+◌, ◌*◌, ◌≤◌, ◌<◌, Some, None, List, []}
+use Rattle.editor_blocks.proofs.Common.{rules, ◌≡◌, inl, inr, ⊎_elim, refl, ℕ, ◌+◌, ◌≤◌, ◌<◌, Some, None, List, []}
 use Rattle.editor_blocks.proofs.Common.{◌∷◌, length, Contains, arith, eqb_tells, cases_lt, Files, SameElsewhere}
 use Rattle.editor_blocks.proofs.Common.{StaysStep, Changed, Room, IsWithin, together, Ghosts, changed_then_stays}
 use Rattle.editor_blocks.proofs.Common.{size_of, Counts, NewBlock, SameOutside, AddsFree, made_room}
@@ -33,9 +33,7 @@ outside_then next n id d e c is one two f apart = search (rules, outside_more)
 -- one block more asks for as much more
 pub room_more : (z s n : ℕ) → s ≤ z
     → IsWithin (together (made_room z n) (record { files = 1; bytes = s; calls = 1 })) (made_room z (n + 1))
-room_more z s n le =
-    let sum : (n + 1) * z ≡ n * z + z = omega arith in
-    record { files = omega arith; bytes = omega (arith, sum, le); calls = omega arith }
+room_more z s n le = search rules
 
 -- this many calls are counted
 pub called : {D : Type 0} {disk : Ghosts D} {step : Files → Files → Type 0} {much : Room} {old new : D} (n : ℕ)

@@ -1,12 +1,12 @@
 -- A making of blocks that failed.
-use Rattle.editor_blocks.proofs.Common.{rules, ℤ, ◌≡◌, ◌⊎◌, ◌<◌, inl, inr, ⊎_elim, refl, sym, ap, ◌∙◌, subst, ℕ, ◌+◌}
+use Rattle.editor_blocks.proofs.Common.{rules, ℤ, ◌≡◌, ◌⊎◌, ◌<◌, inl, inr, ⊎_elim, refl, sym, ap, ◌∙◌, ℕ, ◌+◌}
 use Rattle.editor_blocks.proofs.Common.{◌^◌, ◌≤◌, IsTrue, None, List, length, Err, true, arith, Answers, outside, Call}
 use Rattle.editor_blocks.proofs.Common.{SoundMove, Refusal, Truncated, Needs, StaysStep, Changed, together, Ghosts}
 use Rattle.editor_blocks.proofs.Common.{size_of, NewBlock, AllNewFrom, AreNew, PiecesThere, SameOutside, batch_of}
 use Rattle.editor_blocks.proofs.Common.{HasMissed, Making, Stuck, Unput, Unread, made_room, one_call, IsHeld, IsStudio}
 use Rattle.editor_blocks.proofs.Common.{named_blocks, studio_of, stopped_by, Core, IsSoOf, Took, with_sound, Needed}
 use Rattle.editor_blocks.proofs.Common.{RemovesNone, stopped_not, same_studio}
-use Rattle.pcm_base.specs.Run.{Leaves, may_change}
+use Rattle.pcm_base.specs.Run.{BreaksOff, Leaves, may_change}
 use Rattle.pcm_base.specs.{declared.limits.TheConstants.LONGEST_BODY}
 use Rattle.editor_state.specs.Makes.{OrCut}
 use Rattle.editor_state.specs.{Edits.Serves, Exchanges.may_have_begun, Exchanges.reads_sound}
@@ -93,18 +93,21 @@ module _ {D : Type 0} (disk : Ghosts D) (s : Core D) (is : IsStudio disk s) (giv
             change_faults = sym making.change_faults i;
           })
 
+      broken : IsHeld disk s → BreaksOff t c sound (studio_of disk new)
+      broken held = record {
+        going = going;
+        blocks = k;
+        len = len;
+        needs = need held k few;
+        room = omega (arith, most, few);
+        is = new_state held;
+        leaves = leaves;
+      }
+
       unread : HasMissed disk mid.store new.store → Took disk s (with_sound c sound (Err refusal.DiskFault)) new
       unread missed = going_on refusal.DiskFault k new making few (broken_begins c refusal.DiskFault refl) tt
           (inl (missed_so disk s given makes most c sound mid.store new.store reads missed)) (λ held. inr (inr (record {
-            breaks = record {
-              going = going;
-              blocks = k;
-              len = len;
-              needs = need held k few;
-              room = omega (arith, most, few);
-              is = new_state held;
-              leaves = leaves;
-            };
+            breaks = broken held;
             cause = inl (record {
               goes_on = still_going;
               rose = omega (arith, missed.rose, reads);
@@ -119,15 +122,7 @@ module _ {D : Type 0} (disk : Ghosts D) (s : Core D) (is : IsStudio disk s) (giv
       damaged file at want have same so =
           going_on (refusal.Damaged file at want have) k new making few
           (broken_begins c (refusal.Damaged file at want have) refl) tt so (λ held. inr (inr (record {
-            breaks = record {
-              going = going;
-              blocks = k;
-              len = len;
-              needs = need held k few;
-              room = omega (arith, most, few);
-              is = new_state held;
-              leaves = leaves;
-            };
+            breaks = broken held;
             stopped = still_going;
             reads = same ∙ reads;
             changes = making.change_faults;
@@ -141,15 +136,7 @@ module _ {D : Type 0} (disk : Ghosts D) (s : Core D) (is : IsStudio disk s) (giv
           going_on refusal.VaultFault k new making few begun tt tt (λ held. inr (inr (
             names_sound c sounds,
             record {
-              breaks = record {
-                going = going;
-                blocks = k;
-                len = len;
-                needs = need held k few;
-                room = omega (arith, most, few);
-                is = new_state held;
-                leaves = leaves;
-              };
+              breaks = broken held;
               stopped = still_going;
               reads = same ∙ reads;
               changes = making.change_faults;
@@ -242,8 +229,7 @@ module _ {D : Type 0} (disk : Ghosts D) (s : Core D) (is : IsStudio disk s) (giv
       }
 
       unput : Took disk s (with_sound c sound (Err refusal.DiskFault)) new
-      unput = subst (λ (z : Core D). Took disk s (with_sound c sound (Err refusal.DiskFault)) z)
-          (sym (unput_is disk s given makes most c sound k mid new was few left un)) here_took
+      unput = search (rules, unput_is, here_took)
 
     pub not_made : (why : Refusal) (new : Core D) → Stuck disk s (batch_of given makes) why new → Serves c why
         → OrCut why (Took disk s (with_sound c sound (Err why)) new)
@@ -252,7 +238,6 @@ module _ {D : Type 0} (disk : Ghosts D) (s : Core D) (is : IsStudio disk s) (giv
         (λ un. unput stuck.made stuck.mid new stuck.before stuck.few stuck.left stuck.read_faults un)
         stuck.by
     not_made (refusal.Damaged file at want have) new stuck serves = search (rules, damaged, damaged_so)
-    not_made refusal.VaultFault new stuck serves =
-        vault stuck.made stuck.mid new stuck.before stuck.few stuck.read_faults stuck.by.0 serves stuck.by.1
+    not_made refusal.VaultFault new stuck serves = search (rules, vault)
     not_made (refusal.BadWav (Truncated want have)) new stuck serves = tt
     not_made why new stuck serves = absurd stuck.by

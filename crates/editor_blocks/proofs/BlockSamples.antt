@@ -25,8 +25,7 @@ module _ (block : ℕ → ℕ → ℤ) (given : ℕ → ℤ) (next : ℕ) (all :
   now = beside (supposed block given next all) given
 
   pub old_same : (id : ℕ) → id < next → supposed block given next all id ≡ block id
-  old_same id low =
-      ap (λ (b : Bool). if b then block id else (λ i. get_or (made_samples was all id) i (pos 0))) (lt-ltb id next low)
+  old_same id low = search (rules, lt-ltb)
 
   module _ (old : List BlockRef) (below : AllByRecursion (λ (b : BlockRef). b.id < next) old) (count : ℕ) where
     same_samples : (ps : List Piece) → AllFrom old count ps → all_samples now ps ≡ all_samples was ps
@@ -40,14 +39,12 @@ module _ (block : ℕ → ℕ → ℤ) (given : ℕ → ℤ) (next : ℕ) (all :
         ap₂ ◌++◌ (ap (λ (f : ℕ → ℤ). samples_of (beside (λ _. f) given) (Scaled b lo hi gain)) (old_same b.id low))
         (same_samples ps from.1)
     same_samples (Zero len ∷ ps) from = ap (λ (xs : List ℤ). samples_of was (Zero len) ++ xs) (same_samples ps from.1)
-    same_samples (Given lo hi ∷ ps) from =
-        ap (λ (xs : List ℤ). samples_of was (Given lo hi) ++ xs) (same_samples ps from.1)
+    same_samples (Given lo hi ∷ ps) from = search (rules, same_samples ps from.1)
 
     -- the first of the ids from here on
     first_made : (m id : ℕ) (b : NewBlock) (bs : List NewBlock) → b.id ≡ id
         → made_samples was (b ∷ bs) id ≡ all_samples was b.pieces
-    first_made m id b bs is =
-        ap (λ (e : Bool). if e then all_samples was b.pieces else made_samples was bs id) (eq-eqb b.id id is)
+    first_made m id b bs is = search (rules, eq-eqb)
 
     -- what stands in front of some of the new blocks does not hide them
     abbrev Hides : ℕ → List NewBlock → Type 0

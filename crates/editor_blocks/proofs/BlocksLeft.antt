@@ -49,15 +49,12 @@ module _ {D : Type 0} (disk : Ghosts D) (s : Core D) (given : ℕ → ℤ) (make
   some_left k new making why so = search (rules, making_next, some_stop)
 
   pub some_ids : (k : ℕ) (new : Core D) → Making disk s (batch_of given makes) k new → CountsIds s [] new
-  some_ids k new making =
-      ids_made s new new.counts k making.ledger (λ id. (λ some. some, λ some. some))
-      (making_next disk s given makes k new making)
+  some_ids k new making = search (rules, ids_made, making_next)
 
   -- a read failed
   pub missed_so : (mid new : D) → disk.read_fault_count mid ≡ disk.read_fault_count s.store → HasMissed disk mid new
       → HasMissed disk s.store new
-  missed_so mid new reads missed =
-      record { rose = omega (arith, missed.rose, reads); later = omega (arith, missed.later, reads) }
+  missed_so mid new reads missed = search rules
 
   -- a file was not as it has to be
   pub damaged_so : (count : ℕ) → IsStudio disk s → AllNewFrom (named_blocks s) count makes

@@ -1,6 +1,6 @@
 -- Blocks that are put one after another change nothing of those that are there.
 use Rattle.editor_blocks.proofs.Common.{rules, ◌≡◌, ℕ, zero, suc, ◌+◌, ◌≤◌, ◌<◌, ◌⊎◌, inl, inr, ⊎_elim, ℤ, pos, List}
-use Rattle.editor_blocks.proofs.Common.{[], ◌∷◌, ◌++◌, length, get_or, take, map, Option, Some, None, refl, sym, ap}
+use Rattle.editor_blocks.proofs.Common.{[], ◌∷◌, ◌++◌, length, get_or, take, Option, Some, None, refl, sym, ap}
 use Rattle.editor_blocks.proofs.Common.{ap₂, subst, ◌∙◌, arith, take_more, cases_lt, AllByRecursion, Old, Scaled, Zero}
 use Rattle.editor_blocks.proofs.Common.{Given, Sources, stretch, samples_of, all_samples, total, BlockRef, Piece}
 use Rattle.editor_blocks.proofs.Common.{length-all_samples, stretch_list, Files, SameElsewhere, blocks, sources_with}
@@ -8,7 +8,6 @@ use Rattle.editor_blocks.proofs.Common.{IsWhole, NewBlock, AreWritten, AreNew, r
 use Rattle.editor_blocks.proofs.Common.{AreMade, PiecesThere, SameOutside, batch_of, ids_from}
 use Rattle.std.proofs.Common.{◌≢◌}
 use Rattle.std.specs.{Prelude.unwrap_or}
-use Rattle.pcm_base.specs.Arithmetic.{scaled, clamped}
 use Rattle.sample_block.specs.{Sources.samples_on}
 use Rattle.sample_block.proofs.BlockLaws.{blocks_have}
 use Rattle.editor_state.proofs.Blocks.BlockSounds.{same_whole}
@@ -42,8 +41,7 @@ module _ (given : ℕ → ℤ) (id : ℕ) (files files' : Files) (same : SameEls
 
   samples_kept : (p : Piece) → IsThere files p → samples_of now p ≡ samples_of old p
   samples_kept (Old b from to) there = same_on files files' b.id from _ (at_file b there)
-  samples_kept (Scaled b from to gain) there =
-      ap (map (λ s. clamped (scaled gain s))) (same_on files files' b.id from _ (at_file b there))
+  samples_kept (Scaled b from to gain) there = search (rules, same_on, at_file)
   samples_kept (Zero len) there = refl
   samples_kept (Given from to) there = refl
 
@@ -55,17 +53,13 @@ module _ (given : ℕ → ℤ) (id : ℕ) (files files' : Files) (same : SameEls
   written_kept : (bs : List NewBlock) → AllByRecursion (λ b. IsWhole files (ref_of b)) bs → PiecesThere files bs
       → AreWritten old bs → AreWritten now bs
   written_kept [] whole there written = tt
-  written_kept (b ∷ bs) whole there written = (
-    same_on files files' b.id 0 b.len (at_file (ref_of b) whole.0) ∙ written.0
-        ∙ sym (all_samples_kept b.pieces there.0),
-    written_kept bs whole.1 there.1 written.1,
-  )
+  written_kept (b ∷ bs) whole there written =
+      search (rules, same_on, at_file, all_samples_kept, written_kept bs whole.1 there.1 written.1)
 
   all_whole_kept : (bs : List NewBlock) → AllByRecursion (λ b. IsWhole files (ref_of b)) bs
       → AllByRecursion (λ b. IsWhole files' (ref_of b)) bs
   all_whole_kept [] whole = tt
-  all_whole_kept (b ∷ bs) whole =
-      (same_whole files files' (ref_of b) (at_file (ref_of b) whole.0) whole.0, all_whole_kept bs whole.1)
+  all_whole_kept (b ∷ bs) whole = search (rules, same_whole, at_file, all_whole_kept bs whole.1)
 
   -- what was put is written
   written_now : (b : NewBlock) → AllThere files b.pieces → total b.pieces ≡ b.len
@@ -107,10 +101,7 @@ pub new_at : (m next : ℕ) (bs : List NewBlock) (i : ℕ) (d : NewBlock) → i 
     → IsNewAt m next i (get_or bs i d)
 new_at m next [] i d lt new = absurd (omega arith)
 new_at m next (b ∷ bs) zero d lt new = record { id = new.0 ∙ omega arith; some = new.1; few = new.2; total = new.3 }
-new_at m next (b ∷ bs) (suc i) d lt new =
-    let rest = new_at m (next + 1) bs i d (omega arith) new.5 in
-    let e : next + 1 + i ≡ next + suc i = omega arith in
-    record { id = rest.id ∙ e; some = rest.some; few = rest.few; total = rest.total }
+new_at m next (b ∷ bs) (suc i) d lt new = search (rules, new_at m (next + 1) bs i d (omega arith) new.5)
 
 -- ---- what the disk has of the pieces while the first blocks are made
 
@@ -147,9 +138,7 @@ module _ (given : ℕ → ℤ) (m next n : ℕ) (bs : List NewBlock) (d : NewBlo
   next_there = each_at (λ x. AllThere mid x.pieces) bs n d lt still
 
   pub next_absent : mid b.id ≡ None
-  next_absent =
-      let is = (new_at m next bs n d lt fresh).id in
-      made.same b.id (inr (omega (arith, is))) ∙ gone b.id (omega (arith, is)) (omega (arith, is, lt))
+  next_absent = search (rules, new_at, inr, made.same)
 
   -- one new block more is made
   pub made_more : (new : Files) → SameElsewhere b.id mid new

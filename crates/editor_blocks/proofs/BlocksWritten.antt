@@ -80,8 +80,7 @@ module _ {D : Type 0} (disk : Ghosts D) (s : Core D) (given : ℕ → ℤ) (bs :
   -- a piece of the next block could not be read
   pub making_unread : (n : ℕ) (mid new : Core D) → Making disk s (batch_of given bs) n mid → Unread disk mid new
       → Making disk s (batch_of given bs) n new
-  making_unread n mid new was un =
-      making_over n mid new was un.is un.kept.same_reads (then_kept was.changed un.kept) un.kept.same_faults
+  making_unread n mid new was un = search (rules, making_over, then_kept)
 
   -- ---- each in one call
 

@@ -53,8 +53,7 @@ filled_vainly b tells files ps before block never =
 filled_there : (b : Brought) (files : Files) (ps : List Piece) (before : Option (List ℕ)) (block : Option (List ℤ))
     → AllThere files ps → (IsTrue true → AllThere files ps → before ≡ None → IsFilled b files ps block)
     → (given : ℕ → ℤ) × MayBring b given × FilledBy true files ps before block given
-filled_there b files ps None block there by =
-    let filled = by refl there refl in (filled.given, filled.may, λ told there gone. filled.is)
+filled_there b files ps None block there by = search rules
 filled_there b files ps (Some bytes) block there by =
     filled_vainly b true files ps (Some bytes) block (λ told there gone. some_gone bytes gone)
   where
@@ -82,11 +81,8 @@ all_le low high (b ∷ bs) order =
 written_same : (files : Files) (f g : ℕ → ℤ) (low high : ℕ) (bs : List NewBlock) → AllInOrder low high bs
     → ((i : ℕ) → i < high → f i ≡ g i) → AreWritten (sources_with files f) bs → AreWritten (sources_with files g) bs
 written_same files f g low high [] order same written = tt
-written_same files f g low high (b ∷ bs) order same written = (
-  written.0 ∙ parts_same files f g low order.0 b.pieces order.1
-      (λ i least less. same i (omega (arith, less, all_le order.0 high bs order.2))),
-  written_same files f g order.0 high bs order.2 same written.1,
-)
+written_same files f g low high (b ∷ bs) order same written =
+    search (rules, parts_same, all_le, written_same files f g order.0 high bs order.2 same written.1)
 
 -- the blocks so far, by samples that may be brought, and the place that the next one begins at
 pub record IsBrought {D : Type 0} (disk : Ghosts D) (s : Core D) (b : Brought) (bs : List NewBlock) (n : ℕ) (new : Core D)

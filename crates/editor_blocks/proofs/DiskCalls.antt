@@ -30,9 +30,7 @@ within_then m m' n p p' v a b same alike none all =
 
 pub within_some : (exchange : Exchange) (journal : Option (List ℕ)) (m n len packed b : ℕ) → b ≡ n
     → IsWithin (made_room (size_of m) n) (asks exchange journal m b len packed)
-within_some exchange journal m n len packed b all =
-    subst (λ (k : ℕ). IsWithin (made_room (size_of m) n) (asks exchange journal m k len packed)) (sym all)
-    (record { files = omega arith; bytes = bytes_some (size_of m) n _ _; calls = omega arith })
+within_some exchange journal m n len packed b all = search (rules, bytes_some)
 
 -- the disk broke the call off as the next block was made
 pub within_last : (call : Call) (sound : SoundMove) (journal : Option (List ℕ)) (m m' n len packed b : ℕ) → m' ≡ m

@@ -1,8 +1,9 @@
 -- The next block of some that are made.
-use Rattle.editor_blocks.proofs.Common.{ℤ, ◌≡◌, inl, ⊎_elim, refl, sym, ◌∙◌, subst, ℕ, ◌+◌, ◌^◌, ◌≤◌, ◌<◌, IsTrue}
+use Rattle.editor_blocks.proofs.Common.{ℤ, ◌≡◌, inl, refl, sym, ◌∙◌, subst, ℕ, ◌+◌, ◌^◌, ◌≤◌, ◌<◌, IsTrue}
 use Rattle.editor_blocks.proofs.Common.{IsSome, Option, Some, None, List, length, get_or, arith, same_Some, total}
 use Rattle.editor_blocks.proofs.Common.{Refusal, Ghosts, Counts, NewBlock, AreNew, AllThere, AddsFree, IsDamageAmong}
 use Rattle.editor_blocks.proofs.Common.{IsOfDevices, Making, NotMade, Stuck, Core, AreAbsent, PiecesThere, batch_of}
+use Rattle.editor_blocks.proofs.Common.{rules}
 use Rattle.std.proofs.Common.{slice_get}
 use Rattle.std.proofs.lemmas.Option.{slice_get-get_or}
 use Rattle.sample_block.specs.Spelling.{IsBlock}
@@ -17,7 +18,7 @@ pub none_where : {A : Type 0} (o : Option A) → (IsSome o → ⊥) → o ≡ No
 none_where None h = refl
 none_where (Some n) h = absurd (h refl)
 
--- what is asked of the next one
+-- the next block has this id, these lengths and pieces that fill it
 pub record IsReady (m next n : ℕ) (b : NewBlock) : Type 0 where
   pub id : b.id ≡ next + n
   pub block : IsBlock b.id b.len
@@ -44,9 +45,7 @@ ready_item m next n bs b lt here fresh least most size =
 -- the ledger does not have the next id
 pub fresh_next : (next n : ℕ) (old mid : Counts) (id : ℕ) → AddsFree next n old mid
     → ((k : ℕ) → IsSome (old k) → k < next) → id ≡ next + n → mid id ≡ None
-fresh_next next n old mid id was below is = none_where (mid id)
-    (λ h. ⊎_elim (λ o. absurd (omega (arith, below id o, is))) (λ r. absurd (omega (arith, r.1, is)))
-    ((was.ids id).0 h))
+fresh_next next n old mid id was below is = search (rules, none_where, was.ids)
 
 module _ {D : Type 0} (disk : Ghosts D) (s : Core D) (given : ℕ → ℤ) (bs : List NewBlock) (n : ℕ) (mid : Core D)
     (was : Making disk s (batch_of given bs) n mid)

@@ -1,11 +1,10 @@
 -- An edit that is carried out finds no damaged file, where the disk holds the studio and has the blocks that are read.
-use Rattle.editor_blocks.proofs.Common.{◌≡◌, ⊎_elim, sym, subst, ℕ, None, length, Err, Refusal, Truncated, Ghosts, Core}
-use Rattle.editor_blocks.proofs.Common.{PiecesThere, IsOfDevices, IsHeld, IsStudio}
+use Rattle.editor_blocks.proofs.Common.{rules, ◌≡◌, ⊎_elim, sym, subst, ℕ, None, length, Err, Refusal, Truncated}
+use Rattle.editor_blocks.proofs.Common.{Ghosts, Core, PiecesThere, IsOfDevices, IsHeld, IsStudio}
 use Rattle.envelope_view.specs.Answers.{IsUndamaged}
 use Rattle.project_journal.specs.Journal.{rows_length}
 use Rattle.editor_state.specs.Edits.{Carried, NotPrepared, BlockCommit}
 use Rattle.editor_blocks.proofs.StudioBlocks.{absent}
-use Rattle.editor_state.proofs.Refusals.Tests as tests
 use Rattle.pcm_base.specs.declared.refusal.Refusal.TheVariants as refusal
 
 -- a device's fault is no damage
@@ -21,9 +20,7 @@ module _ {D : Type 0} (disk : Ghosts D) (s : Core D) (is : IsStudio disk s) (goi
   n = length c.makes
 
   unprepared : NotPrepared s n c.tracks c.layouts c.count c.whole (rows_length c.bodies) why → IsUndamaged why
-  unprepared =
-      tests.unprepared IsUndamaged (λ have need. tt) (λ len. tt) s n c.tracks c.layouts c.count c.whole
-      (rows_length c.bodies) why tt
+  unprepared = search rules
 
   pub no_damage : (new : Core D) → IsHeld disk s → PiecesThere (disk.reads s.store) c.makes
       → Carried disk s c (Err why) new → IsUndamaged why

@@ -2,7 +2,7 @@
 use Rattle.editor_blocks.proofs.Common.{⊎_elim, refl, ap, subst, ℕ, ◌<◌, if◌then◌else◌, IsSome, List, [], ◌∷◌, arith}
 use Rattle.editor_blocks.proofs.Common.{eqb_tells, AllByRecursion, Old, Scaled, Zero, Given, BlockRef, Piece, Files}
 use Rattle.editor_blocks.proofs.Common.{IsWhole, AllFrom, Counts, NewBlock, AllNewFrom, AllThere, PiecesThere}
-use Rattle.editor_blocks.proofs.Common.{contained}
+use Rattle.editor_blocks.proofs.Common.{contained, rules}
 use Rattle.sample_block.specs.Sources.{AllWhole}
 use Rattle.block_ledger.specs.Counts.{occurrences}
 use Rattle.editor_state.specs.{Occurrences.HasIds, Occurrences.times_named}
@@ -21,8 +21,7 @@ pieces_all files xs n (Given lo hi ∷ ps) whole from = (tt, pieces_all files xs
 pub makes_all : (files : Files) (xs : List BlockRef) (n : ℕ) (bs : List NewBlock) → AllWhole files xs
     → AllNewFrom xs n bs → PiecesThere files bs
 makes_all files xs n [] whole from = tt
-makes_all files xs n (b ∷ bs) whole from =
-    (pieces_all files xs n b.pieces whole from.0, makes_all files xs n bs whole from.1)
+makes_all files xs n (b ∷ bs) whole from = search (rules, pieces_all, makes_all files xs n bs whole from.1)
 
 abbrev pub IsCounted : Counts → BlockRef → Type 0
 IsCounted counts b = IsSome (counts b.id)

@@ -1,6 +1,6 @@
 -- Blocks whose pieces come in order, after others that do.
-use Rattle.editor_blocks.proofs.Common.{◌≤◌, ℕ, List, [], ◌∷◌, ◌++◌, arith, Piece, Old, Scaled, Zero, Given, NewBlock}
-use Rattle.editor_blocks.proofs.Common.{AreInOrder, AllInOrder}
+use Rattle.editor_blocks.proofs.Common.{rules, ◌≤◌, ℕ, List, [], ◌∷◌, ◌++◌, arith, Piece, Old, Scaled, Zero, Given}
+use Rattle.editor_blocks.proofs.Common.{NewBlock, AreInOrder, AllInOrder}
 use Rattle.block_writer.specs.Brought.{LiesBetween}
 
 pub order_append : (low mid high : ℕ) (xs ys : List NewBlock) → AllInOrder low mid xs → AllInOrder mid high ys
@@ -16,13 +16,11 @@ order_append low mid high [] ys first second = lower low mid high ys first secon
         lies_lower low mid high (Old b from to) le lies = tt
         lies_lower low mid high (Scaled b from to gain) le lies = tt
         lies_lower low mid high (Zero len) le lies = tt
-        lies_lower low mid high (Given from to) le lies = λ less.
-            let both = lies less in (omega (arith, le, both.0), both.1)
+        lies_lower low mid high (Given from to) le lies = search rules
 
         begin_lower : (low mid high : ℕ) (ps : List Piece) → low ≤ mid → AreInOrder mid high ps
             → AreInOrder low high ps
         begin_lower low mid high [] le order = omega (arith, le, order)
         begin_lower low mid high (p ∷ ps) le order =
             (order.0, omega (arith, le, order.1), lies_lower low mid order.0 p le order.2, order.3)
-order_append low mid high (x ∷ xs) ys first second =
-    (first.0, first.1, order_append first.0 mid high xs ys first.2 second)
+order_append low mid high (x ∷ xs) ys first second = search (rules, order_append first.0 mid high xs ys first.2 second)

@@ -1,7 +1,7 @@
 -- The blocks of plans: which a layout names, and which pieces are read.
 use Rattle.editor_blocks.proofs.Common.{⊎_elim, sym, subst, ℕ, ◌+◌, List, [], ◌∷◌, Contains, AllByRecursion, Old}
 use Rattle.editor_blocks.proofs.Common.{Scaled, Zero, Given, BlockRef, Piece, AllFrom, layout_blocks, NewBlock, AreNew}
-use Rattle.editor_blocks.proofs.Common.{AllNewFrom, AreOldOrNew, IsGiven, contained, all_left, all_right}
+use Rattle.editor_blocks.proofs.Common.{AllNewFrom, AreOldOrNew, IsGiven, contained, all_left, all_right, rules}
 use Rattle.pcm_base.specs.{Pieces.AllValid}
 use Rattle.sample_block.specs.Sources.{AllNamed, IsNamed}
 use Rattle.clip_track.specs.{declared.clips.Clip.Clip}
@@ -24,8 +24,7 @@ ids_given next (b ∷ bs) h = (h.0.0, h.0.1, ids_given next bs h.1)
 pub clips_ids : (next : ℕ) (cs : List Clip) → AllClipsGiven next cs
     → AllByRecursion (λ (b : BlockRef). IsGiven next b.id) (layout_blocks cs)
 clips_ids next [] h = tt
-clips_ids next (c ∷ cs) h = all_append (λ (b : BlockRef). IsGiven next b.id) c.blocks (layout_blocks cs)
-    (given_ids next c.blocks h.0) (clips_ids next cs h.1)
+clips_ids next (c ∷ cs) h = search (rules, all_append, given_ids, clips_ids next cs h.1)
 
 pub ids_clips : (next : ℕ) (cs : List Clip) → AllByRecursion (λ (b : BlockRef). IsGiven next b.id) (layout_blocks cs)
     → AllClipsGiven next cs

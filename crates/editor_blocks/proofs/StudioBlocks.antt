@@ -6,7 +6,6 @@ use Rattle.editor_blocks.proofs.Common.{EachSince, NewBlock, AreNew, ref_of, Tra
 use Rattle.editor_blocks.proofs.Common.{AreAbsent, AreMade, PiecesThere, SameOutside, batch_of, ids_from, IsGiven}
 use Rattle.editor_blocks.proofs.Common.{IsHeld, IsStudio, named_blocks, shown, studio_of, Core, AddsFree, Making}
 use Rattle.disk_model.specs.{Disk.Follows}
-use Rattle.project_journal.specs.{Choice.other_file}
 use Rattle.project_journal.proofs.Kept.{SameJournals, each_since, is_at_still}
 use Rattle.block_writer.proofs.MadeLaws.{file_of_block}
 use Rattle.record_body.specs.{SavedValid.IsValidPoint}
@@ -31,13 +30,7 @@ IsNewId next n id = (next ≤ id) × (id < next + n)
 pub refs_ids : (m next : ℕ) (bs : List NewBlock) → AreNew m next bs
     → AllByRecursion (λ (b : BlockRef). IsNewId next (length bs) b.id) (refs bs)
 refs_ids m next [] fresh = tt
-refs_ids m next (b ∷ bs) fresh =
-    let rest = refs_ids m (next + 1) bs fresh.5 in (
-      (omega (arith, fresh.0), omega (arith, fresh.0)),
-      all_so (λ (r : BlockRef). IsNewId (next + 1) (length bs) r.id)
-          (λ (r : BlockRef). IsNewId next (length (b ∷ bs)) r.id)
-          (λ r h. (omega (arith, h.0), omega (arith, h.1))) (refs bs) rest,
-    )
+refs_ids m next (b ∷ bs) fresh = search (rules, all_so, refs_ids m (next + 1) bs fresh.5)
 
 pub refs_all : (P : BlockRef → Type 0) (bs : List NewBlock) → AllByRecursion (λ b. P (ref_of b)) bs
     → AllByRecursion P (refs bs)
@@ -71,16 +64,14 @@ point_more m block track block' track' p le le' h =
 pub below_same : (next n : ℕ) (bs : List BlockRef) (old new : Files)
     → AllByRecursion (λ (b : BlockRef). IsGiven next b.id) bs → SameOutside next n old new
     → SameBlocks bs old new
-below_same next n bs old new ids same =
-    all_so (λ (b : BlockRef). IsGiven next b.id) (λ b. new b.id ≡ old b.id) (λ b h. same b.id (inl h.1)) bs ids
+below_same next n bs old new ids same = search (rules, all_so, inl)
 
 same_back : (bs : List BlockRef) (old new : Files) → SameBlocks bs old new → SameBlocks bs new old
 same_back bs old new = all_so (λ b. new b.id ≡ old b.id) (λ b. old b.id ≡ new b.id) (λ b e. sym e) bs
 
 journals_same : (file next n : ℕ) → file ≤ 1 → 16 ≤ next → (d c : Files) → SameOutside next n d c
     → SameJournals file d c
-journals_same file next n few least d c same =
-    (same file (inl (omega (arith, few, least))), same (other_file file) (inl (omega (arith, least))))
+journals_same file next n few least d c same = search (rules, inl)
 
 module _ {D : Type 0} (disk : Ghosts D) (s : Core D) (is : IsStudio disk s) where
   abbrev bs : List BlockRef

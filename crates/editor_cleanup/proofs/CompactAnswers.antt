@@ -32,13 +32,7 @@ abbrev pub call : Call
 call = Line Compact
 
 pub quiet : IsQuiet call
-quiet = record {
-  needs = λ t. (refl, refl);
-  no_commit = refl;
-  no_track = λ t. refl;
-  no_layout = λ t. refl;
-  quiet = λ t. refl;
-}
+quiet = search rules
 
 -- What the journal's own call does with this text, over these stores: its clauses.
 pub record Packs {D T E : Type 0} (disk : Ghosts D) (file : ℕ) (there : Bool) (old new : D) (text : List ℕ)
@@ -73,8 +67,7 @@ module _ {D : Type 0} (disk : Ghosts D) (old : Core D) (is : IsStudio disk old) 
 
   pub compact_stopped : (faults : ℕ) → old.stopped ≡ Some faults
       → Compacts disk old (Err (refusal.Stopped faults)) old
-  compact_stopped faults stopped =
-      refused (refusal.Stopped faults) (refused_stopped disk old call quiet tt is fewer faults refl stopped)
+  compact_stopped faults stopped = search (rules, refused, refused_stopped, quiet)
 
   pub compact_wanting : Compacts disk old (Err refusal.NoMemory) old
   compact_wanting = refused refusal.NoMemory (refused_wanting disk old call quiet tt is fewer)
@@ -169,8 +162,7 @@ module _ {D : Type 0} (disk : Ghosts D) (old : Core D) (is : IsStudio disk old) 
           halted = record old { store = new; stopped = Some halt }
 
           failed : HasFailed disk old.store new
-          failed = let same = kept.same_faults in
-              record { rose = omega (arith, rose, same); later = omega (arith, more, same) }
+          failed = search (rules, kept.same_faults)
 
           pub compact_failed : Compacts disk old (Err refusal.DiskFault) halted
           compact_failed =

@@ -19,8 +19,7 @@ module _ {D : Type 0} (old : Core D) where
 
   pub forgets_all : (count : ℕ) (ids : List ℕ) (end : ℕ) (new : Core D) → Forgetting old ids end new
       → AreFirst old.counts count ids → ForgetsFirst old count new
-  forgets_all count ids end new was first =
-      record { ids = ids; first = first; forgets = was.forgets; fields = was.fields }
+  forgets_all count ids end new was first = search rules
 
 -- those whose files were removed
 pub forgotten : {D : Type 0} (old mid new : Core D) (ids : List ℕ) (end count : ℕ) → AreNext old.counts 0 ids end

@@ -1,5 +1,5 @@
 -- Files of ids of count 0 go, one after another.
-use Rattle.editor_cleanup.proofs.Common.{◌≡◌, inl, ⊎_elim, refl, ◌∙◌, ℕ, Option, Some, rules, cases_eq, Line, Reclaim}
+use Rattle.editor_cleanup.proofs.Common.{◌≡◌, inl, refl, ℕ, Option, Some, rules, cases_eq, Line, Reclaim}
 use Rattle.editor_cleanup.proofs.Common.{Files, RemoveStep, Counts, LeavesOthers, MayRemove, FreesFiles}
 
 module _ (counts : Counts) where

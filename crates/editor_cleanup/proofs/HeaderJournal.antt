@@ -9,7 +9,7 @@ use Rattle.editor_cleanup.proofs.Common.{packed_log, packed_size, packed_text, p
 use Rattle.editor_cleanup.proofs.Common.{IsStudio, SameBlocks, clip_blocks, named_blocks, shown, studio_by, studio_of}
 use Rattle.editor_cleanup.proofs.Common.{Core, form_at, covers_kept, form_few, keeps_by, shown_is, all_both}
 use Rattle.editor_cleanup.proofs.Common.{same_studio, all_whole, trans_same}
-use Rattle.std.proofs.Common.{ap₂, ◌-◌}
+use Rattle.std.proofs.Common.{◌-◌}
 use Rattle.std.proofs.lemmas.List.{length-map}
 use Rattle.project_journal.specs.Packing.{IsText}
 use Rattle.project_journal.specs.{Header.IsBase}
@@ -27,7 +27,7 @@ use Rattle.editor_cleanup.proofs.HeaderPoints.{length_rows}
 
 -- ---- the text
 
--- a header's points, of which there is one at least, are told
+-- a header that has a point begins by its points
 begins_by : (points : List (List ℕ)) (log : Log) (base : Saved) → 0 < length points → IsHeaderBase log base
     → BeginsBy points log base
 begins_by [] log base some told = absurd (omega (arith, some))
@@ -38,15 +38,13 @@ plain_point p = (map unnumbered p.0, p.1)
 
 points_alike : (ps : List (List Track × ℕ)) → map point_bytes ps ≡ map point_bytes (map plain_point ps)
 points_alike [] = refl
-points_alike (p ∷ ps) =
-    ap₂ (λ (bytes : List ℕ) (rest : List (List ℕ)). bytes ∷ rest) (sym (point_alike p.0 p.1)) (points_alike ps)
+points_alike (p ∷ ps) = search (rules, point_alike, points_alike ps)
 
 points_valid : (m block track commit : ℕ) (ps : List (List Track × ℕ))
     → AllByRecursion (IsValidTagged m block track commit) ps
     → AllByRecursion (IsValidTagged m block track commit) (map plain_point ps)
 points_valid m block track commit [] all = tt
-points_valid m block track commit (p ∷ ps) all =
-    ((valid_alike m block track p.0 all.0.0, all.0.1), points_valid m block track commit ps all.1)
+points_valid m block track commit (p ∷ ps) all = search (rules, valid_alike, points_valid m block track commit ps all.1)
 
 points_plain : (ps : List (List Track × ℕ))
     → AllByRecursion (λ (p : List Track × ℕ). AreUnnumbered p.0) (map plain_point ps)
@@ -94,8 +92,7 @@ module _ {D : Type 0} (disk : Ghosts D) (s : Core D) (is : IsStudio disk s) (goi
   still_same told = blocks_same (disk.reads s.store) (disk.reads store) (changed.reads told)
 
   pub still_whole : IsHeld disk s → AllWhole (disk.reads store) (named_blocks s)
-  still_whole held =
-      all_whole (disk.reads s.store) (disk.reads store) (named_blocks s) (still_same held.tells) held.whole
+  still_whole held = search (rules, all_whole, still_same)
 
   pub still_tells : IsHeld disk s → IsTrue (disk.tells store)
   still_tells held = subst IsTrue (sym changed.tells) held.tells
@@ -209,11 +206,7 @@ module _ {D : Type 0} (disk : Ghosts D) (s : Core D) (is : IsStudio disk s) (goi
     pub packed_held : (IsHeld disk s
         → IsAt (form_3 (other_file s.file)) disk store (length (packed_text s)) (packed_log s))
         → IsHeld disk s → IsHeld disk new
-    packed_held at held = record {
-      tells = still_tells held;
-      whole = still_whole held;
-      durable = λ on. packed_durable held.tells (at held) (held.durable going);
-    }
+    packed_held at held = search (rules, still_tells, still_whole, packed_durable, held.durable)
 
     pub packed_state : disk.read_fault_count store ≡ disk.read_fault_count s.store
         → disk.change_fault_count store ≡ disk.change_fault_count s.store → IsTrue (disk.tells s.store)

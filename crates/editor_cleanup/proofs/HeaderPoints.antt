@@ -1,6 +1,6 @@
 -- The points of a history as a header has them, one after another.
 use Rattle.editor_cleanup.proofs.Common.{◌≡◌, ℕ, zero, suc, ◌+◌, ◌^◌, ◌<◌, List, [], ◌∷◌, ◌++◌, length, map, Some, refl}
-use Rattle.editor_cleanup.proofs.Common.{sym, ap, subst, arith, length-append, rules, slice_index, points_size}
+use Rattle.editor_cleanup.proofs.Common.{ap, arith, length-append, rules, slice_index, points_size}
 use Rattle.editor_cleanup.proofs.Common.{AreShort, Track, point_bytes}
 use Rattle.std.proofs.Common.{take, drop, slice_get}
 use Rattle.std.specs.{List.flat_map}
@@ -42,8 +42,7 @@ short_more (p ∷ ps) x short less = (short.0, short_more ps x short.1 less)
 pub short_next : (ps : List (List Track × ℕ)) (i : ℕ) (x : List Track × ℕ) → take (i + 1) ps ≡ take i ps ++ x ∷ []
     → AreShort (map point_bytes (take i ps)) → length (point_bytes x) < 2 ^ 32
     → AreShort (map point_bytes (take (i + 1) ps))
-short_next ps i x e short less =
-    subst (λ (xs : List (List Track × ℕ)). AreShort (map point_bytes xs)) (sym e) (short_more (take i ps) x short less)
+short_next ps i x e short less = search (rules, short_more)
 
 pub short_at : (ps : List (List Track × ℕ)) (i : ℕ) (x : List Track × ℕ) → slice_get ps i ≡ Some x
     → AreShort (map point_bytes ps) → length (point_bytes x) < 2 ^ 32

@@ -1,9 +1,10 @@
 -- What a reclaim answers where the disk did not fail, and of a studio that had stopped.
-use Rattle.editor_cleanup.proofs.Common.{◌≡◌, ◌⊎◌, inl, inr, ⊎_elim, refl, sym, ap, subst, ℕ, ◌≤◌, IsTrue, [], length}
-use Rattle.editor_cleanup.proofs.Common.{Option, Some, None, Result, Ok, Err, arith, IfSome, unwrap_or, ◌-◌, Call, Line}
-use Rattle.editor_cleanup.proofs.Common.{Reclaim, Refusal, stop_of, Ghosts, Fewer, changed_wider, Counts, IsHeld}
-use Rattle.editor_cleanup.proofs.Common.{IsStudio, is_given, studio_of, Core, Forgets, Reclaims, DropsFirst, IsQuiet}
-use Rattle.editor_cleanup.proofs.Common.{room_of, ids_freed, no_record, none_given, stopped_not, keeps_now, fits}
+use Rattle.editor_cleanup.proofs.Common.{rules, ◌≡◌, ◌⊎◌, inl, inr, ⊎_elim, refl, sym, ap, subst, ℕ, ◌≤◌, IsTrue, []}
+use Rattle.editor_cleanup.proofs.Common.{length, Option, Some, None, Result, Ok, Err, arith, IfSome, unwrap_or, ◌-◌}
+use Rattle.editor_cleanup.proofs.Common.{Call, Line, Reclaim, Refusal, stop_of, Ghosts, Fewer, changed_wider, Counts}
+use Rattle.editor_cleanup.proofs.Common.{IsHeld, IsStudio, is_given, studio_of, Core, Forgets, Reclaims, DropsFirst}
+use Rattle.editor_cleanup.proofs.Common.{IsQuiet, room_of, ids_freed, no_record, none_given, stopped_not, keeps_now}
+use Rattle.editor_cleanup.proofs.Common.{fits}
 use Rattle.std.specs.Prelude.{◌^◌}
 use Rattle.pcm_base.specs.{declared.answer.Reply.Reply, declared.answer.Reply.TheVariants.Freed, Step.IsWithin}
 use Rattle.editor_state.specs.{Removals.FreesUnnamed, Took.silent}
@@ -28,13 +29,7 @@ module _ {D : Type 0} (disk : Ghosts D) (old : Core D) (limit : Option ℕ) wher
   call = Line (Reclaim limit)
 
   pub quiet : IsQuiet call
-  quiet = record {
-    needs = λ t. (refl, refl);
-    no_commit = refl;
-    no_track = λ t. refl;
-    no_layout = λ t. refl;
-    quiet = λ t. refl;
-  }
+  quiet = search rules
 
   -- as many as were asked for, or all there are
   module _ {T E : Type 0} (r : T) (most : ℕ) (is : IsStudio disk old) (going : old.stopped ≡ None) (mid : Core D)

@@ -1,9 +1,9 @@
 -- What a reclaim answers where the disk failed.
-use Rattle.editor_cleanup.proofs.Common.{◌≡◌, inl, inr, ⊎_elim, refl, ◌∙◌, ℕ, ◌+◌, ◌^◌, ◌<◌, IsTrue, IsSome, List}
+use Rattle.editor_cleanup.proofs.Common.{◌≡◌, inl, inr, ⊎_elim, refl, ℕ, ◌+◌, ◌^◌, ◌<◌, IsTrue}
 use Rattle.editor_cleanup.proofs.Common.{length, Option, Some, None, Err, arith, Contains, unwrap_or, ◌-◌, Ghosts}
 use Rattle.editor_cleanup.proofs.Common.{changed_wider, Counts, IsHeld, IsStudio, is_given, studio_of, HasFailed, Core}
 use Rattle.editor_cleanup.proofs.Common.{Forgets, IsUnnamed, RemovesPart, Reclaims, RemovesFirst, ids_freed, no_record}
-use Rattle.editor_cleanup.proofs.Common.{off_untouched, stopped_not}
+use Rattle.editor_cleanup.proofs.Common.{off_untouched, stopped_not, rules}
 use Rattle.editor_cleanup.proofs.StudioFiles.{halted_held, halted_studio, keeps_since, same_meaning}
 use Rattle.editor_cleanup.proofs.ReclaimAnswers.{quiet, some_none}
 use Rattle.editor_cleanup.proofs.UnnamedFiles.{free_unnamed, spared, unnamed_before, unnamed_free}
@@ -35,15 +35,7 @@ module _ {D T E : Type 0} (disk : Ghosts D) (old : Core D) (limit : Option ℕ) 
   -- which is left is above those that went
   left_above : IsHeld disk old → (id other : ℕ) → Contains was.ids id → IsUnnamed disk new other → id < other
   left_above on id other one un =
-      let before = unnamed_before disk old new refl (was.changed.reads on.tells) other un in
-      let free = unnamed_free disk old is (on.durable going) other before in
-      let not : Contains was.ids other → ⊥ = λ has. no_file (disk.reads mid.store other) (was.gone on.tells other has)
-      un.file in
-      gone.least id other one (gone.others other not ∙ free)
-    where
-      no_file : (o : Option (List ℕ)) → o ≡ None → IsSome o → ⊥
-      no_file None none some = absurd (cc some)
-      no_file (Some n) none some = absurd (cc none)
+      search (rules, unnamed_before, unnamed_free, was.changed.reads, on.durable, was.gone, gone.least, gone.others)
 
   pub reclaim_fails : Reclaims disk old limit (Err refusal.DiskFault) new
   reclaim_fails =

@@ -1,8 +1,8 @@
 -- Files of blocks are removed, one after another.
-use Rattle.editor_cleanup.proofs.Common.{◌≡◌, ◌⊎◌, inl, inr, sym, ap, ◌∙◌, subst, ℕ, ◌+◌, ◌≤◌, Bool, IsTrue, rules}
+use Rattle.editor_cleanup.proofs.Common.{◌≡◌, ◌⊎◌, inl, inr, sym, ◌∙◌, subst, ℕ, ◌+◌, ◌≤◌, Bool, IsTrue, rules}
 use Rattle.editor_cleanup.proofs.Common.{List, [], ◌∷◌, ◌++◌, length, None, Result, Ok, Err, arith, cases_eq, Contains}
 use Rattle.editor_cleanup.proofs.Common.{RemoveStep, Changed, Ghosts, Fewer, changed_none, changed_turn, changed_wider}
-use Rattle.editor_cleanup.proofs.Common.{AllPass, Counts, IsNextFree, Core, Removes, AreNext, FreesFiles, NoneFrom}
+use Rattle.editor_cleanup.proofs.Common.{AllPass, IsNextFree, Core, Removes, AreNext, FreesFiles, NoneFrom}
 use Rattle.editor_cleanup.proofs.Common.{RemovesFirst, only_calls}
 use Rattle.std.proofs.Common.{◌*◌}
 use Rattle.block_cache.proofs.CarriedLaws.{pass_without}
@@ -27,13 +27,11 @@ module _ {D : Type 0} (disk : Ghosts D) (old : Core D) where
   -- what comes next by the counts as they are
   pub next_here : (ids : List ℕ) (end id : ℕ) (mid : Core D) → Removing disk old ids end mid
       → IsNextFree mid.counts end id → IsNextFree old.counts end id
-  next_here ids end id mid was next =
-      subst (λ (k : Counts). IsNextFree k end id) (ap (λ (z : Core D). z.counts) was.fields) next
+  next_here ids end id mid was next = search rules
 
   pub none_here : (ids : List ℕ) (end : ℕ) (mid : Core D) → Removing disk old ids end mid → NoneFrom mid.counts end
       → NoneFrom old.counts end
-  none_here ids end mid was none =
-      subst (λ (k : Counts). NoneFrom k end) (ap (λ (z : Core D). z.counts) was.fields) none
+  none_here ids end mid was none = search rules
 
   module _ (ids : List ℕ) (end id : ℕ) (mid new : Core D) (was : Removing disk old ids end mid)
       (next : IsNextFree old.counts end id) where

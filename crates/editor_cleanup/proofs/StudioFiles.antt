@@ -60,8 +60,7 @@ module _ {D : Type 0} (disk : Ghosts D) (s : Core D) (is : IsStudio disk s) (muc
 
   -- it is whole still
   still_whole : IsHeld disk s → AllWhole (disk.reads store) (named_blocks s)
-  still_whole held =
-      all_whole (disk.reads s.store) (disk.reads store) (named_blocks s) (same_files held.tells) held.whole
+  still_whole held = search (rules, all_whole, same_files)
 
   still_tells : IsHeld disk s → IsTrue (disk.tells store)
   still_tells held = subst IsTrue (sym changed.tells) held.tells
@@ -101,8 +100,7 @@ module _ {D : Type 0} (disk : Ghosts D) (s : Core D) (is : IsStudio disk s) (muc
     less = record s { store = store; cache = cache; counts = counts }
 
     pub less_studio : AllPass (is_given s.next_block) cache → IsStudio disk less
-    less_studio =
-        studio_with disk s is store cache counts s.stopped less_counts (λ x some. less_given x some (is_among ids x))
+    less_studio = search (rules, studio_with, less_counts, less_given, is_among)
 
     less_durable : IsTrue (disk.tells s.store) → Removes (disk.reads s.store) (disk.reads store) ids → IsDurable disk s
         → IsDurable disk less
@@ -134,11 +132,7 @@ module _ {D : Type 0} (disk : Ghosts D) (s : Core D) (is : IsStudio disk s) (muc
 
     pub less_held : (IsTrue (disk.tells s.store) → Removes (disk.reads s.store) (disk.reads store) ids) → IsHeld disk s
         → IsHeld disk less
-    less_held removes held = record {
-      tells = still_tells held;
-      whole = still_whole held;
-      durable = λ going. less_durable held.tells (removes held.tells) (held.durable going);
-    }
+    less_held removes held = search (rules, still_tells, still_whole, less_durable, held.durable)
 
     -- it has stopped
     abbrev pub halted : ℕ → Core D

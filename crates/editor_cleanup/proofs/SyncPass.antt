@@ -57,8 +57,7 @@ module _ {D : Type 0} (disk : Ghosts D) (old : Core D) where
               ap (λ (f : Files). f x) from.2 ∙ was.settled from.0 from.1 x one ∙ sym (ap (λ (f : Files). f x) reads)
 
       then_changed : (n : ℕ) → length ids + 1 ≤ n → Changed disk StaysStep (only_calls n) old.store store
-      then_changed n le = changed_then_stays
-          (record { files = omega arith; bytes = omega arith; calls = omega (arith, le) }) was.changed changed
+      then_changed n le = search (rules, changed_then_stays)
 
       pub syncing_more : IsNextFree old.counts end id → EachNow disk store (λ c. c id ≡ disk.reads store id)
           → disk.change_fault_count store ≡ disk.change_fault_count mid.store

@@ -3,7 +3,7 @@ use Rattle.editor_cleanup.proofs.Common.{◌≡◌, refl, sym, ap, subst, ℕ, z
 use Rattle.editor_cleanup.proofs.Common.{None, arith, Ghosts, occurrences, IsDurable, IsStudio, named_blocks, Core}
 use Rattle.editor_cleanup.proofs.Common.{times_named, IsUnnamed, FreesFiles, free_named}
 use Rattle.editor_state.specs.{Removals.HasOnlyNamed}
-use Rattle.editor_state.proofs.Blocks.NamedBlocks.{counted_most, named_counted}
+use Rattle.editor_state.proofs.Blocks.{BlockNumbers.some_count, NamedBlocks.counted_most, NamedBlocks.named_counted}
 
 -- whatever the disk tells
 pub spared : {D : Type 0} (disk : Ghosts D) (s : Core D) → IsStudio disk s → (id : ℕ) → s.counts id ≡ Some 0
@@ -36,13 +36,9 @@ module _ {D : Type 0} (disk : Ghosts D) (s : Core D) (is : IsStudio disk s) (d :
   pub only_named : ((id : ℕ) → s.counts id ≡ Some 0 → ⊥) → HasOnlyNamed disk s
   only_named none id least most = (
     (λ file. positive file (times_named id (named_blocks s)) refl),
-    (λ named. (d.files id least most).0 (counted_some (s.counts id) (named_counted disk s is id named))),
+    (λ named. (d.files id least most).0 (some_count (s.counts id) (named_counted disk s is id named))),
   )
     where
-      counted_some : (o : Option ℕ) → 0 < occurrences o → IsSome o
-      counted_some None h = absurd (omega (arith, h))
-      counted_some (Some n) h = refl
-
       positive : IsSome (disk.reads s.store id) → (n : ℕ) → times_named id (named_blocks s) ≡ n
           → 0 < times_named id (named_blocks s)
       positive file zero e =

@@ -18,13 +18,7 @@ use Rattle.project_journal.specs.declared.fault.JournalFault.TheVariants as jour
 pub adds_nothing : {D R : Type 0} (disk : Ghosts D) (s : Core D) (bodies : List (List ℕ)) (count whole : ℕ) (why : Refusal)
     → Fewer disk s.store → Fields {R = R} disk s whole count (rows_length bodies) (Err why) s
     → Adds {R = R} disk s bodies count whole (Err why) s
-adds_nothing disk s bodies count whole why fewer fields = record {
-  fields = fields;
-  any_moment = λ log told here c now. inl (each_has here c now);
-  done = λ log told here. tt;
-  changed = changed_none s.store (λ c other ne. refl) fewer;
-  read_faults = refl;
-}
+adds_nothing disk s bodies count whole why fewer fields = search (rules, inl, each_has, changed_none)
 
 -- what refuses a record before the disk is asked
 pub exceeds : {D : Type 0} (R : Type 0) (disk : Ghosts D) (s : Core D) (whole count len : ℕ) (why : Refusal)
@@ -71,12 +65,10 @@ module _ {D : Type 0} (disk : Ghosts D) (old : Core D) (store : D) (bodies : Lis
     read_faults = ap disk.read_fault_count same ∙ read_faults;
   }
 
-  -- by the result and the studio that are told
+  -- the same of a result and a studio that are these
   told_as : (result want : Result (Unit {0}) Refusal) (new is : Core D) → result ≡ want → new ≡ is
       → Adds disk old bodies count whole want is → Adds disk old bodies count whole result new
-  told_as result want new is p q adds =
-      subst (λ (r : Result (Unit {0}) Refusal). Adds disk old bodies count whole r new) (sym p)
-      (subst (λ (z : Core D). Adds disk old bodies count whole want z) (sym q) adds)
+  told_as result want new is p q adds = search rules
 
   pub settled : (added : Result ℕ JournalFault) (result : Result (Unit {0}) Refusal) (new : Core D)
       → Appends old.journal_end (rows_length bodies) added → Causes disk old.store store added

@@ -46,27 +46,20 @@ rows_most : (version : ℕ) (current : List Track) (body : Body) (low high : ℕ
     × (rows_length (bodies_by version current more body) ≤ more * (5 + low) + high)
 rows_most version current body low high one last zero = (omega arith, omega (arith, last))
 rows_most version current body low high one last (suc more) =
-    let still = bytes_by version current (with_point current body) in
-    more_most more (rows_length (bodies_by version current more body)) low (length still) high
-    (rows_length (still ∷ bodies_by version current more body)) one (rows_step still version current more body)
-    (rows_most version current body low high one last more)
+    search (rules, more_most, rows_step, rows_most version current body low high one last more)
 
 wholes_most : (current : List Track) (body : Body) (low high : ℕ) → length (spelling (with_point current body)) ≤ low
     → length (spelling body) ≤ high → (more : ℕ) → (5 * more ≤ whole_by current more body)
     × (whole_by current more body ≤ more * (5 + low) + high)
 wholes_most current body low high one last zero = (omega arith, omega (arith, last))
 wholes_most current body low high one last (suc more) =
-    more_most more (whole_by current more body) low (length (spelling (with_point current body))) high
-    (whole_by current (suc more) body) one refl (wholes_most current body low high one last more)
+    search (rules, more_most, wholes_most current body low high one last more)
 
 -- ---- the numbers of layouts bear on no byte
 
 pub spelled_in : (version : ℕ) (current : List Track) (body : Body)
     → spelling_in version (map unnumbered current) (unnumbered_body body) ≡ spelling_in version current body
-spelled_in version current body = elim (cases_Bool (version == 1)) [
-  | inl is ↦ rw is (spelled_alike body)
-  | inr not ↦ rw not (delta_spelled_alike current body)
-]
+spelled_in version current body = search (rules, cases_Bool, spelled_alike, delta_spelled_alike)
 
 pub ends_alike : (current : List Track) → HasShortEnds current → HasShortEnds (map unnumbered current)
 ends_alike current short = search (rules, found_alike)

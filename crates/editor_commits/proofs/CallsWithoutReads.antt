@@ -1,6 +1,6 @@
 -- What reads no block tells of no damaged file.
-use Rattle.editor_commits.proofs.Common.{rules, ◌≡◌, ◌⊎◌, ⊎_elim, sym, subst, ℕ, ◌+◌, nat_lt, List, length, Some, Err}
-use Rattle.editor_commits.proofs.Common.{Refusal, Ghosts, Clip, IsUndamaged, track_of, Track, rows_length, Adds, Fields}
+use Rattle.editor_commits.proofs.Common.{rules, ◌≡◌, ◌⊎◌, sym, subst, ℕ, ◌+◌, nat_lt, List, length, Some, Err}
+use Rattle.editor_commits.proofs.Common.{Refusal, Ghosts, Clip, IsUndamaged, track_of, Track, Adds, Fields}
 use Rattle.editor_commits.proofs.Common.{Core, refusal_by, PlainEdit}
 use Rattle.edit_ops.specs.Runs.{copy_tests}
 use Rattle.editor_state.proofs.Refusals.DamageTests.{TellsNone, either_tells, lacks_tells, one_tells, range_tells}
@@ -18,8 +18,7 @@ copy_tests_tell run n from to = search (rules, either_tells, one_tells, range_te
 
 pub copies_tell : (run : List (List Clip)) (n from to : ℕ) (why : Refusal)
     → (copy_tests run n from to ≡ Some why) ⊎ (why ≡ refusal.NoMemory) → IsUndamaged why
-copies_tell run n from to why not =
-    ⊎_elim (tests_tell (copy_tests run n from to) why (copy_tests_tell run n from to)) (memory_tells why) not
+copies_tell run n from to why not = search (rules, tests_tell, copy_tests_tell, memory_tells)
 
 -- ---- edits that make no blocks
 pub refusal_tells : (e : PlainEdit) (ts : List Track) → TellsNone (refusal_by e ts)
@@ -37,5 +36,4 @@ fields_tell R disk old new whole count len why fields = tt
 
 pub adding_tells : {D R : Type 0} (disk : Ghosts D) (old new : Core D) (bodies : List (List ℕ)) (count whole : ℕ)
     (why : Refusal) → Adds {R = R} disk old bodies count whole (Err why) new → IsUndamaged why
-adding_tells {R = R} disk old new bodies count whole why adds =
-    fields_tell R disk old new whole count (rows_length bodies) why adds.fields
+adding_tells {R = R} disk old new bodies count whole why adds = search (rules, fields_tell)

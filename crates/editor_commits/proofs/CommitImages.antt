@@ -3,7 +3,7 @@ use Rattle.editor_commits.proofs.Common.{rules, ◌≡◌, inl, inr, ⊎_elim, r
 use Rattle.editor_commits.proofs.Common.{◌<◌, List, ◌++◌, length, Option, None, Result, arith, AllByRecursion}
 use Rattle.editor_commits.proofs.Common.{CarriesOut, followed, outside, Done, BlockRef, Call, SoundMove, Refusal, Needs}
 use Rattle.editor_commits.proofs.Common.{layouts_of, History, Outside, call_tests, LONGEST_BODY, after, Ghosts}
-use Rattle.editor_commits.proofs.Common.{sources_of, IsWhole, AllWhole, Item, EachSince, meant_history, history_blocks}
+use Rattle.editor_commits.proofs.Common.{sources_of, AllWhole, Item, EachSince, meant_history, history_blocks}
 use Rattle.editor_commits.proofs.Common.{Track, unnumbered_history, Saved, LeadIn, version_of, after_bodies}
 use Rattle.editor_commits.proofs.Common.{IsValidTagged, unnumbered_body, all_append, IsLength, Writing, all_bytes}
 use Rattle.editor_commits.proofs.Common.{all_len, IsGiven, IsDurable, IsHeld, IsStudio, MayPaste, clip_blocks}
@@ -103,8 +103,7 @@ module _ {D : Type 0} {Has : Type 0} {disk : Ghosts D} {s : Core D} {made : List
   every_ids = all_append (λ (b : BlockRef). IsGiven s.next_block b.id) (named_blocks s) made t.is.ids t.has_made.ids
 
   every_whole : Has → AllWhole (disk.reads s.store) every
-  every_whole has =
-      all_append (IsWhole (disk.reads s.store)) (named_blocks s) made (t.holds has).whole (t.has_made.whole has)
+  every_whole has = search (rules, all_append)
 
   every_same : Has → EachNow disk s.store (SameBlocks every (disk.reads s.store))
   every_same has x now =

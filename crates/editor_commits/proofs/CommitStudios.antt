@@ -50,13 +50,7 @@ module _ {D : Type 0} (disk : Ghosts D) (s : Core D) (is : IsStudio disk s) wher
 
     named_too : (P : BlockRef → Type 0) → AllByRecursion P (named_blocks s ++ made)
         → AllByRecursion P (history_blocks h ++ rest_then)
-    named_too P all =
-        let pins = pin_blocks s.pins in
-        let rest =
-        all_right P (history_blocks s.history) (pins ++ clip_blocks s.clipboard)
-        (all_left P (named_blocks s) made all) in
-        all_append P (history_blocks h) rest_then (on.covers P all)
-        (all_append P pins (clip_blocks clip) (all_left P pins (clip_blocks s.clipboard) rest) (on.clip_covers P all))
+    named_too P all = search (rules, all_right, all_left, all_append, on.covers, on.clip_covers)
 
     module _ (store : D) (end : ℕ) (end_most : end ≤ 2 ^ 62) (end_later : s.journal_end ≤ end) (h' : History
         (List Track))
@@ -77,9 +71,7 @@ module _ {D : Type 0} (disk : Ghosts D) (s : Core D) (is : IsStudio disk s) wher
 
       pub named_led : (P : BlockRef → Type 0) → AllByRecursion P (named_blocks s ++ made)
           → AllByRecursion P (named_blocks led)
-      named_led P all =
-          subst (λ (z : History (List Track)). AllByRecursion P (history_blocks z ++ rest_then)) (sym moved)
-          (named_too P all)
+      named_led P all = search (rules, named_too)
 
       led_points : AllByRecursion (IsValidTagged s.block_size s.next_block next_track (s.commit_number + count)) h'.points
       led_points = search rules

@@ -8,7 +8,7 @@ use Rattle.editor_commits.proofs.Common.{version_of, Body, Edit, after_bodies, I
 use Rattle.editor_commits.proofs.Common.{unnumbered_body, meant, meant_history, point_blocks, history_blocks, Track}
 use Rattle.editor_commits.proofs.Common.{AllBelow, track_of, AgreeById, unnumbered, current_alike, tagged_more, Tally}
 use Rattle.editor_commits.proofs.Common.{HasNumbers, AreDrawn, AreNumbered, history_tracks, AreCounts, Becomes}
-use Rattle.editor_commits.proofs.Common.{MayBecome, same_numbers, IsLength, all_bytes, bodies_by, body_bytes, bytes_by}
+use Rattle.editor_commits.proofs.Common.{MayBecome, same_numbers, IsLength, all_bytes, bodies_by, body_bytes}
 use Rattle.editor_commits.proofs.Common.{single, IsHeld, IsStudio, MayPaste, clip_blocks, clip_cells, named_blocks}
 use Rattle.editor_commits.proofs.Common.{pin_blocks, pin_tracks, studio_of, studio_tracks, Core, form_at, lacks}
 use Rattle.editor_commits.proofs.Common.{tracks_few, all_left, all_so, IsCommitCall}
@@ -37,8 +37,7 @@ same_bodies : (version : ℕ) (current : List Track) (tag next_block next_track 
     ≡ bodies_by version current more (Edit tag next_block next_track point)
 same_bodies version current tag next_block next_track point zero = refl
 same_bodies version current tag next_block next_track point (suc more) =
-    ap (λ (bs : List (List ℕ)). bytes_by version current (Edit tag next_block next_track current) ∷ bs)
-    (same_bodies version current tag next_block next_track point more)
+    search (rules, same_bodies version current tag next_block next_track point more)
 
 -- whatever numbers their layouts have
 plain_bodies : (version : ℕ) (current : List Track) (tag next_block next_track : ℕ) (point : List Track) (more : ℕ)
@@ -85,8 +84,7 @@ module _ {D : Type 0} (disk : Ghosts D) (s : Core D) (is : IsStudio disk s) wher
       (sym current_meant)
 
   pub old_names : (P : BlockRef → Type 0) → AllByRecursion P (named_blocks s) → AllByRecursion P (point_blocks old)
-  old_names P all = current_blocks P s.history
-      (all_left P (history_blocks s.history) (pin_blocks s.pins ++ clip_blocks s.clipboard) all)
+  old_names P all = search (rules, current_blocks, all_left)
 
   -- the state with a new point, and what the point means
   pub pointed : (p : List Track) (q : Project) (next : ℕ) → q ≡ meant src p
@@ -194,14 +192,8 @@ module _ {D : Type 0} (disk : Ghosts D) (s : Core D) (is : IsStudio disk s) wher
       → AreCounts (studio_tracks s) (clip_blocks s.clipboard) (count_of tally.uses) (count_of tally.ledger)
       → Becomes p (history_tracks s.history) (history_tracks h) tally tally'
       → CountsAfter s.pins h s.clipboard after (count_of tally.ledger) (count_of tally'.uses) (count_of tally'.ledger)
-  counts_then p after h tally tally' has few most counted becomes = record {
-    layouts = most;
-    numbered = becomes.numbered (pin_tracks s.pins) (came_numbered p after has);
-    drawn = becomes.drawn after (pin_tracks s.pins) (came_drawn p after has);
-    counted = becomes.counted (pin_tracks s.pins) (clip_blocks s.clipboard) (came_numbered p after has) (came_few p few)
-        counted;
-    files = becomes.ids;
-  }
+  counts_then p after h tally tally' has few most counted becomes =
+      search (rules, came_numbered, came_drawn, came_few, becomes.numbered, becomes.drawn, becomes.counted)
 
   module _ (track_then : ℕ) (later : s.next_track ≤ track_then) (most : track_then ≤ 2 ^ 62) (p : List Track)
       (valid : IsValidPoint s.block_size s.next_block track_then p) where

@@ -1,6 +1,6 @@
 -- The history after an undo, a redo or a purge that may be made.
 use Rattle.editor_commits.proofs.Common.{rules, ◌≡◌, ◌⊎◌, sym, ap, ◌∙◌, ℕ, zero, suc, ◌+◌, ◌-◌, ◌≤◌, ◌<◌, ◌==◌, nat_lt}
-use Rattle.editor_commits.proofs.Common.{nat_le, length, ⊎_elim, Option, None, Ok, Err, Result, OnOk, IfErr, arith}
+use Rattle.editor_commits.proofs.Common.{nat_le, length, Option, None, Ok, Err, Result, OnOk, IfErr, arith}
 use Rattle.editor_commits.proofs.Common.{eqb_tells, length-map, none-some, History, at_cursor, purged, bad_range}
 use Rattle.editor_commits.proofs.Common.{call_tests, refused_if, Line, Refusal, outside, Ghosts, sources_of, meant}
 use Rattle.editor_commits.proofs.Common.{Core, studio_of, silent}
@@ -54,5 +54,4 @@ pub purged_by : {P : Type 0} (n : ℕ) (h h' : Stored P) (result : Result (Unit 
     → IfErr result (λ e. (e ≡ BadRange) × ((n ≡ 0) ⊎ (h.history.cursor < n)) × (h' ≡ h))
     → h'.history ≡ purged h.history n
 purged_by n h h' (Ok u) some few ok err = ap (λ z. z.history) ok.2
-purged_by n h h' (Err e) some few ok err =
-    ⊎_elim (λ a. absurd (omega (arith, some, a))) (λ b. absurd (omega (arith, few, b))) err.1
+purged_by n h h' (Err e) some few ok err = search rules

@@ -15,15 +15,11 @@ Tagged = List Track × ℕ
 -- a history does not grow beyond its depth
 pub ending_few : (h : History (List Track)) (before : List Tagged) (p : List Track) (tag : ℕ)
     → length (ending_with h before (p, tag)).points ≤ h.depth
-ending_few h before p tag =
-    let xs : List Tagged = before ++ (p, tag) ∷ [] in
-    omega (arith, length-drop (length xs - h.depth) xs)
+ending_few h before p tag = search (rules, length-drop)
 
 pub ending_all : (h : History (List Track)) (before : List Tagged) (p : List Track) (tag : ℕ) (Q : Tagged → Type 0)
     → AllByRecursion Q before → Q (p, tag) → AllByRecursion Q (ending_with h before (p, tag)).points
-ending_all h before p tag Q all one =
-    let xs : List Tagged = before ++ (p, tag) ∷ [] in
-    all_drop Q (length xs - h.depth) xs (all_append Q before ((p, tag) ∷ []) all (one, tt))
+ending_all h before p tag Q all one = search (rules, all_drop, all_append)
 
 drop_all_but : (zs : List Tagged) (x : Tagged) → drop (length zs) (zs ++ x ∷ []) ≡ x ∷ []
 drop_all_but [] x = refl

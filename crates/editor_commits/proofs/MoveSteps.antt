@@ -259,13 +259,11 @@ other_reason false r is o e = absurd (none-some o e)
 pub own_range : (stopped : Option ℕ) (own : Option Refusal) (track tracks number : ℕ) (why : Refusal)
     → (stop_of stopped) otherwise own otherwise (no_room track tracks) otherwise (no_room number 1) ≡ Some why
     → why ≡ refusal.BadRange → own ≡ Some refusal.BadRange
-own_range (Some n) own track tracks number why e is =
-    let no : ⊥ = cc (same_Some (refusal.Stopped n) why e ∙ is) in absurd no
+own_range (Some n) own track tracks number why e is = search (rules, same_Some)
 own_range None (Some r) track tracks number why e is = e ∙ ap Some is
 own_range None None track tracks number why e is = search (rules, nat_lt, same_Some, none-some)
 
 -- the journal refuses no range
 pub added_range : {D R : Type 0} (disk : Ghosts D) (old new : Core D) (bodies : List (List ℕ)) (count whole : ℕ)
     (why : Refusal) → Adds {R = R} disk old bodies count whole (Err why) new → why ≡ refusal.BadRange → ⊥
-added_range {D} {R} disk old new bodies count whole why adds is =
-    (subst (λ (w : Refusal). Adds {R = R} disk old bodies count whole (Err w) new) is adds).fields
+added_range {D} {R} disk old new bodies count whole why adds is = search rules

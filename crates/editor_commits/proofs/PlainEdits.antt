@@ -27,8 +27,9 @@ use Rattle.editor_commits.proofs.CurrentProject.{old, now, src, current_valid, c
 use Rattle.editor_commits.proofs.CurrentProject.{old_names, counts_then, may_become, pointed, pointed_so, then_current}
 use Rattle.editor_commits.proofs.CurrentProject.{point_commit, came_agrees, valid_later}
 use Rattle.editor_commits.proofs.TrackChanges.{put_means, layout_of, put_all, put_rising, put_valid, valid_of}
-use Rattle.editor_commits.proofs.TrackLists.{without_few, without_rising, without_valid, without_blocks, without_means}
-use Rattle.editor_commits.proofs.TrackLists.{more_rising, more_valid, more_blocks}
+use Rattle.editor_commits.proofs.TrackLists.{without_rising, without_valid, without_blocks, without_means, more_valid}
+use Rattle.editor_commits.proofs.TrackLists.{more_blocks}
+use Rattle.project_state.proofs.Points.{AreAbove-push, without_few}
 use Rattle.editor_commits.proofs.PlainLines.{Sets, call_by, draws_by, sets_gain, sets_mute, sets_side}
 use Rattle.editor_commits.proofs.{CommitSteps.grows_so, CommitStudios.CountsAfter, BodyBytes.lengths_most}
 use Rattle.record_body.proofs.DiffTracks.{found_id}
@@ -142,7 +143,7 @@ module _ {D : Type 0} (disk : Ghosts D) (s : Core D) (is : IsStudio disk s) wher
       subst (IsValidPoint m s.next_block (s.next_track + 1)) (sym ed)
       (record {
         few = omega (arith, place none, length-append was (t ∷ []));
-        rising = more_rising 1 was t valid.rising (current_below disk s is) is.counters.track_least;
+        rising = AreAbove-push 1 was t valid.rising (current_below disk s is) is.counters.track_least;
         valid = more_valid m s.next_block (s.next_track + 1) was t later.valid one;
       })
   valid_by (edit.Drop id) good none p ed =
@@ -210,12 +211,9 @@ module _ {D : Type 0} (disk : Ghosts D) (s : Core D) (is : IsStudio disk s) wher
       pointed_so disk s is p (dropped id (current (now disk s is)))
       (ap (dropped id) (current_meant disk s is) ∙ sym (without_means samples id 1 was (current_valid disk s is).rising)
       ∙ sym (ap (meant samples) ed))
-  model_by (edit.Level id gain) good p ed =
-      pointed_so disk s is p _ (set_means id (set_by (edit.Level id gain)) _ (sets_gain id gain good) p ed)
-  model_by (edit.Side id side) good p ed =
-      pointed_so disk s is p _ (set_means id (set_by (edit.Side id side)) _ (sets_side id side) p ed)
-  model_by (edit.Mute id mute) good p ed =
-      pointed_so disk s is p _ (set_means id (set_by (edit.Mute id mute)) _ (sets_mute id mute) p ed)
+  model_by (edit.Level id gain) good p ed = search (rules, pointed_so, set_means, sets_gain)
+  model_by (edit.Side id side) good p ed = search (rules, pointed_so, set_means, sets_side)
+  model_by (edit.Mute id mute) good p ed = search (rules, pointed_so, set_means, sets_mute)
 
   needs_so : (e : PlainEdit) (len : ℕ) → len ≤ project_body_most s.block_size
       (current (after_line (outside (studio_of disk s) silent) (now disk s is) (line_of e)))

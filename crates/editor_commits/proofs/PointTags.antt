@@ -36,9 +36,7 @@ module _ (h : History (List Track)) (p : List Track) (tag : ℕ) where
   recorded_depth = by_both (λ z. z.depth ≡ h.depth) refl refl
 
   pub recorded_current : 1 ≤ h.depth → current_tracks (recorded h p tag) ≡ p
-  recorded_current some =
-      by_both (λ z. current_tracks z ≡ p) (ending_current h (take h.cursor h.points) p here some)
-      (ending_current h (kept h) p tag some)
+  recorded_current some = search (rules, by_both, ending_current)
 
 -- ---- tags
 

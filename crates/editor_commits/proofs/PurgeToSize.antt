@@ -9,7 +9,7 @@ use Rattle.editor_commits.proofs.Common.{quietly, silent, all_joined, all_so, re
 use Rattle.std.proofs.Common.{◌&&◌, not}
 use Rattle.std.proofs.{lemmas.Bool.le-leb, lemmas.Bool.lt-ltb, lemmas.List.append-nil}
 use Rattle.pcm_base.specs.Counters.{counter_tests}
-use Rattle.pcm_base.specs.Run.{Answers, Breaks, BreaksOff, LeavesAll, told_history}
+use Rattle.pcm_base.specs.Run.{Answers, Breaks, BreaksOff, told_history}
 use Rattle.pcm_base.specs.{declared.answer.Reply.Reply}
 use Rattle.disk_model.specs.{Disk.Files}
 use Rattle.layout_uses.specs.Layouts.{track_blocks}
@@ -46,7 +46,7 @@ not_stopped : (stopped : Option ℕ) → stop_of stopped ≡ None → stopped �
 not_stopped None h = refl
 not_stopped (Some n) h = absurd (none-some (refusal.Stopped n) (sym h))
 
--- so many points may go
+-- this many points may go
 pub some_go : (n cursor : ℕ) → 1 ≤ n → n ≤ cursor → bad_range 0 n cursor ≡ Some refusal.BadRange → ⊥
 some_go n cursor some few h = search (rules, nat_lt, lt-ltb, nat_le, le-leb, none-some)
 
@@ -81,31 +81,15 @@ module _ {D : Type 0} (disk : Ghosts D) (s : Core D) (bytes n : ℕ) (some : 1 �
   rest blocks len = (counter_tests (outside t silent) t sized blocks len) otherwise (record_test len)
 
   done : (u : model.Studio) → CarriesOut t counted silent reply.Done u → CarriesOut t sized silent (reply.Purged n) u
-  done u h = record {
-    blocks = h.blocks;
-    len = h.len;
-    layout = h.layout;
-    needs = h.needs;
-    draws = h.draws;
-    passed = without_own (stop_of t.stopped) (call_tests (outside t silent) t.state counted) (rest h.blocks h.len) h.passed;
-    answers = (n, refl, some, few);
-    is = h.is;
-    heard = h.heard;
-  }
+  done u h = search (rules, without_own)
 
   carried : (r : Reply) (u : model.Studio) → CarriesOut t counted silent r u
       → CarriesOut t sized silent (reply.Purged n) u
   carried r u h = done u (subst (λ (z : Reply). CarriesOut t counted silent z u) h.answers h)
 
   still : (c : Files) → KeepsOneOf t counted silent c → KeepsOneOf t sized silent c
-  still c k = ⊎_elim (λ old. inl old)
-      (λ flight. inr (record {
-        reply = reply.Purged n;
-        after = flight.after;
-        carried = carried flight.reply flight.after flight.carried;
-        keeps = flight.keeps;
-      }))
-      k
+  still c (inl old) = inl old
+  still c (inr flight) = inr (search (rules, carried))
 
   -- they go
   module _ (new : Core D) (took : Took disk s (quietly counted (Ok reply.Done)) new) where
@@ -113,28 +97,7 @@ module _ {D : Type 0} (disk : Ghosts D) (s : Core D) (bytes n : ℕ) (some : 1 �
     goes_on h = ⊎_elim (λ same. inl same) (λ bad. let no : ⊥ = cc bad.2 in absurd no) h
 
     pub purged_to : IsPurgeTo s.history bytes n → Took disk s (quietly sized (Ok (reply.Purged n))) new
-    purged_to is = record {
-      studio = took.studio;
-      held = took.held;
-      step = λ held. done (studio_of disk new) (took.step held);
-      any_moment = λ going held c since. still c (took.any_moment going held c since);
-      refused = λ going held unstopped. tt;
-      now = took.now;
-      number = took.number;
-      rests = took.rests;
-      len = took.len;
-      needs = took.needs;
-      records = took.records;
-      given = took.given;
-      needed = tt;
-      changed = took.changed;
-      frees = took.frees;
-      ids = took.ids;
-      purges = is;
-      untouched = tt;
-      stops = goes_on took.stops;
-      left = tt;
-    }
+    purged_to is = search (rules, done, still, goes_on, took.step, took.any_moment)
 
   -- ---- what they would have made
 
@@ -175,17 +138,14 @@ module _ {D : Type 0} (disk : Ghosts D) (s : Core D) (bytes n : ℕ) (some : 1 �
     off u b = search rules
 
     breaks : (e : Refusal) (u : model.Studio) → Breaks t counted silent e u → Breaks t sized silent e u
-    breaks (refusal.Damaged file at want have) u b =
-        record { breaks = off u b.breaks; stopped = b.stopped; reads = b.reads; changes = b.changes }
+    breaks (refusal.Damaged file at want have) u b = search (rules, off)
     breaks refusal.DiskFault u b = record { breaks = off u b.breaks; cause = b.cause }
-    breaks refusal.VaultFault u b =
-        (b.0, record { breaks = off u b.1.breaks; stopped = b.1.stopped; reads = b.1.reads; changes = b.1.changes })
+    breaks refusal.VaultFault u b = search (rules, off)
     breaks refusal.NoMemory u b = b
     breaks e u b = absurd b
 
     answers : (u : model.Studio) → Answers t counted silent (Err why) u → Answers t sized silent (Err why) u
-    answers u a = ⊎_elim
-        (λ r. ⊎_elim
+    answers u (inl r) = ⊎_elim
         (λ own. inr (inl (record {
           bytes = bytes;
           line = refl;
@@ -194,44 +154,13 @@ module _ {D : Type 0} (disk : Ghosts D) (s : Core D) (bytes n : ℕ) (some : 1 �
           same = r.same;
           quiet = r.quiet;
         })))
-        (λ first. inl (record {
-          blocks = r.blocks;
-          len = r.len;
-          needs = r.needs;
-          first = first;
-          same = r.same;
-          quiet = r.quiet;
-        }))
-        (own_or_rest (stop_of t.stopped) (call_tests (outside t silent) t.state counted) (rest r.blocks r.len) why r.first))
-        (λ others. ⊎_elim
-        (λ (left : LeavesAll t counted silent why u). let no : ⊥ = cc left.line in absurd no)
-        (λ b. inr (inr (breaks why u b)))
-        others)
-        a
+        (λ first. inl (search rules))
+        (own_or_rest (stop_of t.stopped) (call_tests (outside t silent) t.state counted) (rest r.blocks r.len) why r.first)
+    answers u (inr (inl left)) = let no : ⊥ = cc left.line in absurd no
+    answers u (inr (inr b)) = inr (inr (breaks why u b))
 
     pub unpurged_to : (why ≡ refusal.BadRange → IsPurgeTo s.history bytes 0) → Took disk s (quietly sized (Err why)) new
-    unpurged_to none = record {
-      studio = took.studio;
-      held = took.held;
-      step = λ held. answers (studio_of disk new) (took.step held);
-      any_moment = λ going held c since. still c (took.any_moment going held c since);
-      refused = took.refused;
-      now = took.now;
-      number = took.number;
-      rests = took.rests;
-      len = took.len;
-      needs = took.needs;
-      records = took.records;
-      given = tt;
-      needed = needed_to why took.needed;
-      changed = took.changed;
-      frees = took.frees;
-      ids = took.ids;
-      purges = refused_to s.history bytes why none;
-      untouched = took.untouched;
-      stops = took.stops;
-      left = took.left;
-    }
+    unpurged_to none = search (rules, answers, still, needed_to, refused_to, took.step, took.any_moment)
 
 -- ---- before their number is known, and where none has to go
 

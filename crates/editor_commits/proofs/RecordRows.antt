@@ -1,7 +1,7 @@
 -- Records that wait together.
-use Rattle.editor_commits.proofs.Common.{◌≡◌, ◌∙◌, refl, sym, ap, subst, ℕ, zero, suc, ◌+◌, ◌*◌, ◌^◌, ◌≤◌, ◌<◌, List}
+use Rattle.editor_commits.proofs.Common.{◌≡◌, ◌∙◌, refl, ap, subst, ℕ, zero, suc, ◌+◌, ◌*◌, ◌^◌, ◌≤◌, ◌<◌, List}
 use Rattle.editor_commits.proofs.Common.{[], ◌∷◌, ◌++◌, length, add-mul, arith, LONGEST_BODY, rows_length, Body}
-use Rattle.editor_commits.proofs.Common.{with_point, spelling, Track, bodies_by, bytes_by, whole_by}
+use Rattle.editor_commits.proofs.Common.{with_point, spelling, Track, bodies_by, bytes_by, whole_by, rules}
 use Rattle.std.proofs.Common.{replicate}
 use Rattle.project_journal.specs.Journal.{AreWaiting, opened}
 use Rattle.project_journal.proofs.Together.{waiting_more}
@@ -9,17 +9,14 @@ use Rattle.editor_commits.proofs.BodyBytes.{rows_step}
 
 pub times_more : {A : Type 0} (n : ℕ) (x : A) → replicate n x ++ x ∷ [] ≡ replicate (n + 1) x
 times_more zero x = refl
-times_more (suc n) x = ap (λ (l : List _). x ∷ l) (times_more n x)
-    ∙ ap (λ (k : ℕ). replicate k x) {x = suc (n + 1)} {y = suc n + 1} (omega arith)
+times_more (suc n) x = search (rules, times_more n x)
 
 -- those of a batch
 pub rows_are : (version : ℕ) (current : List Track) (body : Body) (more : ℕ)
     → replicate more (bytes_by version current (with_point current body)) ++ bytes_by version current body ∷ []
     ≡ bodies_by version current more body
 rows_are version current body zero = refl
-rows_are version current body (suc more) =
-    ap (λ (l : List (List ℕ)). bytes_by version current (with_point current body) ∷ l)
-    (rows_are version current body more)
+rows_are version current body (suc more) = search (rules, rows_are version current body more)
 
 next_times : (more n : ℕ) → suc more * n ≡ n + more * n
 next_times more n = ap (λ (k : ℕ). k * n) {x = suc more} {y = more + 1} (omega arith) ∙ add-mul more 1 n ∙ omega arith
@@ -29,22 +26,12 @@ pub rows_closed : (version : ℕ) (current : List Track) (body : Body) (more : �
     ≡ more * (length (bytes_by version current (with_point current body)) + 5) + length (bytes_by version current body)
 rows_closed version current body zero = omega arith
 rows_closed version current body (suc more) =
-    let one = bytes_by version current (with_point current body) in
-    omega (
-      arith,
-      rows_step one version current more body,
-      rows_closed version current body more,
-      next_times more (length one + 5),
-    )
+    search (rules, rows_step, next_times, rows_closed version current body more)
 
 pub whole_closed : (current : List Track) (body : Body) (more : ℕ) → whole_by current more body
     ≡ more * (length (spelling (with_point current body)) + 5) + length (spelling body)
 whole_closed current body zero = omega arith
-whole_closed current body (suc more) = omega (
-  arith,
-  whole_closed current body more,
-  next_times more (length (spelling (with_point current body)) + 5),
-)
+whole_closed current body (suc more) = search (rules, next_times, whole_closed current body more)
 
 pub last_short : (version : ℕ) (current : List Track) (body : Body) (more : ℕ)
     → rows_length (bodies_by version current more body) ≤ LONGEST_BODY
@@ -58,16 +45,12 @@ pub rows_total : (version : ℕ) (current : List Track) (body again : Body) (mor
     → again ≡ with_point current body → one ≡ length (bytes_by version current again)
     → last ≡ length (bytes_by version current body) → len ≡ more * (one + 5) + last
     → len ≡ rows_length (bodies_by version current more body)
-rows_total version current body again more one last len is one_is last_is len_is =
-    let still = one_is ∙ ap (λ (b : Body). length (bytes_by version current b)) is in
-    len_is ∙ (λ i. more * (still i + 5) + last_is i) ∙ sym (rows_closed version current body more)
+rows_total version current body again more one last len is one_is last_is len_is = search (rules, rows_closed)
 
 pub whole_total : (current : List Track) (body again : Body) (more one last len : ℕ)
     → again ≡ with_point current body → one ≡ length (spelling again) → last ≡ length (spelling body)
     → len ≡ more * (one + 5) + last → len ≡ whole_by current more body
-whole_total current body again more one last len is one_is last_is len_is =
-    let still = one_is ∙ ap (λ (b : Body). length (spelling b)) is in
-    len_is ∙ (λ i. more * (still i + 5) + last_is i) ∙ sym (whole_closed current body more)
+whole_total current body again more one last len is one_is last_is len_is = search (rules, whole_closed)
 
 -- those that say the current point wait in an empty row
 pub again_waits : (version : ℕ) (current : List Track) (body : Body) (more : ℕ) (before rows written : List ℕ)

@@ -5,7 +5,7 @@ use Rattle.editor_commits.proofs.Common.{eqb_tells, none-some, same_Some, AllByR
 use Rattle.editor_commits.proofs.Common.{tracks_from, changed_at, History, refused_if, is_empty, layout_blocks, meant}
 use Rattle.editor_commits.proofs.Common.{meant_track, point_blocks, Track, AreAbove, track_of, IsValidTrack}
 use Rattle.editor_commits.proofs.Common.{AllValidTracks, first_tracks, current_tracks, put_one, put_in, lacks}
-use Rattle.editor_commits.proofs.Common.{all_append, all_left, all_right}
+use Rattle.editor_commits.proofs.Common.{all_append, all_left, all_right, rules}
 use Rattle.std.proofs.{lemmas.List.drop-map}
 use Rattle.pcm_base.specs.{State.first_point}
 use Rattle.pcm_base.specs.Cells as cells
@@ -19,8 +19,7 @@ first_meant src (p ∷ ps) = refl
 
 pub current_is : (src : Sources) (h : History (List Track))
     → first_point (drop h.cursor (map (λ p. (meant src p.0, p.1)) h.points)) ≡ meant src (current_tracks h)
-current_is src h =
-    ap first_point (drop-map (λ p. (meant src p.0, p.1)) h.cursor h.points) ∙ first_meant src (drop h.cursor h.points)
+current_is src h = search (rules, drop-map, first_meant)
 
 -- ---- whether there is a track
 
@@ -37,9 +36,7 @@ lacks_is src id (t ∷ ts) = ⊎_elim
 put_above : (new : Track) (n : ℕ) (ts : List Track) → AreAbove n ts → new.id < n → put_in new ts ≡ ts
 put_above new n [] above less = refl
 put_above new n (t ∷ ts) above less =
-    let other : eqb t.id new.id ≡ false = ne_eqb t.id new.id (λ e. absurd (omega (arith, e, above.0, less))) in
-    let rest = put_above new (t.id + 1) ts above.1 (omega (arith, above.0, less)) in
-    λ i. (if other i then new else t) ∷ rest i
+    search (rules, ne_eqb, put_above new (t.id + 1) ts above.1 (omega (arith, above.0, less)))
 
 module _ (src : Sources) (id : ℕ) (new t : Track) (f : cells.Track → cells.Track) (is : new.id ≡ id)
     (changes : meant_track src new ≡ f (meant_track src t)) where
@@ -94,10 +91,15 @@ pub put_all : (P : BlockRef → Type 0) (new : Track) (ts : List Track) → AllB
     → AllByRecursion P (point_blocks ts) → AllByRecursion P (point_blocks (put_in new ts))
 put_all P new [] a all = tt
 put_all P new (t ∷ ts) a all =
-    all_append P (layout_blocks (put_one new t).layout) (point_blocks (put_in new ts))
-    (put_one_all (λ (z : Track). AllByRecursion P (layout_blocks z.layout)) new t a
-    (all_left P (layout_blocks t.layout) (point_blocks ts) all))
-    (put_all P new ts a (all_right P (layout_blocks t.layout) (point_blocks ts) all))
+    search (
+      rules,
+      all_append,
+      put_one_all,
+      all_left,
+      all_right,
+      put_all P new ts a (all_right P (layout_blocks
+          t.layout) (point_blocks ts) all),
+    )
 
 -- ---- it is valid
 
@@ -106,11 +108,7 @@ put_id new t = ⊎_elim (λ same. rw (same.0) (sym same.1)) (λ other. rw (other
 
 pub put_rising : (new : Track) (n : ℕ) (ts : List Track) → AreAbove n ts → AreAbove n (put_in new ts)
 put_rising new n [] above = tt
-put_rising new n (t ∷ ts) above =
-    let same = put_id new t in (
-      omega (arith, same, above.0),
-      subst (λ (k : ℕ). AreAbove (k + 1) (put_in new ts)) (sym same) (put_rising new (t.id + 1) ts above.1),
-    )
+put_rising new n (t ∷ ts) above = search (rules, put_id, put_rising new (t.id + 1) ts above.1)
 
 pub put_valid : (m next_block next_track : ℕ) (new : Track) (ts : List Track) → IsValidTrack m next_block next_track new
     → AllValidTracks m next_block next_track ts → AllValidTracks m next_block next_track (put_in new ts)

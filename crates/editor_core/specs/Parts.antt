@@ -37,7 +37,7 @@ assembled store p = record {
   block_size = p.block_size;
 }
 
--- What is asked of the parts, on every store: the numbers are within their bounds, layouts, ids and tags are valid,
+-- What holds of the parts, on every store: the numbers are within their bounds, layouts, ids and tags are valid,
 -- layouts of one number are the same and were drawn, the next one's number is at most the journal's end, their uses by
 -- the history are counted, and the ledger counts the blocks of the layouts so used, and has ids alone that were given.
 pub record AreParts (p : Parts) : Type 0 where

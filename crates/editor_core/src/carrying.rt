@@ -96,7 +96,7 @@ impl<S: Store> Studio<S> {
     }
 
     // Tests the counters, the journal's places and the numbers of layouts, takes all memory that is needed, and writes
-    // the records into the row. Nothing is asked of the disk.
+    // the records into the row. It does not use the disk.
     fn prepare(
         &mut self,
         body: &Body,

@@ -63,7 +63,7 @@ fn copied(alloc: Global, point: &Point, range: RunRange) -> Result<Strips, Refus
 
 impl<S: Store> Studio<S> {
     /// Puts a range of as many tracks as `count`, from a track on, into the clipboard. It takes memory for references
-    /// to blocks. No sample is copied, and nothing is asked of the disk.
+    /// to blocks. No sample is copied, and the disk is not used.
     ///
     /// # Errors
     ///

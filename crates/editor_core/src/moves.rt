@@ -127,8 +127,8 @@ impl<S: Store> Studio<S> {
         Ok(self.commit_number)
     }
 
-    /// Forgets so many of the oldest points that the block files of the others have at most this many bytes, and none
-    /// from the current one on. It answers how many. It takes memory to find their number, and none after that.
+    /// Forgets the oldest points until the block files of the others have at most this many bytes, and none from the
+    /// current one on. It answers how many. It takes memory to find their number, and none after that.
     ///
     /// # Errors
     ///
@@ -139,7 +139,7 @@ impl<S: Store> Studio<S> {
         requires { IsStudio S.Store (core_of self.old) }
         ensures took { Took S.Store (core_of self.old)
             (quietly (Line (command.PurgeTo bytes)) (as_reply reply.Purged result)) (core_of self.new) }
-        // The number is that of the points whose going leaves so many bytes, and none go where it is 0.
+        // The number is that of the points whose going leaves at most this many bytes, and none go where it is 0.
         ensures count { IfOk result (IsPurgeTo self.old.history.history bytes) }
         ensures none { IfErr result (λ why. why ≡ refusal.BadRange → IsPurgeTo self.old.history.history bytes 0) }
         ensures undamaged { IfErr result IsUndamaged }

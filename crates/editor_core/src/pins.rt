@@ -51,7 +51,7 @@ fn use_current(tally: &mut Tally, history: &History<Point>)
 
 impl<S: Store> Studio<S> {
     /// Keeps the current project by a number of its own, whatever is undone, purged or edited. It takes memory for the
-    /// tracks, which it shares. No clip and no sample is copied, and nothing is asked of the disk.
+    /// tracks, which it shares. No clip and no sample is copied, and the disk is not used.
     ///
     /// # Errors
     ///

@@ -4,12 +4,13 @@ use Rattle.std.proofs.Common.{None, List, [], ◌∷◌, ◌++◌, length, take,
 use Rattle.std.proofs.lemmas.Bool.{cases_lt, lt-ltb}
 use Rattle.std.proofs.{lemmas.Option.none-some, lemmas.List.length-take, Math.Nat.div-le_self}
 use Rattle.pcm_base.specs.declared.refusal.Refusal.{Refusal}
-use Rattle.pcm_base.specs.Refusals.{◌otherwise◌, length_limit, refused_if}
+use Rattle.pcm_base.specs.Refusals.{length_limit, refused_if}
 use Rattle.project_state.specs.{declared.track.Track.Track, Tracks.AllBelow}
 use Rattle.record_body.specs.Saved.{current_tracks}
 use Rattle.editor_state.specs.{Core.Core, declared.planned.Planned.Planned}
 use Rattle.editor_imports.specs.declared.growing.Growing.{Growing}
 use Rattle.editor_imports.specs.Imports.{AreGrown, IsChannelsPlan, channels_refusal, total_of}
+use Rattle.project_state.proofs.Points.{AllBelow-higher}
 use Rattle.editor_commits.proofs.TrackLists.{given_below}
 use Rattle.model_laws.proofs.OwnTests.{both_passed}
 use Rattle.pcm_base.specs.declared.refusal.Refusal.TheVariants as refusal
@@ -58,10 +59,6 @@ below_append : (id : ℕ) (xs ys : List Track) → AllBelow id xs → AllBelow i
 below_append id [] ys a b = b
 below_append id (x ∷ xs) ys a b = (a.0, below_append id xs ys a.1 b)
 
-below_later : (id later : ℕ) (xs : List Track) → id ≤ later → AllBelow id xs → AllBelow later xs
-below_later id later [] le a = tt
-below_later id later (x ∷ xs) le a = (omega (arith, a.0, le), below_later id later xs le a.1)
-
 -- ---- what grows
 
 module _ {D : Type 0} (s : Core D) (counts : List ℕ) (i : ℕ) (g : Growing) (was : AreGrown s (take i counts) g)
@@ -81,7 +78,7 @@ module _ {D : Type 0} (s : Core D) (counts : List ℕ) (i : ℕ) (g : Growing) (
   )
 
   pub grown_below : (n : ℕ) → n ≡ id + i → i ≤ length counts → AllBelow id old → AllBelow n g.point
-  grown_below n same less below = search (rules, length-take, below_later, given_below, below_append)
+  grown_below n same less below = search (rules, length-take, AllBelow-higher, given_below, below_append)
 
   -- the next number is no greater than it may be
   pub number_few : s.next_layout ≤ 2 ^ 62 → i ≤ length counts → length counts ≤ 64 → g.number < 2 ^ 63

@@ -56,7 +56,7 @@ pub told_cut : (why : ImportFault) → imported.IsCutShort why → IsCutShort (i
 told_cut (Sound (BadWav (Truncated want have))) cut = cut
 told_cut why cut = absurd cut
 
--- nothing of it is told of the disk
+-- it says nothing of the disk
 pub import_plain : (why : ImportFault) → IsPlain (import_refusal why)
 import_plain (Sound NoFile) = tt
 import_plain (Sound Vault) = tt

@@ -24,7 +24,9 @@ use Rattle.editor_state.proofs.Blocks.BlockLists.{among_all, among_itself}
 use Rattle.editor_state.proofs.Lists.{all_left, all_right, all_so}
 use Rattle.editor_blocks.proofs.{StudioBlocks.refs, StudioBlocks.refs_ids, PlanBlocks.ids_clips}
 use Rattle.editor_blocks.proofs.{PlanBlocks.old_or_new, LayoutBlocks.layout_given, LayoutBlocks.new_in}
-use Rattle.editor_commits.proofs.TrackLists.{above_less, given_below, more_rising, more_valid}
+use Rattle.editor_commits.proofs.TrackLists.{above_less, given_below, more_valid}
+use Rattle.project_state.proofs.Points.{AreAbove-push}
+use Rattle.edit_ops.proofs.Named.{AreNew-append}
 
 -- ---- lists one after another
 
@@ -62,13 +64,6 @@ meant_more src [] t = refl
 meant_more src (x ∷ xs) t = ap (λ (z : Project). meant_track src x ∷ z) (meant_more src xs t)
 
 -- ---- blocks after others
-
-new_append : (m next : ℕ) (xs ys : List NewBlock) → AreNew m next xs → AreNew m (next + length xs) ys
-    → AreNew m next (xs ++ ys)
-new_append m next [] ys a b = let same : next + 0 ≡ next = omega arith in subst (λ (k : ℕ). AreNew m k ys) same b
-new_append m next (x ∷ xs) ys a b =
-    let same : next + suc (length xs) ≡ next + 1 + length xs = omega arith in
-    (a.0, a.1, a.2, a.3, a.4, new_append m (next + 1) xs ys a.5 (subst (λ (k : ℕ). AreNew m k ys) same b))
 
 pieces_later : (count later : ℕ) (ps : List Piece) → count ≤ later → AllFrom [] count ps → AllFrom [] later ps
 pieces_later count later [] le h = tt
@@ -222,11 +217,11 @@ module _ {D : Type 0} (s : Core D) (some : 0 < s.block_size) (least : 16 ≤ s.n
   grown_more = record {
     news = was.news ++ t ∷ [];
     point = a.point ∙ ap (λ (z : List Track). z ++ t ∷ []) was.point ∙ append_assoc old was.news (t ∷ []);
-    ids = more_rising id was.news t was.ids (given_below m (next + length xs) (id + length counts) was.news was.valid)
+    ids = AreAbove-push id was.news t was.ids (given_below m (next + length xs) (id + length counts) was.news was.valid)
         (omega arith);
     many = omega (arith, length-append was.news (t ∷ []), more, was.many);
     valid = more_valid m next' track' was.news t old_valid new_valid;
-    new = subst (AreNew m next) (sym a.makes) (new_append m next xs ys was.new ys_new);
+    new = subst (AreNew m next) (sym a.makes) (AreNew-append m next xs ys was.new ys_new);
     origin = subst (λ (bs : List NewBlock). AllNewFrom [] h.brought bs) (sym a.makes)
         (origin_append g.brought h.brought xs ys (omega (arith, a.brought)) was.origin
         (subst (λ (k : ℕ). AllNewFrom [] k ys) (sym a.brought) a.is.plan.origin));

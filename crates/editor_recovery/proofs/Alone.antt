@@ -1,16 +1,13 @@
 -- Whether a project is there.
-use Rattle.editor_recovery.proofs.Common.{◌≡◌, inl, inr, ⊎_elim, ◌∙◌, ℕ, Bool, true, false, refl, sym, subst, ◌||◌, ◌↔◌}
-use Rattle.editor_recovery.proofs.Common.{IsTrue, Files, bytes_of, Damaged, IsPicked, Form, IsForm, IsProject, Log}
-use Rattle.editor_recovery.proofs.Common.{HasLog, NoProject, zero_or_one, HeaderFault, HasNone, HasSome}
-use Rattle.std.specs.Prelude.{◌≤◌}
+use Rattle.editor_recovery.proofs.Common.{◌≡◌, inl, inr, ⊎_elim, ◌∙◌, ℕ, Bool, true, false, refl, sym, ◌||◌}
+use Rattle.editor_recovery.proofs.Common.{◌↔◌, IsTrue, Files, bytes_of, Damaged, IsPicked, Form, IsForm, IsProject}
+use Rattle.editor_recovery.proofs.Common.{Log, HasLog, NoProject, zero_or_one, HeaderFault, HasNone, HasSome, ◌≤◌}
 use Rattle.project_journal.proofs.{Chosen.journal_project}
 
 -- in one of both files
 pub some_in : (files : Files) (file : ℕ) → file ≤ 1 → IsProject (bytes_of (files file)) → HasSome files
-some_in files file few project = ⊎_elim
-    (λ first. inl (subst (λ (n : ℕ). IsProject (bytes_of (files n))) first project))
-    (λ second. inr (subst (λ (n : ℕ). IsProject (bytes_of (files n))) second project))
-    (zero_or_one file few)
+some_in files file few project =
+    elim (zero_or_one file few) [ inl first ↦ inl (rw first at project) | inr second ↦ inr (rw second at project) ]
 
 pub some_picked : (files : Files) (file : ℕ) → IsPicked file files → HasSome files
 some_picked files file picked = some_in files file picked.few picked.project
@@ -31,17 +28,14 @@ none_log files form log known few has none =
 
 -- neither file has one, and the second after calls that read
 pub none_after : {old new : Files} → new ≡ old → HasNone old → NoProject 1 new
-none_after same none = subst (λ (f : Files). NoProject 1 f) (sym same) none.1
+none_after same none = rw same none.1
 
 -- by a look at each
 pub either_there : (files : Files) (a b : Bool) → IsTrue a ↔ IsProject (bytes_of (files 0))
     → IsTrue b ↔ IsProject (bytes_of (files 1)) → IsTrue (a || b) ↔ HasSome files
 either_there files true b p q = (λ t. inl (p.0 refl), λ some. refl)
 either_there files false true p q = (λ t. inr (q.0 refl), λ some. refl)
-either_there files false false p q = (
-  λ t. let no : false ≡ true = t in absurd cc,
-  λ some. ⊎_elim (λ first. p.1 first) (λ second. q.1 second) some,
-)
+either_there files false false p q = (λ t. let no : false ≡ true = t in absurd cc, ⊎_elim p.1 q.1)
 
 pub none_false : (files : Files) (there : Bool) → there ≡ false → IsTrue there ↔ HasSome files → HasNone files
 none_false files there is same = (

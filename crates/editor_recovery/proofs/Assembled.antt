@@ -6,24 +6,23 @@ use Rattle.project_state.specs.Meaning.{meant_history}
 use Rattle.record_body.proofs.Unnumbered.{history_meant_alike}
 use Rattle.editor_core.specs.{declared.studio.Studio.Studio}
 use Rattle.editor_recovery.specs.{Found.found_by, Stores.store_of}
-use Rattle.editor_recovery.specs.declared.fault.OpenFault.TheVariants as fault
 
 module _ {D : Type 0} (store : D) (p : Parts) where
   pub same_store : {disk : Ghosts D} (r : Result (Studio D disk) (OpenFault × D))
       → IfOk r (λ s. core_of s ≡ assembled store p)
-      → IfErr r (λ e. (e.0 ≡ fault.NoMemory) × (e.1 ≡ store)) → store_of r ≡ store
+      → IfErr r (λ e. (e.0 ≡ OpenFault.NoMemory) × (e.1 ≡ store)) → store_of r ≡ store
   same_store (Ok s) is none = ap (λ (c : Core D). c.store) is
   same_store (Err e) is none = none.1
 
   pub answers : {disk : Ghosts D} (P : Result Found OpenFault → Type 0) (r : Result (Studio D disk) (OpenFault × D))
-      → IfOk r (λ s. core_of s ≡ assembled store p) → IfErr r (λ e. (e.0 ≡ fault.NoMemory) × (e.1 ≡ store))
-      → P (Ok (found_in p)) → P (Err fault.NoMemory) → P (answer_of r)
+      → IfOk r (λ s. core_of s ≡ assembled store p) → IfErr r (λ e. (e.0 ≡ OpenFault.NoMemory) × (e.1 ≡ store))
+      → P (Ok (found_in p)) → P (Err OpenFault.NoMemory) → P (answer_of r)
   answers P (Ok s) is none ok refused = subst (λ (c : Core D). P (Ok (found_by c))) (sym is) ok
-  answers P (Err e) is none ok refused = subst (λ (f : OpenFault). P (Err f)) (sym none.0) refused
+  answers P (Err e) is none ok refused = rw none.0 refused
 
   pub each : {disk : Ghosts D} (Q : Core D → Type 0) (r : Result (Studio D disk) (OpenFault × D))
       → IfOk r (λ s. core_of s ≡ assembled store p) → Q (assembled store p) → IfOk r (λ s. Q (core_of s))
-  each Q (Ok s) is q = subst Q (sym is) q
+  each Q (Ok s) is q = rw is q
   each Q (Err e) is q = tt
 
   pub new_studio : IsNew (assembled store p)

@@ -1,5 +1,5 @@
 -- An answer of blocks, as one of a check.
-use Rattle.editor_recovery.proofs.Common.{◌≡◌, refl, sym, ap, subst, ℕ, zero, suc, ◌<◌, inl, List, [], ◌∷◌, length}
+use Rattle.editor_recovery.proofs.Common.{◌≡◌, refl, ap, subst, ℕ, zero, suc, ◌<◌, inl, List, [], ◌∷◌, length}
 use Rattle.editor_recovery.proofs.Common.{take, get_or, Result, Ok, Err, arith, Contains, IfErr, AllByRecursion}
 use Rattle.editor_recovery.proofs.Common.{BlockRef, Kept, Ghosts, BlockFault, ids_of, OpenFault, Causes}
 use Rattle.std.specs.{Prelude.IsOkUnless}
@@ -7,7 +7,6 @@ use Rattle.block_store.specs.{Reads.Counted}
 use Rattle.editor_recovery.specs.Checking.{IsCheckFault, IsNotDamage}
 use Rattle.editor_recovery.specs.{Blocks.fault_of}
 use Rattle.editor_recovery.proofs.Listed.{contains_none, contains_there}
-use Rattle.block_store.specs.declared.fault.BlockFault.TheVariants as block
 
 -- ---- an answer of blocks as one of a check
 
@@ -18,27 +17,22 @@ Tells (Err why) n told = told ≡ Err (fault_of why)
 
 pub known : {T : Type 0} (r : Result T BlockFault) (told : Result ℕ OpenFault) (n : ℕ) → Tells r n told
     → IfErr told IsCheckFault
-known (Err block.DiskFault) told n is = subst (λ x. IfErr x IsCheckFault) (sym is) tt
-known _ told n is = subst (λ x. IfErr x IsCheckFault) (sym is) tt
+known (Err BlockFault.DiskFault) told n is = rw is tt
+known _ told n is = rw is tt
 
 pub valid_told : {T : Type 0} (r : Result T BlockFault) (told : Result ℕ OpenFault) (n : ℕ) → Tells r n told
-    → IsOkUnless r block.DiskFault
+    → IsOkUnless r BlockFault.DiskFault
     → IfErr told IsNotDamage
-valid_told (Err (block.Damaged file found)) told n is valid = absurd cc
-valid_told _ told n is valid = subst (λ x. IfErr x IsNotDamage) (sym is) tt
+valid_told (Err (BlockFault.Damaged file found)) told n is valid = absurd cc
+valid_told _ told n is valid = rw is tt
 
 pub cause_told : {D T : Type 0} (disk : Ghosts D) (old new : D) (r : Result T BlockFault) (told : Result ℕ OpenFault)
     (n : ℕ) → Tells r n told
     → Kept disk old new → Counted r (disk.read_fault_count old) (disk.read_fault_count new) → Causes disk old new told
-cause_told disk old new (Err block.DiskFault) told n is kept counted =
-    let same = kept.same_faults in
-    subst (Causes disk old new) (sym is) (record {
-      rose = inl counted.0;
-      later_reads = counted.1;
-      later_changes = omega (arith, same);
-    })
+cause_told disk old new (Err BlockFault.DiskFault) told n is kept counted =
+    rw is (record { rose = inl counted.0; later_reads = counted.1; later_changes = omega (arith, kept.same_faults) })
 cause_told disk old new _ told n is kept counted =
-    subst (Causes disk old new) (sym is) (record { same_read_faults = counted; same_change_faults = kept.same_faults })
+    rw is (record { same_read_faults = counted; same_change_faults = kept.same_faults })
 
 pub of_id : (bs : List BlockRef) (id : ℕ) → Contains (ids_of bs) id → (b : BlockRef) × Contains bs b × (b.id ≡ id)
 of_id [] id has = absurd (contains_none id has)

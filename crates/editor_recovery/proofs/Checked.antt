@@ -3,21 +3,17 @@ use Rattle.editor_recovery.proofs.Common.{◌≡◌, ◌∙◌, refl, sym, ap, s
 use Rattle.editor_recovery.proofs.Common.{List, [], ◌∷◌, length, take, get_or, Some, None, Result, Ok, Err, arith}
 use Rattle.editor_recovery.proofs.Common.{All-contains, All-contains_itself, All-from_recursion, All-get_or}
 use Rattle.editor_recovery.proofs.Common.{recursion_from_All, cases_Bool, ltb-false, ltb-true, length-map, Contains}
-use Rattle.editor_recovery.proofs.Common.{IfOk, nat_lt, All, AllByRecursion, BlockRef, History, Files, Kept, Ghosts}
-use Rattle.editor_recovery.proofs.Common.{kept_none, kept_turn, blocks, IsWhole, BlockFault, Track, history_blocks}
+use Rattle.editor_recovery.proofs.Common.{IfOk, nat_lt, All, AllByRecursion, BlockRef, Files, Kept, Ghosts}
+use Rattle.editor_recovery.proofs.Common.{kept_none, kept_turn, blocks, IsWhole, BlockFault, history_blocks}
 use Rattle.editor_recovery.proofs.Common.{some_is, Core, IsHeld, IsStudio, ids_of, AreListed, HaveOneLength, OpenFault}
-use Rattle.editor_recovery.proofs.Common.{ChecksStudio}
-use Rattle.std.proofs.Common.{IsTrue}
+use Rattle.editor_recovery.proofs.Common.{ChecksStudio, IsTrue}
 use Rattle.disk_model.proofs.Frames.{tells_on, Fewer}
 use Rattle.sample_block.specs.{Sources.AllWhole}
-use Rattle.block_store.specs.{Reads.CountedBy}
 use Rattle.editor_views.specs.Scans.{BlockScanned, ScansBlock}
 use Rattle.editor_state.proofs.Calls.SameStores.{rests_held, rests_keeps, rests_studio}
 use Rattle.editor_recovery.specs.Checking.{AllScanned, ChecksAll, IsCountOf, ScansAll}
 use Rattle.editor_recovery.proofs.Counted.{no_fault}
 use Rattle.editor_recovery.proofs.CheckAnswers.{Tells, before, cause_told, id_there, known, of_id, valid_told}
-use Rattle.block_store.specs.declared.fault.BlockFault.TheVariants as block
-use Rattle.editor_recovery.specs.declared.fault.OpenFault.TheVariants as fault
 
 -- these blocks are whole, and nothing changed
 pub record SoFar {D : Type 0} (disk : Ghosts D) (old : Core D) (bs : List BlockRef) (now : Core D) : Type 0 where
@@ -44,18 +40,15 @@ module _ {D : Type 0} (disk : Ghosts D) (old : Core D) (is : IsStudio disk old) 
 
   module _ (bs : List BlockRef) (now : Core D) (far : SoFar disk old bs now) where
     pub far_studio : IsStudio disk now
-    far_studio = subst (IsStudio disk) (sym far.same) (rests_studio disk old is now.store far.kept)
+    far_studio = rw far.same (rests_studio disk old is now.store far.kept)
 
     far_held : IsHeld disk old → IsHeld disk now
-    far_held held = subst (IsHeld disk) (sym far.same) (rests_held disk old is now.store far.kept held)
+    far_held held = rw far.same (rests_held disk old is now.store far.kept held)
 
     pub far_named : (all : List BlockRef) (i : ℕ) (d : BlockRef) → All (Contains (history_blocks old.history)) all
         → i < length all
         → Contains (history_blocks now.history) (get_or all i d)
-    far_named all i d named lt =
-        subst (λ (h : History (List Track)). Contains (history_blocks h) (get_or all i d))
-        (sym (ap (λ (s : Core D). s.history) far.same))
-        (All-get_or (Contains (history_blocks old.history)) all i d lt named)
+    far_named all i d named lt = rw far.same (All-get_or (Contains (history_blocks old.history)) all i d lt named)
 
     -- a turn that changed nothing
     far_same : (next : Core D) → next ≡ record now { store = next.store } → next ≡ record old { store = next.store }
@@ -80,8 +73,7 @@ module _ {D : Type 0} (disk : Ghosts D) (old : Core D) (is : IsStudio disk old) 
 
     told : {T : Type 0} (r : Result T BlockFault) → ScansBlock disk now b r next → IsTrue (disk.tells old.store)
         → BlockScanned (disk.reads old.store) b r
-    told r scans tells = subst (λ (f : Files). BlockScanned f b r) far.kept.same_reads
-        (scans.scanned (tells_on far.kept tells))
+    told r scans tells = rw far.kept.same_reads at (scans.scanned (tells_on far.kept tells))
 
     -- one block more is whole
     pub far_more : {T : Type 0} (done : T) → ScansBlock disk now b (Ok done) next
@@ -93,8 +85,7 @@ module _ {D : Type 0} (disk : Ghosts D) (old : Core D) (is : IsStudio disk old) 
           kept = kept_turn far.kept scans.kept;
           counted = scans.counted ∙ far.counted;
           whole = λ tells. subst (λ (n : ℕ). AllWhole (disk.reads old.store) (take n all)) e
-              (all_more (IsWhole (disk.reads old.store)) all i
-              d lt (told (Ok done) scans tells) (far.whole tells));
+              (all_more (IsWhole (disk.reads old.store)) all i d lt (told (Ok done) scans tells) (far.whole tells));
         }
 
     -- or it is not
@@ -106,12 +97,12 @@ module _ {D : Type 0} (disk : Ghosts D) (old : Core D) (is : IsStudio disk old) 
         let here : get_or all i b ≡ b = one_default all i b d lt in
         record {
           scanned = λ tells. (i, b, lt, here, far.whole tells, told (Err why) scans tells);
-          counted = subst (λ (n : ℕ). CountedBy why n (disk.read_fault_count next.store)) far.counted scans.counted;
+          counted = rw far.counted at scans.counted;
           valid = λ held. scans.valid (far_held (take i all) now far held);
           same = same;
           kept = kept;
-          studio = subst (IsStudio disk) (sym same) (rests_studio disk old is next.store kept);
-          held = λ held. subst (IsHeld disk) (sym same) (rests_held disk old is next.store kept held);
+          studio = rw same (rests_studio disk old is next.store kept);
+          held = λ held. rw same (rests_held disk old is next.store kept held);
           any_moment = λ held. rests_keeps disk old is next.store kept going held;
         }
 
@@ -170,9 +161,7 @@ module _ {D : Type 0} (disk : Ghosts D) (old : Core D) (listed : List BlockRef)
         | inr f ↦
             let le = ltb-false j k f in
             let up : (get_or listed k b).id ≤ (get_or listed j b).id = are.rising k j b le there.1 in
-            let x : (get_or listed k b).id ≡ b.id = ap (λ (r : BlockRef). r.id) here in
-            let y : (get_or listed j b).id ≡ other.id = ap (λ (r : BlockRef). r.id) jb in
-            absurd (omega (arith, up, x, y, low))
+            absurd (omega (arith, rw (here, jb) at up, low))
       ]
 
   checks_all : {T : Type 0} (files : Files) (r : Result T BlockFault) (told : Result ℕ OpenFault)
@@ -180,12 +169,12 @@ module _ {D : Type 0} (disk : Ghosts D) (old : Core D) (listed : List BlockRef)
       → Tells r (length listed) told → ChecksAll files bs told
   checks_all files (Ok done) told scanned is =
       let whole = whole_all files scanned in
-      subst (ChecksAll files bs) (sym is) (whole, one_count (length listed) refl (one_whole files whole))
-  checks_all files (Err block.DiskFault) told scanned is = subst (ChecksAll files bs) (sym is) tt
-  checks_all files (Err (block.Damaged file found)) told scanned is =
+      rw is (whole, one_count (length listed) refl (one_whole files whole))
+  checks_all files (Err BlockFault.DiskFault) told scanned is = rw is tt
+  checks_all files (Err (BlockFault.Damaged file found)) told scanned is =
       let k = scanned.0 in
       let b = scanned.1 in
-      subst (ChecksAll files bs) (sym is) (record {
+      rw is (record {
         block = b;
         named = (are.same b).0 (k, scanned.2, scanned.3);
         differs = scanned.5;
@@ -194,8 +183,8 @@ module _ {D : Type 0} (disk : Ghosts D) (old : Core D) (listed : List BlockRef)
 
   counts_all : {T : Type 0} (r : Result T BlockFault) (told : Result ℕ OpenFault) → Tells r (length listed) told
       → HaveOneLength bs → IfOk told (IsCountOf bs)
-  counts_all (Ok done) told is one = subst (λ x. IfOk x (IsCountOf bs)) (sym is) (one_count (length listed) refl one)
-  counts_all (Err why) told is one = subst (λ x. IfOk x (IsCountOf bs)) (sym is) tt
+  counts_all (Ok done) told is one = rw is (one_count (length listed) refl one)
+  counts_all (Err why) told is one = rw is tt
 
   pub checks_studio : {T : Type 0} (r : Result T BlockFault) (told : Result ℕ OpenFault) (new : Core D)
       → Tells r (length listed) told
@@ -216,7 +205,7 @@ module _ {D : Type 0} (disk : Ghosts D) (old : Core D) (listed : List BlockRef)
 -- there was no memory for the list
 pub checks_none : {D : Type 0} (disk : Ghosts D) (old : Core D) → IsStudio disk old → old.stopped ≡ None
     → Fewer disk old.store
-    → ChecksStudio disk old (Err fault.NoMemory) old
+    → ChecksStudio disk old (Err OpenFault.NoMemory) old
 checks_none disk old is going fewer =
     let kept = kept_none old.store fewer in
     record {

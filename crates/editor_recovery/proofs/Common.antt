@@ -53,3 +53,5 @@ pub use Rattle.std.proofs.lemmas.Option.{none-some, slice_get-get_or, slice_get_
 pub use Rattle.std.specs.List.{All, AllByRecursion, flat_map, Sorted.IsStrictlyIncreasing}
 pub use Rattle.std.specs.Prelude.{Contains, IfErr, IfOk, IsSome, IsTrue, OnOk, find, if◌then◌else◌, nat_le, nat_lt}
 pub use Rattle.std.specs.Prelude.{slice_get, ◌&&◌, ◌||◌, ◌↔◌}
+pub use Rattle.record_body.specs.Saved.{Opened}
+pub use Rattle.std.specs.Prelude.{◌⊎◌}

@@ -1,9 +1,9 @@
 -- A project is made, and an honest disk stays honest.
-use Rattle.editor_recovery.proofs.Common.{◌≡◌, ◌≢◌, ℕ, zero, suc, ◌≤◌, true, false, inl, inr, ⊎_elim, ◌⊎◌, List, Option}
-use Rattle.editor_recovery.proofs.Common.{Result, Ok, Err, refl, sym, subst, arith, Contains, IsSome, IsTrue, OnOk}
-use Rattle.editor_recovery.proofs.Common.{Files, Follows, StaysStep, upto_refl, Kept, Ghosts, kept_turn, HasLog, IsAt}
-use Rattle.editor_recovery.proofs.Common.{EachNow, NoProject, each_has, Keeps, history_blocks, HasNoForeign, OpenFault}
-use Rattle.editor_recovery.proofs.Common.{is_foreign, Names, IsHonest, HasNone, Stands}
+use Rattle.editor_recovery.proofs.Common.{◌≡◌, ◌≢◌, ℕ, zero, suc, ◌≤◌, true, false, inl, inr, ⊎_elim, ◌⊎◌}
+use Rattle.editor_recovery.proofs.Common.{Result, Ok, Err, refl, arith, IsTrue}
+use Rattle.editor_recovery.proofs.Common.{OnOk, Files, Follows, StaysStep, upto_refl, Kept, Ghosts, kept_turn, HasLog}
+use Rattle.editor_recovery.proofs.Common.{IsAt, EachNow, NoProject, each_has, Keeps, HasNoForeign}
+use Rattle.editor_recovery.proofs.Common.{OpenFault, is_foreign, Names, IsHonest, HasNone, Stands}
 use Rattle.disk_model.specs.Disk.{SameElsewhere}
 use Rattle.project_journal.specs.Journal.{fresh}
 use Rattle.project_journal.specs.{Header.form_3}
@@ -11,8 +11,6 @@ use Rattle.record_body.proofs.NewProjects.{fresh_begins}
 use Rattle.record_body.specs.Saved.{new_project}
 use Rattle.editor_recovery.specs.Creating.{new_opened, Creates, LeavesRefused}
 use Rattle.editor_recovery.proofs.{Alone.none_log, Honest.same_saved, Listed.contains_none}
-use Rattle.record_body.specs.Saved as saved
-use Rattle.editor_recovery.specs.declared.fault.OpenFault.TheVariants as fault
 
 -- the new journal is the new project
 pub keeps_new : (rate block_size depth : ℕ) (c : Files) → HasLog (form_3 0) (fresh rate block_size depth) c
@@ -52,8 +50,7 @@ no_names rate block_size depth c id has names =
     let kept : names.kept ≡ new_project depth =
     same_saved c names.form (form_3 0) names.log (fresh rate block_size depth) names.kept (new_project depth)
     names.stands (new_stands rate block_size depth c has) in
-    contains_none names.block
-    (subst (λ (k : saved.Saved). Contains (history_blocks k.history) names.block) kept names.named)
+    contains_none names.block (rw kept at names.named)
 
 no_project_names : (c : Files) (id : ℕ) → HasNone c → Names c id → ⊥
 no_project_names c id none names =
@@ -88,10 +85,9 @@ module _ {D : Type 0} (disk : Ghosts D) (old new : D) where
       → disk.keeps_model new ≡ disk.keeps_model old → IsHonest disk old → IsHonest disk new
   still_honest follows model honest =
       let back : (c : Files) → disk.may_leave new (disk.clock new) c → disk.may_leave old (disk.clock old) c =
-      λ c now. let d = follows.from c (now_before follows c now) in
-      subst (disk.may_leave old (disk.clock old)) (sym d.2) d.1 in
+      λ c now. let d = follows.from c (now_before follows c now) in rw d.2 d.1 in
       record {
-        model = subst IsTrue (sym model) honest.model;
+        model = rw model honest.model;
         foreign = λ c now. honest.foreign c (back c now);
         whole = λ c now. honest.whole c (back c now);
         same = λ c nc d nd. honest.same c (back c nc) d (back d nd);
@@ -108,22 +104,23 @@ module _ {D : Type 0} (disk : Ghosts D) (old new : D) where
       let since = now_before follows in
       let none : (c : Files) → (id : ℕ) → Names c id → HasNone c ⊎ HasLog (form_3 0) (fresh rate block_size depth) c
       → ⊥ =
-      λ c id names other. ⊎_elim (λ none. no_project_names c id none names)
-      (λ has. no_names rate block_size depth c id has names) other in
+      λ c id names. ⊎_elim (λ none. no_project_names c id none names)
+      (λ has. no_names rate block_size depth c id has names) in
       record {
-        model = subst IsTrue (sym model) honest.model;
+        model = rw model honest.model;
         foreign = λ c now file has foreign.
             let d = follows.from c (since c now) in
-            honest.foreign d.0 d.1 file
-            (subst (λ (o : Option (List ℕ)). IsSome o) (d.2 file (not_first file (not_journal file foreign))) has) foreign;
-        whole = λ c now. ⊎_elim (honest.whole c)
-            (λ other. ⊎_elim (λ none. inl none)
-            (λ has. inr (new_opened rate block_size depth, keeps_new rate block_size depth c has)) other)
-            (any c (since c now));
-        same = λ c nc d nd id p q.
-            ⊎_elim (λ oc. ⊎_elim (λ od. honest.same c oc d od id p q) (λ other. absurd (none d id q other))
-            (any d (since d nd)))
-            (λ other. absurd (none c id p other)) (any c (since c nc));
+            honest.foreign d.0 d.1 file (rw (d.2 file (not_first file (not_journal file foreign))) at has) foreign;
+        whole = λ c now. elim (any c (since c now)) [
+          | inl early ↦ honest.whole c early
+          | inr (inl none) ↦ inl none
+          | inr (inr has) ↦ inr (new_opened rate block_size depth, keeps_new rate block_size depth c has)
+        ];
+        same = λ c nc d nd id p q. elim (any c (since c nc)) [
+          | inl oc ↦ elim (any d (since d nd))
+              [ inl od ↦ honest.same c oc d od id p q | inr other ↦ absurd (none d id q other) ]
+          | inr other ↦ absurd (none c id p other)
+        ];
       }
 
 -- calls that write nothing, and then a creation
@@ -135,15 +132,17 @@ pub any_moment_both : {D : Type 0} (disk : Ghosts D) (rate block_size depth : �
     → (c : Files) → disk.may_leave new (disk.clock old) c → disk.may_leave old (disk.clock old) c
     ⊎ (HasNone c ⊎ Keeps c (new_opened rate block_size depth))
 any_moment_both disk rate block_size depth old mid new f g any c since =
-    ⊎_elim (λ early. inl (back early))
-    (λ late.
-    ⊎_elim (λ m. inl (back (f.fewer (disk.clock old) (disk.clock mid) c f.later (upto_refl (disk.clock mid)) m)))
-    (λ other. ⊎_elim (λ none. inr (inl none)) (λ has. inr (inr (keeps_new rate block_size depth c has))) other)
-    (any c late))
-    (g.added (disk.clock old) c f.later since)
+    elim (g.added (disk.clock old) c f.later since) [
+      | inl early ↦ inl (back early)
+      | inr late ↦ elim (any c late) [
+        | inl m ↦ inl (back (f.fewer (disk.clock old) (disk.clock mid) c f.later (upto_refl (disk.clock mid)) m))
+        | inr (inl none) ↦ inr (inl none)
+        | inr (inr has) ↦ inr (inr (keeps_new rate block_size depth c has))
+      ]
+    ]
   where
     back : disk.may_leave mid (disk.clock old) c → disk.may_leave old (disk.clock old) c
-    back m = let d = f.from c m in subst (disk.may_leave old (disk.clock old)) (sym d.2) d.1
+    back m = let d = f.from c m in rw d.2 d.1
 
 -- after it each image keeps the new project
 pub made_done : {D T : Type 0} (disk : Ghosts D) (rate block_size depth : ℕ) (new : D) (r : Result T OpenFault)
@@ -161,13 +160,13 @@ made_done disk rate block_size depth new (Ok x) here = (
 pub left_turn : {D T : Type 0} (disk : Ghosts D) (old mid new : D) (r : Result T OpenFault) → Kept disk old mid
     → LeavesRefused disk mid new r → LeavesRefused disk old new r
 left_turn disk old mid new (Ok x) kept left = tt
-left_turn disk old mid new (Err fault.DiskFault) kept left = tt
+left_turn disk old mid new (Err OpenFault.DiskFault) kept left = tt
 left_turn disk old mid new _ kept left = kept_turn kept left
 
 pub none_there : {T : Type 0} (files : Files) (r : Result T OpenFault) → HasNone files → HasNoForeign files r
     → Creates files r
 none_there files (Ok x) none has = (none, has)
-none_there files (Err fault.DiskFault) none has = tt
-none_there files (Err fault.NoMemory) none has = tt
-none_there files (Err (fault.Foreign file)) none has = (none, has)
+none_there files (Err OpenFault.DiskFault) none has = tt
+none_there files (Err OpenFault.NoMemory) none has = tt
+none_there files (Err (OpenFault.Foreign file)) none has = (none, has)
 none_there files _ none has = absurd has

@@ -1,9 +1,9 @@
 -- From the fold of a journal to what opening makes of it.
-use Rattle.editor_recovery.proofs.Common.{◌≡◌, ◌≤◌, ◌+◌, ◌^◌, ℕ, ⊎_elim, List, [], ◌∷◌, map, length, Ok, Err, sym, ap}
+use Rattle.editor_recovery.proofs.Common.{◌≡◌, ◌≤◌, ◌+◌, ◌^◌, ℕ, List, [], ◌∷◌, map, length, Ok, Err, sym, ap}
 use Rattle.editor_recovery.proofs.Common.{subst, ◌∙◌, arith, length-map, Ghosts, Contents, body_at, log_of, Base}
-use Rattle.editor_recovery.proofs.Common.{JournalFault, Reader, Form, IsForm, form_of, reader_form, HasBase, read_whole}
-use Rattle.editor_recovery.proofs.Common.{Saved, Begins, LeadIn, version_of, base_of, saved_of, IsValid, Project}
-use Rattle.editor_recovery.proofs.Common.{Folded, FoldsDisk, IsValidFolded}
+use Rattle.editor_recovery.proofs.Common.{JournalFault, Reader, Form, IsForm, reader_form, HasBase, read_whole}
+use Rattle.editor_recovery.proofs.Common.{Saved, Begins, LeadIn, version_of, base_of, saved_of, Project}
+use Rattle.editor_recovery.proofs.Common.{Folded, FoldsDisk, IsValidFolded, inl, inr}
 use Rattle.project_journal.specs.Journal.{IsHeader, IsJournal}
 use Rattle.project_journal.specs.{Readable.IsReadable, Reader.IsLater}
 use Rattle.project_journal.proofs.AnyFormats.{base_valid}
@@ -15,52 +15,45 @@ use Rattle.journal_replay.proofs.{Stepping.valid_by}
 use Rattle.editor_state.specs.Studios.{AreJournalNumbers}
 use Rattle.editor_recovery.specs.Finding.{records_fault}
 use Rattle.editor_recovery.proofs.ValidParts.{format_of}
-use Rattle.project_journal.specs.declared.fault.JournalFault.TheVariants as journal
 
 -- a reader that read on reads the same form
 pub later_form : (old new : Reader) → IsLater old new → reader_form new ≡ reader_form old
-later_form old new later =
-    ap (λ (v : ℕ). form_of v new.window.file) later.version ∙ ap (form_of old.version) later.file
+later_form old new later = rw (later.version, later.file)
 
 -- the first fault of its journal, as it is reported of the disk
 pub unfolded_as : {D : Type 0} (disk : Ghosts D) (store : D) (old new : Reader) (e : JournalFault)
     → ReadsOn {T = Project} old new (Err e) → FoldsStored disk store new (Err e)
     → FoldsDisk disk store (reader_form old) (Err (records_fault e))
-unfolded_as disk store old new (journal.Damaged file at want have) later folds =
+unfolded_as disk store old new (JournalFault.Damaged file at want have) later folds =
     subst (λ (form : Form). HasFault disk store form file (record { at = at; want = want; have = have }))
     (later_form old new later) folds
-unfolded_as disk store old new journal.DiskFault later folds = tt
-unfolded_as disk store old new journal.NoMemory later folds = tt
+unfolded_as disk store old new JournalFault.DiskFault later folds = tt
+unfolded_as disk store old new JournalFault.NoMemory later folds = tt
 unfolded_as disk store old new _ later folds = absurd folds
 
 -- the numbers that a studio keeps of a journal
 numbers : (form : Form) (head : List ℕ) (j : Contents) (file version generation : ℕ) → IsForm form → form.file ≤ 1
     → IsHeader form head (log_of j) → HasBase j.base → file ≡ form.file → version ≡ version_of form
     → generation ≡ j.base.generation → AreJournalNumbers file version generation
-numbers form head j file version generation known few is bounds same version_is generation_is = ⊎_elim
-    (λ one.
-    let v : version ≡ 1 = version_is ∙ ap version_of one in
-    let none = (plain form.file head (log_of j) (subst (λ (f : Form). IsHeader f head (log_of j)) one is)).base in
-    record {
-      among = omega (arith, same, few);
-      version_least = omega (arith, v);
-      version_most = omega (arith, v);
-      generation_most = omega (arith, generation_is, bounds.generation);
-      first_version = λ first. generation_is ∙ ap (λ (b : Base). b.generation) none;
-    })
-    (λ later. ⊎_elim
-    (λ two. later_numbers 2 (version_is ∙ ap version_of two) (omega arith) (omega arith))
-    (λ three. later_numbers 3 (version_is ∙ ap version_of three) (omega arith) (omega arith))
-    later)
-    known
+numbers form head j file version generation known few is bounds same version_is generation_is = elim known [
+  | inl one ↦
+      let none = (plain form.file head (log_of j) (rw one at is)).base in
+      by_version 1 (version_is ∙ ap version_of one) (omega arith) (omega arith)
+      (λ first. generation_is ∙ ap (λ (b : Base). b.generation) none)
+  | inr (inl two) ↦ by_version 2 (version_is ∙ ap version_of two) (omega arith) (omega arith)
+      (λ first. absurd (omega (arith, first)))
+  | inr (inr three) ↦ by_version 3 (version_is ∙ ap version_of three) (omega arith) (omega arith)
+      (λ first. absurd (omega (arith, first)))
+]
   where
-    later_numbers : (v : ℕ) → version ≡ v → 2 ≤ v → v ≤ 3 → AreJournalNumbers file version generation
-    later_numbers v is_v least most = record {
+    by_version : (v : ℕ) → version ≡ v → 1 ≤ v → v ≤ 3 → (v ≡ 1 → generation ≡ 0)
+        → AreJournalNumbers file version generation
+    by_version v is_v least most first = record {
       among = omega (arith, same, few);
       version_least = omega (arith, is_v, least);
       version_most = omega (arith, is_v, most);
       generation_most = omega (arith, generation_is, bounds.generation);
-      first_version = λ first. absurd (omega (arith, first, is_v, least));
+      first_version = λ one. first (sym is_v ∙ one);
     }
 
 -- a journal of version 1 begins without commits
@@ -73,28 +66,23 @@ few_commits : (form : Form) (bytes : List ℕ) (j : Contents) (kept : Saved) →
     → (is : IsJournal form bytes j) → IsReadable j → HasBase j.base → Begins (log_of j) (base_of j)
     → (base_of j).commit ≤ 2 ^ 62
     → LeadIn (version_of form) j.block_size (base_of j) (map body_at j.records) kept → kept.commit ≤ 2 ^ 62
-few_commits form bytes j kept known is ready bounds begins base_few led = ⊎_elim
-    (λ one.
-    let head = is.spelled.head in
-    let none = (plain form.file head (log_of j) (subst (λ (f : Form). IsHeader f head (log_of j)) one
-    is.spelled.header)).points in
-    omega (
-      arith,
-      lead_commits (version_of form) j.block_size (base_of j) kept (map body_at j.records) led,
-      first_base j none,
-      length-map j.records body_at,
-      ready.records,
-      ready.end,
-    ))
-    (λ later. ⊎_elim
-    (λ two.
-    let v : version_of form ≡ 2 = ap version_of two in
-    told_few (version_of form) j.block_size (base_of j) kept (map body_at j.records) (omega (arith, v)) base_few led)
-    (λ three.
-    let v : version_of form ≡ 3 = ap version_of three in
-    told_few (version_of form) j.block_size (base_of j) kept (map body_at j.records) (omega (arith, v)) base_few led)
-    later)
-    known
+few_commits form bytes j kept known is ready bounds begins base_few led = elim known [
+  | inl one ↦
+      let none = (plain form.file is.spelled.head (log_of j) (rw one at is.spelled.header)).points in
+      omega (
+        arith,
+        lead_commits (version_of form) j.block_size (base_of j) kept (map body_at j.records) led,
+        first_base j none,
+        length-map j.records body_at,
+        ready.records,
+        ready.end,
+      )
+  | inr (inl two) ↦ later (omega (arith, ap version_of two))
+  | inr (inr three) ↦ later (omega (arith, ap version_of three))
+]
+  where
+    later : 2 ≤ version_of form → kept.commit ≤ 2 ^ 62
+    later least = told_few (version_of form) j.block_size (base_of j) kept (map body_at j.records) least base_few led
 
 base_few : (points : List (List ℕ)) (depth : ℕ) (b : Base) → b.commit ≤ 2 ^ 62 → (base_by points depth b).commit ≤ 2 ^ 62
 base_few [] depth b few = omega arith
@@ -150,8 +138,7 @@ module _ {D : Type 0} (disk : Ghosts D) (store : D) (reader : Reader) (f : Folde
       record {
         format = format_of f.rate j.rate f.block_size j.block_size f.project.numbered.history.history.depth j.depth
             (rate ∙ l.rate) same_size depth ready.format;
-        kept = subst (λ (m : ℕ). IsValid m (saved_of f.project)) (sym same_size)
-            (valid_by j.block_size base.history.depth (base.commit + length (map body_at j.records))
+        kept = rw same_size (valid_by j.block_size base.history.depth (base.commit + length (map body_at j.records))
             (saved_of f.project) so_valid);
         commit = few_commits form l.stored.bytes j (saved_of f.project) known is ready bounds l.begins
             (base_few j.points j.depth j.base bounds.commit) l.leads;

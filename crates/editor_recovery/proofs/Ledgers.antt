@@ -1,10 +1,9 @@
 -- The counts of files, and of the layouts of a history.
-use Rattle.editor_recovery.proofs.Common.{◌≡◌, ◌⊎◌, ℕ, ◌+◌, ◌≤◌, ◌<◌, ◌^◌, ⊎_elim, List, [], ◌∷◌, length, Option, Some}
-use Rattle.editor_recovery.proofs.Common.{None, refl, sym, ap, subst, arith, ◌-◌, Contains, IsSome, find, if◌then◌else◌}
+use Rattle.editor_recovery.proofs.Common.{◌≡◌, ℕ, ◌+◌, ◌≤◌, ◌<◌, ◌^◌, ⊎_elim, List, [], ◌∷◌, length}
+use Rattle.editor_recovery.proofs.Common.{None, refl, ap, subst, arith, Contains, IsSome, find, if◌then◌else◌}
 use Rattle.editor_recovery.proofs.Common.{AllByRecursion, BlockRef, History, Files, count_of, Track, history_blocks}
 use Rattle.editor_recovery.proofs.Common.{point_blocks, IsValidTagged, history_tracks, times_named, is_foreign, IsAbove}
-use Rattle.editor_recovery.proofs.Common.{AreFiles}
-use Rattle.std.proofs.Common.{if◌then◌else◌}
+use Rattle.editor_recovery.proofs.Common.{AreFiles, inl, inr}
 use Rattle.std.proofs.{lemmas.Bool.Decides.eqb_tells, lemmas.List.append-nil}
 use Rattle.block_ledger.specs.{Counts.Counts, Counts.occurrences}
 use Rattle.layout_uses.specs.Tallies.{AreCounts, Comes, IsTally}
@@ -24,19 +23,16 @@ noted_zero files counts noted id =
 
 noted_some : (files : List ℕ) (counts : Counts) → AreNoted files counts → (id : ℕ) → Contains files id → 2 ≤ id
     → IsSome (counts id)
-noted_some files counts noted id there low = subst (λ (o : Option ℕ). IsSome o) (sym (noted.there id there low)) refl
+noted_some files counts noted id there low = rw (noted.there id there low) refl
 
 -- nothing is used, and nothing named
 pub noted_tally : (files : List ℕ) (uses counts : Counts) → ((n : ℕ) → uses n ≡ None) → AreNoted files counts
     → AreCounts [] [] uses counts
 noted_tally files uses counts none noted = record {
   fresh_uses = λ n. ap occurrences (none n);
-  none_free = λ n free. absurd (some_not (uses n) (none n) free);
+  none_free = λ n free. absurd (cc (none n));
   fresh_counts = λ id. noted_zero files counts noted id;
 }
-  where
-    some_not : (o : Option ℕ) → o ≡ None → o ≡ Some 0 → ⊥
-    some_not o none some = cc
 
 -- ---- the blocks of a history
 
@@ -44,10 +40,10 @@ noted_tally files uses counts none noted = record {
 named_there : (P : ℕ → Type 0) (bs : List BlockRef) (id : ℕ) → AllByRecursion (λ (b : BlockRef). P b.id) bs
     → 0 < times_named id bs → P id
 named_there P [] id all some = absurd (omega (arith, some))
-named_there P (b ∷ bs) id all some = ⊎_elim
-    (λ same. subst P same.1 all.0)
-    (λ other. named_there P bs id all.1 (omega (arith, some, ap {B = ℕ} (λ t. if t then 1 else 0) other.0)))
-    (eqb_tells b.id id)
+named_there P (b ∷ bs) id all some = elim (eqb_tells b.id id) [
+  | inl same ↦ subst P same.1 all.0
+  | inr other ↦ named_there P bs id all.1 (omega (arith, some, ap {B = ℕ} (λ t. if t then 1 else 0) other.0))
+]
 
 module _ (files : List ℕ) (h : History (List Track))
     (named : AllByRecursion (λ (b : BlockRef). (2 ≤ b.id) × Contains files b.id) (history_blocks h))
@@ -55,7 +51,7 @@ module _ (files : List ℕ) (h : History (List Track))
   pub points_there : HasIds counts (track_blocks (history_tracks h))
   points_there id some =
       let here = named_there (λ (n : ℕ). (2 ≤ n) × Contains files n) (history_blocks h) id named
-      (subst (λ (bs : List BlockRef). 0 < times_named id bs) (history_named h) some) in
+      (rw (history_named h) at some) in
       noted_some files counts noted id here.1 here.0
 
   pub points_few : ((id : ℕ) → times_named id (history_blocks h) < 2 ^ 128) → (id : ℕ)
@@ -71,23 +67,15 @@ module _ (files : List ℕ) (h : History (List Track))
 
 pub tally_then : (h : History (List Track)) (old new : Tally) → length (history_tracks h) < 2 ^ 128 → IsTally [] [] old
     → Comes (history_tracks h) old new → IsTally (history_tracks h) [] new
-tally_then h old new few was comes =
-    subst (λ (ts : List Track). IsTally ts [] new) (append-nil (history_tracks h))
-    (comes.counted [] [] (omega (arith, few)) was)
+tally_then h old new few was comes = rw append-nil at (comes.counted [] [] (omega (arith, few)) was)
 
 pub counted_then : (files : List ℕ) (tracks : List Track) (old new : Tally) → AreNoted files (count_of old.ledger)
     → Comes tracks old new → AreCounted files (count_of new.ledger)
 counted_then files tracks old new noted comes = record {
   there = λ id there low. (comes.ids id).1 (noted_some files (count_of old.ledger) noted id there low);
-  only = λ id some. ⊎_elim
-      (λ none. absurd (none_some (count_of old.ledger id) none ((comes.ids id).0 some)))
-      (λ is. (is.1, is.2))
-      (noted.only id);
+  only = λ id some. elim (noted.only id)
+      [ inl none ↦ absurd (cc (rw none at ((comes.ids id).0 some))) | inr is ↦ (is.1, is.2) ];
 }
-  where
-    none_some : (o : Option ℕ) → o ≡ None → IsSome o → ⊥
-    none_some None none some = absurd cc
-    none_some (Some x) none some = absurd cc
 
 -- by the files of a disk
 pub ledger_of : (files : Files) (listed : List ℕ) (counts : Counts) → AreFiles files listed

@@ -1,11 +1,12 @@
 -- Sizes that were measured, file by file.
 use Rattle.editor_recovery.proofs.Common.{◌≡◌, ◌==◌, ℕ, ◌<◌, ◌≤◌, Bool, true, false, inl, inr, ⊎_elim, ◌⊎◌, List}
-use Rattle.editor_recovery.proofs.Common.{length, get_or, Option, Some, None, Result, Ok, Err, refl, sym, ap, subst}
+use Rattle.editor_recovery.proofs.Common.{length, get_or, Option, Some, None, Result, Ok, Err, refl, sym, ap}
 use Rattle.editor_recovery.proofs.Common.{◌∙◌, arith, cases_Bool, eqb-true, eqb-false, ltb-true, ltb-false}
-use Rattle.editor_recovery.proofs.Common.{slice_get-get_or, All-from_recursion, All-contains, OnOk, IsSome, Contains}
+use Rattle.editor_recovery.proofs.Common.{slice_get-get_or, All-from_recursion, All-contains, OnOk, Contains}
 use Rattle.editor_recovery.proofs.Common.{if◌then◌else◌, nat_lt, All, BlockRef, Files, bytes_of, IsBlock, size_of}
 use Rattle.editor_recovery.proofs.Common.{Track, point_blocks, IsBlockRef, OpenFault, AreFiles, TestsMeasured}
 use Rattle.editor_recovery.proofs.Common.{file_size, HaveOneLength}
+use Rattle.std.proofs.lemmas.Bool.{eq-eqb}
 use Rattle.editor_recovery.proofs.Points.{all_blocks, all_flat, all_points, both_all}
 use Rattle.editor_recovery.proofs.{Highest.contains_get, Highest.at_default, Wrong.right_there, Wrong.IsRight}
 
@@ -13,7 +14,7 @@ use Rattle.editor_recovery.proofs.{Highest.contains_get, Highest.at_default, Wro
 module _ (old new real : ℕ → ℕ) (file : ℕ)
     (is : (other : ℕ) → new other ≡ (if other == file then real file else old other)) where
   measured_case : (P : ℕ → Type 0) (other : ℕ) → (other ≡ file → P (real file)) → P (old other) → P (new other)
-  measured_case P other here there = subst P (sym (is other)) (step (other == file) (eqb-true other file))
+  measured_case P other here there = rw (is other) (step (other == file) (eqb-true other file))
     where
       step : (t : Bool) → (t ≡ true → other ≡ file) → P (if t then real file else old other)
       step true same = here (same refl)
@@ -23,11 +24,7 @@ module _ (old new real : ℕ → ℕ) (file : ℕ)
   measured_right other right = measured_case (λ n. n ≡ real other) other (λ same. ap real (sym same)) right
 
   pub measured_here : new file ≡ real file
-  measured_here = elim (cases_Bool (file == file)) [
-    | inl t ↦ is file
-        ∙ ap (λ (b : Bool). if b then real file else old file) t
-    | inr f ↦ absurd (eqb-false file file f refl)
-  ]
+  measured_here = rw (is file, eq-eqb file file refl)
 
   pub measured_still : (other : ℕ) → (old other ≡ 0) ⊎ (old other ≡ real other)
       → (new other ≡ 0) ⊎ (new other ≡ real other)
@@ -40,8 +37,7 @@ pub listed_still : (files : List ℕ) (old new : ℕ → ℕ) (i : ℕ)
     → ((file : ℕ) → (old file ≡ 0) ⊎ Contains files file) → (file : ℕ) → (new file ≡ 0) ⊎ Contains files file
 listed_still files old new i lt same listed file = elim (cases_Bool (file == get_or files i 0)) [
   | inl t ↦
-      let e = eqb-true file (get_or files i 0) t in
-      inr (subst (λ (n : ℕ). Contains files n) (sym e)
+      inr (rw (eqb-true file (get_or files i 0) t)
       (contains_get files i (get_or files i 0) (slice_get-get_or files i 0 lt)))
   | inr f ↦ ⊎_elim (λ none. inl (same file (eqb-false file (get_or files i 0) f) ∙ none)) (λ has. inr has) (listed file)
 ]
@@ -55,12 +51,10 @@ all_measured files xs sizes are there right file = by_file (files file) refl
   where
     by_file : (f : Option (List ℕ)) → files file ≡ f → sizes file ≡ file_size files file
     by_file None none =
-        let zero_size : file_size files file ≡ 0 = ap (λ (o : Option (List ℕ)). length (bytes_of o)) none in
-        ⊎_elim (λ z. z ∙ sym zero_size) (λ r. r) (right file)
+        ⊎_elim (λ z. z ∙ sym (ap (λ (o : Option (List ℕ)). length (bytes_of o)) none)) (λ r. r) (right file)
     by_file (Some bytes) some =
-        let has : Contains xs file = (are file).1 (subst (λ (o : Option (List ℕ)). IsSome o) (sym some) refl) in
-        let same : get_or xs has.0 0 ≡ file = at_default xs has.0 has.1 file has.2 in
-        subst (λ (n : ℕ). sizes n ≡ file_size files n) same (there has.0 has.1)
+        let has : Contains xs file = (are file).1 (rw some refl) in
+        rw (at_default xs has.0 has.1 file has.2) at (there has.0 has.1)
 
 -- the files of blocks that have their size are there
 pub named_listed : {T : Type 0} (files : List ℕ) (sizes : ℕ → ℕ) (ps : List (List Track × ℕ)) (r : Result T OpenFault)

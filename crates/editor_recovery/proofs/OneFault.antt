@@ -1,8 +1,8 @@
 -- The first fault of a disk is one.
-use Rattle.editor_recovery.proofs.Common.{◌≡◌, ℕ, List, inl, inr, Option, Some, None, sym, ap, subst, ◌∙◌, arith}
-use Rattle.editor_recovery.proofs.Common.{BlockRef, Files, bytes_of, size_of, Form, form_of, Damaged, field, IsRead}
-use Rattle.editor_recovery.proofs.Common.{picked_once, read_form, Saved, history_blocks, some_is, journal_fault}
-use Rattle.editor_recovery.proofs.Common.{HeaderFault, RecordFault, SizeFault, IsUpTo, IsFirstWrong, file_size}
+use Rattle.editor_recovery.proofs.Common.{◌≡◌, ℕ, List, inl, inr, Option, Some, None, sym, ap, ◌∙◌, arith}
+use Rattle.editor_recovery.proofs.Common.{BlockRef, Files, bytes_of, Form, form_of, Damaged, field}
+use Rattle.editor_recovery.proofs.Common.{picked_once, read_form, some_is}
+use Rattle.editor_recovery.proofs.Common.{HeaderFault, RecordFault, SizeFault, IsUpTo}
 use Rattle.project_journal.specs.Header.{first_failed}
 use Rattle.project_journal.specs.{Choice.FailsIn}
 use Rattle.project_journal.proofs.Picked.{no_choice_fault}
@@ -43,15 +43,13 @@ module _ (files : Files) (f g : ℕ) (d e : Damaged) where
   header_records (inl p) q = no_choice_fault q.form.file files f d q.picked p
   header_records (inr p) q =
       let bytes = bytes_of (files q.form.file) in
-      let form = read_form q.form bytes q.journal q.known q.read in
-      let valid : header_fails files q.form.file ≡ None =
-      ap (λ (x : Form). first_failed (x.tests bytes)) form ∙ read_valid q.form bytes q.journal q.known q.read in
-      let no : None ≡ Some d = sym valid
-      ∙ sym (ap (header_fails files) (picked_once f q.form.file files p.picked q.picked)) ∙ p.fails in
+      let valid : header_fails files q.form.file ≡ None = ap (λ (x : Form). first_failed (x.tests bytes))
+      (read_form q.form bytes q.journal q.known q.read) ∙ read_valid q.form bytes q.journal q.known q.read in
+      let no : None ≡ Some d = sym valid ∙ (rw (picked_once f q.form.file files p.picked q.picked) at p.fails) in
       absurd cc
 
   header_sizes : HeaderFault files f d → SizeFault files g e → ⊥
-  header_sizes p q = no_header_fault files q.form q.log q.kept f d q.stands p
+  header_sizes p q = no_header_fault files q.form q.log q.kept q.stands f d p
 
   records : RecordFault files f d → RecordFault files g e → (f ≡ g) × (d ≡ e)
   records p q =
@@ -61,27 +59,20 @@ module _ (files : Files) (f g : ℕ) (d e : Damaged) where
       sym (read_form p.form (bytes_of (files p.form.file)) p.journal p.known p.read)
       ∙ ap (λ (n : ℕ). form_of (field 5 4 (bytes_of (files n))) n) file
       ∙ read_form q.form bytes q.journal q.known q.read in
-      let read : IsRead q.form bytes p.journal =
-      subst (λ (x : Form). IsRead x (bytes_of (files x.file)) p.journal) form p.read in
-      let one = read_once q.form bytes p.journal q.journal q.known read q.read in (
-        p.same ∙ file ∙ sym q.same,
-        some_is d e (sym p.first ∙ ap (λ (x : Form). journal_fault x p.journal) form
-            ∙ ap (journal_fault q.form) one ∙ q.first),
-      )
+      let one = read_once q.form bytes p.journal q.journal q.known (rw form at p.read) q.read in
+      (p.same ∙ file ∙ sym q.same, some_is d e (sym p.first ∙ rw (form, one) q.first))
 
   record_sizes : RecordFault files f d → SizeFault files g e → ⊥
-  record_sizes p q = no_record_fault files q.form q.log q.kept f d q.stands p
+  record_sizes p q = no_record_fault files q.form q.log q.kept q.stands f d p
 
   sizes : SizeFault files f d → SizeFault files g e → (f ≡ g) × (d ≡ e)
   sizes p q =
       let one : p.kept ≡ q.kept = same_saved files p.form q.form p.log q.log p.kept q.kept p.stands q.stands in
-      let first : IsFirstWrong files (history_blocks q.kept.history) p.block =
-      subst (λ (k : Saved). IsFirstWrong files (history_blocks k.history) p.block) one p.first in
+      let first = rw one at p.first in
       let block : p.block ≡ q.block = same_block p.block q.block (first.first q.block q.first.named q.first.wrong)
       (q.first.first p.block first.named first.wrong) in (
-        p.tells.0 ∙ ap (λ (b : BlockRef). b.id) block ∙ sym q.tells.0,
-        p.tells.1 ∙ ap (λ (b : BlockRef). record { at = 0; want = size_of b.len; have = file_size files b.id }) block
-            ∙ sym q.tells.1,
+        p.tells.0 ∙ rw block (sym q.tells.0),
+        p.tells.1 ∙ rw block (sym q.tells.1),
       )
 
 pub one_fault : HasOneFault

@@ -1,6 +1,6 @@
 -- The points of a history, one by one.
 use Rattle.editor_recovery.proofs.Common.{◌≡◌, ℕ, ◌+◌, ◌<◌, ◌≤◌, List, [], ◌∷◌, ◌++◌, length, map, drop, get_or, Some}
-use Rattle.editor_recovery.proofs.Common.{None, refl, sym, ap, subst, ◌∙◌, arith, ⊎_elim, length-map, none-some}
+use Rattle.editor_recovery.proofs.Common.{None, refl, sym, ap, subst, ◌∙◌, arith, length-map}
 use Rattle.editor_recovery.proofs.Common.{slice_get_within, slice_get-get_or, All-from_recursion, recursion_from_All}
 use Rattle.editor_recovery.proofs.Common.{All-get_or, All-contains, All, AllByRecursion, flat_map, slice_get, Contains}
 use Rattle.editor_recovery.proofs.Common.{all_parts, drop_some, some_is, BlockRef, IsBlock, Track, point_blocks}
@@ -8,7 +8,7 @@ use Rattle.editor_recovery.proofs.Common.{all_append, IsBlockRef, first_wrong}
 use Rattle.std.proofs.lemmas.Option.{slice_get-map}
 use Rattle.std.specs.{Option.option_map}
 use Rattle.pcm_base.specs.{History.point_of}
-use Rattle.editor_recovery.proofs.Wrong.{found_wrong, FoundOne, Found}
+use Rattle.editor_recovery.proofs.Wrong.{found_origin}
 
 -- the blocks of points
 abbrev pub all_blocks : List (List Track × ℕ) → List BlockRef
@@ -74,9 +74,7 @@ both_all P Q R (x ∷ xs) f p q = (f x p.0 q.0, both_all P Q R xs f p.1 q.1)
 -- the block that was found is one of them
 pub wrong_named : (sizes : ℕ → ℕ) (bs : List BlockRef) (b : BlockRef) → first_wrong sizes None bs ≡ Some b
     → Contains bs b
-wrong_named sizes bs b some =
-    let found : FoundOne sizes None bs b = subst (Found sizes None bs) some (found_wrong sizes None bs) in
-    ⊎_elim (λ o. absurd (none-some b o)) (λ n. n.0) found.origin
+wrong_named sizes bs b some = (found_origin sizes bs b some).0
 
 pub wrong_few : (sizes : ℕ → ℕ) (ps : List (List Track × ℕ)) (b : BlockRef)
     → All (λ p. All (λ b. IsBlock b.id b.len) (point_blocks p.0)) ps → first_wrong sizes None (all_blocks ps) ≡ Some b

@@ -40,7 +40,7 @@ searched_of sizes (Some a) b (inr up) = step (sizes b.id == size_of b.len)
   where
     step : (t : Bool) → (if t then Some a else Some (earlier (Some a) b)) ≡ Some a
     step true = refl
-    step false = ap (λ (t : Bool). Some (if t then a else b)) (up_to_is a b up)
+    step false = rw (up_to_is a b up)
 
 covers_more : (sizes : ℕ → ℕ) (found : Option BlockRef) (c b : BlockRef) → Covers found b
     → Covers (one_more sizes found c) b
@@ -100,17 +100,14 @@ pub clip_part : (Q : BlockRef → Type 0) (cs : List Clip) (i : ℕ) (c : Clip) 
     → AllByRecursion Q (layout_blocks cs) → AllByRecursion Q c.blocks
 clip_part Q [] i c here all = absurd cc
 clip_part Q (d ∷ ds) zero c here all =
-    let same : d ≡ c = cc in
-    subst (λ (x : Clip). AllByRecursion Q x.blocks) same (all_parts Q d.blocks (layout_blocks ds) all).0
+    let same : d ≡ c = cc in rw same at (all_parts Q d.blocks (layout_blocks ds) all).0
 clip_part Q (d ∷ ds) (suc i) c here all = clip_part Q ds i c here (all_parts Q d.blocks (layout_blocks ds) all).1
 
 pub track_part : (Q : BlockRef → Type 0) (ts : List Track) (i : ℕ) (t : Track) → slice_get ts i ≡ Some t
     → AllByRecursion Q (point_blocks ts) → AllByRecursion Q (layout_blocks t.layout)
 track_part Q [] i t here all = absurd cc
 track_part Q (u ∷ us) zero t here all =
-    let same : u ≡ t = cc in
-    subst (λ (x : Track). AllByRecursion Q (layout_blocks x.layout)) same
-    (all_parts Q (layout_blocks u.layout) (point_blocks us) all).0
+    let same : u ≡ t = cc in rw same at (all_parts Q (layout_blocks u.layout) (point_blocks us) all).0
 track_part Q (u ∷ us) (suc i) t here all =
     track_part Q us i t here (all_parts Q (layout_blocks u.layout) (point_blocks us) all).1
 
@@ -146,13 +143,12 @@ pub layout_searched : (sizes : ℕ → ℕ) (found : Option BlockRef) (before : 
 layout_searched sizes found [] t u agree searched among same = absurd among
 layout_searched sizes found (v ∷ vs) t u agree searched among same =
     let parts = all_parts (IsSearched sizes found) (layout_blocks v.layout) (point_blocks vs) searched in
-    ⊎_elim
-    (λ is.
-    let number : t.number ≡ v.number = sym same ∙ ap (λ (x : Track). x.number) (sym is) in
-    nothing_new sizes found (layout_blocks t.layout)
-    (subst (λ (cs : List Clip). AreSearched sizes found (layout_blocks cs)) (sym (agree.0 number)) parts.0))
-    (λ there. layout_searched sizes found vs t u agree.1 parts.1 there same)
-    among
+    elim among [
+      | inl is ↦
+          let number : t.number ≡ v.number = sym same ∙ ap (λ (x : Track). x.number) (sym is) in
+          nothing_new sizes found (layout_blocks t.layout) (rw (agree.0 number) parts.0)
+      | inr there ↦ layout_searched sizes found vs t u agree.1 parts.1 there same
+    ]
 
 -- ---- the point that was searched last
 
@@ -162,6 +158,4 @@ pub last_searched : (sizes : ℕ → ℕ) (found after : Option BlockRef) (ps : 
 last_searched sizes found after ps i ts here is k p on there =
     let same : k ≡ i = omega (arith, on) in
     let one : p ≡ ts = some_is p ts (sym there ∙ ap (λ (n : ℕ). slice_get ps n) same ∙ here) in
-    subst (λ (f : Option BlockRef). AreSearched sizes f (point_blocks p)) (sym is)
-    (subst (λ (q : List Track). AreSearched sizes (first_wrong sizes found (point_blocks ts)) (point_blocks q)) (sym one)
-    (searched_all sizes found (point_blocks ts)))
+    rw (is, one) (searched_all sizes found (point_blocks ts))

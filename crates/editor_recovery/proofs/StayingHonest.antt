@@ -1,11 +1,11 @@
 -- The calls of a studio leave an honest disk honest.
-use Rattle.editor_recovery.proofs.Common.{◌≡◌, ◌⊎◌, ◌∙◌, inl, inr, ⊎_elim, sym, ap, subst, refl, ℕ, ◌++◌, ◌≤◌, ◌<◌}
-use Rattle.editor_recovery.proofs.Common.{Bool, true, false, Option, Some, None, List, arith, leb-true, ltb-true}
-use Rattle.editor_recovery.proofs.Common.{All-contains, All-from_recursion, Contains, IsSome, IsTrue, if◌then◌else◌}
+use Rattle.editor_recovery.proofs.Common.{◌≡◌, ◌⊎◌, ◌∙◌, inl, inr, ⊎_elim, sym, ap, refl, ℕ, ◌++◌, ◌≤◌, ◌<◌}
+use Rattle.editor_recovery.proofs.Common.{Bool, true, false, Option, None, List, arith, leb-true, ltb-true}
+use Rattle.editor_recovery.proofs.Common.{All-contains, All-from_recursion, Contains, IsTrue, if◌then◌else◌}
 use Rattle.editor_recovery.proofs.Common.{nat_le, nat_lt, ◌&&◌, ◌||◌, COUNTER_LIMIT, FIRST_BLOCK, BlockRef, Files}
 use Rattle.editor_recovery.proofs.Common.{upto_refl, Ghosts, blocks, EachNow, each_has, history_blocks, all_parts}
 use Rattle.editor_recovery.proofs.Common.{history_blocks_alike, IsHeld, IsStudio, shown, studio_of, Core, NoForeign}
-use Rattle.editor_recovery.proofs.Common.{is_foreign, IsHonest, Names, HasNone, Stands}
+use Rattle.editor_recovery.proofs.Common.{is_foreign, IsHonest, Names, Stands}
 use Rattle.std.specs.Option.{option_and_then}
 use Rattle.sample_block.specs.Blocks.{block_in}
 use Rattle.project_journal.proofs.{Parses.form_known}
@@ -13,15 +13,13 @@ use Rattle.editor_state.specs.Studios.{IsDurable, clip_blocks, pin_blocks}
 use Rattle.editor_state.specs.{Core.form_at, Left.LeavesOthers, Left.MayRemove, Took.Exchange, Took.Took}
 use Rattle.editor_recovery.specs.{StayingHonest.IsHonestImage, StayingHonest.StaysHonest}
 use Rattle.editor_recovery.proofs.{Created.not_journal, Honest.same_saved}
-use Rattle.record_body.specs.Saved as saved
 
 -- ---- no foreign file comes
 
 of_two : (a b c : Bool) → ((a && b) || c) ≡ true → (b ≡ true) ⊎ (c ≡ true)
 of_two a b true e = inr refl
 of_two true true false e = inl refl
-of_two true false false e = absurd (cc e)
-of_two false b false e = absurd (cc e)
+of_two _ _ false e = absurd (cc e)
 
 -- no number of a block is foreign
 own : (file : ℕ) → FIRST_BLOCK ≤ file → file < COUNTER_LIMIT → IsTrue (is_foreign file) → ⊥
@@ -30,15 +28,11 @@ own file least most foreign = ⊎_elim
     (λ high. absurd (omega (arith, leb-true COUNTER_LIMIT file high, most)))
     (of_two (nat_le 2 file) (nat_lt file FIRST_BLOCK) (nat_le COUNTER_LIMIT file) foreign)
 
-none_there : (o : Option (List ℕ)) → o ≡ None → IsSome o → ⊥
-none_there None none some = absurd (cc some)
-none_there (Some bytes) none some = absurd (cc none)
-
 no_foreign : (first last : ℕ) (MayGo : ℕ → Type 0) (d c : Files) → 16 ≤ first → LeavesOthers first last MayGo d c
     → NoForeign d → NoForeign c
 no_foreign first last MayGo d c least step before file some foreign = ⊎_elim
-    (λ same. before file (subst (λ (o : Option (List ℕ)). IsSome o) same some) foreign)
-    (λ gone. none_there (c file) gone.1 some)
+    (λ same. before file (rw same at some) foreign)
+    (λ gone. absurd (cc (rw gone.1 at some)))
     (step.others file (not_journal file foreign)
     (λ begun. own file (omega (arith, least, begun.least)) begun.block foreign))
 
@@ -66,13 +60,11 @@ module _ {D : Type 0} (disk : Ghosts D) (s : Core D) (few : s.file ≤ 1) (durab
       let kept : names.kept ≡ durable.kept =
       same_saved c names.form (form_at s) names.log durable.log names.kept durable.kept names.stands stands in
       let blocks_are = ap history_blocks durable.history ∙ history_blocks_alike s.history in
-      let there : Contains (history_blocks s.history) names.block =
-      subst (λ (bs : List BlockRef). Contains bs names.block) blocks_are
-      (subst (λ (k : saved.Saved). Contains (history_blocks k.history) names.block) kept names.named) in
+      let there : Contains (history_blocks s.history) names.block = rw (kept, blocks_are) at names.named in
       let Same : BlockRef → Type 0 = λ b. c b.id ≡ disk.reads s.store b.id in
       let all = (all_parts Same (history_blocks s.history) (pin_blocks s.pins ++ clip_blocks s.clipboard)
       (durable.blocks c now)).0 in
-      subst (λ (n : ℕ). c n ≡ disk.reads s.store n) names.is (All-contains Same (history_blocks s.history) names.block
+      rw names.is at (All-contains Same (history_blocks s.history) names.block
       (All-from_recursion Same (history_blocks s.history) all) there)
 
 module _ {D : Type 0} (disk : Ghosts D) (old new : Core D) (exchange : Exchange)
@@ -91,7 +83,7 @@ module _ {D : Type 0} (disk : Ghosts D) (old new : Core D) (exchange : Exchange)
       let durable = (took.held held).durable still in
       let few = took.studio.journal.among in
       let keeps = took.now still held in record {
-        model = subst IsTrue (sym took.changed.model) honest.model;
+        model = rw took.changed.model honest.model;
         foreign = λ c now.
             no_foreign_since c (images.fewer (disk.clock old.store) (disk.clock new.store) c images.later
             (upto_refl (disk.clock new.store)) now);
@@ -103,7 +95,7 @@ module _ {D : Type 0} (disk : Ghosts D) (old new : Core D) (exchange : Exchange)
   pub stays_honest : StaysHonest disk old new
   stays_honest = record {
     going = goes_on;
-    rested = λ some. subst (λ (z : D). IsHonest disk z) (sym (ap (λ (z : Core D). z.store) (took.rests some))) honest;
+    rested = λ some. rw (took.rests some) honest;
     any_moment = λ going c since. record {
       foreign = no_foreign_since c since;
       whole = inr (⊎_elim
@@ -119,8 +111,7 @@ pub alone_honest : {D : Type 0} (disk : Ghosts D) (store : D) (files : Files) �
     → EachNow disk store (λ c. c ≡ files) → IsHonest disk store
 alone_honest disk store files image model alone = record {
   model = model;
-  foreign = λ c now. subst NoForeign (sym (alone c now)) image.foreign;
-  whole = λ c now. subst (λ (f : Files). HasNone f ⊎ ((found : saved.Opened) × saved.Keeps f found))
-      (sym (alone c now)) image.whole;
+  foreign = λ c now. rw (alone c now) image.foreign;
+  whole = λ c now. rw (alone c now) image.whole;
   same = λ c nc d nd id p q. ap (λ (f : Files). blocks f id) (alone c nc ∙ sym (alone d nd));
 }

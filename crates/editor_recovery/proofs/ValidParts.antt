@@ -1,10 +1,9 @@
 -- The parts of a valid project are valid.
-use Rattle.editor_recovery.proofs.Common.{◌≡◌, ℕ, ◌≤◌, List, Result, Ok, Err, sym, ap, subst, ◌∙◌, arith}
-use Rattle.editor_recovery.proofs.Common.{recursion_from_All, IfOk, find, All, AllByRecursion, count_of, history_blocks}
-use Rattle.editor_recovery.proofs.Common.{Track, HaveOneLength, is_foreign, Folded, OpenFault, ArePartsOf}
-use Rattle.editor_recovery.proofs.Common.{IsValidFolded, History, IsValidTagged, Parts}
+use Rattle.editor_recovery.proofs.Common.{◌≡◌, ℕ, ◌≤◌, List, Result, Ok, Err, sym, ap, ◌∙◌, arith}
+use Rattle.editor_recovery.proofs.Common.{recursion_from_All, IfOk, find, All, count_of}
+use Rattle.editor_recovery.proofs.Common.{history_blocks, Track, HaveOneLength, is_foreign, Folded, OpenFault}
+use Rattle.editor_recovery.proofs.Common.{ArePartsOf, IsValidFolded, History, IsValidTagged, Parts, None}
 use Rattle.std.proofs.lemmas.List.Elements.{All-weaker}
-use Rattle.std.specs.{Prelude.None}
 use Rattle.editor_recovery.specs.{Bounds.IsValidParts}
 use Rattle.editor_recovery.proofs.{Ledgers.given, Plain.valid_back}
 use Rattle.project_journal.specs.Header.{IsFormat}
@@ -25,15 +24,14 @@ format_of rate rate' size size' depth depth' p q r f = record {
 tagged_at : (m m' block block' track track' commit commit' : ℕ) (p : List Track × ℕ) → m' ≡ m → block ≤ block' → track'
     ≡ track → commit' ≡ commit → IsValidTagged m block track commit p → IsValidTagged m' block' track' commit' p
 tagged_at m m' block block' track track' commit commit' p size le same_track same_commit s =
-    subst (λ (n : ℕ). IsValidTagged n block' track' commit' p) (sym size) (tagged_more m block track commit block'
-    track' commit' p le (omega (arith, same_track)) (omega (arith, same_commit)) s)
+    rw size (tagged_more m block track commit block' track' commit' p le (omega (arith, same_track))
+    (omega (arith, same_commit)) s)
 
 -- their layouts have the numbers that were drawn
 pub parts_numbered : (files : List ℕ) (f : Folded) (p : Parts) → IsValidFolded f → ArePartsOf files f p
     → IsNumbered p.history.history p.next_layout
 parts_numbered files f p is are =
-    subst (λ (n : ℕ). IsNumbered p.history.history n) (sym are.next_layout)
-    (subst (λ (h : History (List Track)). IsNumbered h f.project.numbered.next) (sym are.history) is.numbers)
+    rw (are.next_layout, are.history) is.numbers
 
 valid_parts : (files : List ℕ) (f : Folded) (p : Parts) → IsValidFolded f → find is_foreign files ≡ None
     → HaveOneLength (history_blocks f.project.numbered.history.history)
@@ -74,15 +72,14 @@ valid_parts files f p is known one are =
           generation_most = omega (arith, are.generation, is.journal.generation_most);
           first_version = λ first. are.generation ∙ is.journal.first_version (sym are.version ∙ first);
         };
-        points = subst (λ (z : History (List Track)). AllByRecursion Q z.points) (sym are.history)
-            (recursion_from_All Q h.points all);
+        points = rw are.history (recursion_from_All Q h.points all);
         layouts = omega (arith, are.next_layout, are.end, is.layouts);
         numbered = numbers.numbered;
         drawn = numbers.drawn;
         counted = are.counted;
         given = given files (count_of p.tally.ledger) project.next_block p.next_block are.ledger known are.next_block;
       };
-      one_length = subst HaveOneLength (sym (ap history_blocks are.history)) one;
+      one_length = rw are.history one;
     }
 
 pub valid_result : (files : List ℕ) (f : Folded) (r : Result Parts OpenFault) → IsValidFolded f

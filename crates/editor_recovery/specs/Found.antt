@@ -64,7 +64,7 @@ abbrev pub answer_in : Result Parts OpenFault → Result Found OpenFault
 answer_in (Ok p) = Ok (found_in p)
 answer_in (Err e) = Err e
 
--- a studio of which nothing was asked yet: nothing was copied, there are no pins, and it is not stopped
+-- a new studio: nothing was copied, there are no pins, and it is not stopped
 pub record IsNew {D : Type 0} (s : Core D) : Type 0 where
   pub clipboard : s.clipboard ≡ None
   pub pins : s.pins ≡ []

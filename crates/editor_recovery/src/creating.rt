@@ -117,8 +117,8 @@ fn make<S: Store>(store: &mut S, rate: u32, block_size: u32, depth: u32) -> Resu
     }
 }
 
-/// Makes a project without commits, where none is there. The rate is frames a second, from 1. A largest block is so
-/// many samples, even, from 4 to 262,144. The depth is how many points a history keeps, 1 to 65,536.
+/// Makes a project without commits, where none is there. The rate is frames a second, from 1. The largest blocks have
+/// `block_size` samples, an even number from 4 to 262,144. The depth is how many points a history keeps, 1 to 65,536.
 ///
 /// # Errors
 ///
@@ -153,7 +153,7 @@ pub fn create<S: Store>(
     ensures durable { OnOk result (IsDurable S.Store store.new 0) }
     ensures cause { Causes S.Store store.old store.new result }
     ensures left { LeavesRefused S.Store store.old store.new result }
-    // Nothing else changes, and no more than this is asked of the store.
+    // Nothing else changes, and the store has no more to do than this.
     ensures changed { Changed S.Store (SameElsewhere 0) (create_room (S.reads store.old 0)) store.old store.new }
 {
     match may_create(alloc, store) {

@@ -73,8 +73,7 @@ fn make_studio<S: Store>(alloc: Global, store: S, parts: Parts) -> Result<Studio
 /// NoMemory may come in place of each.
 pub fn open_store<S: Store>(alloc: Global, store: S) -> Result<Studio<S>, (OpenFault, S)>
     ensures opens { IsTrue (S.tells store) → Opens (S.reads store) (answer_of result) }
-    // Whatever the store tells, it is a studio of which nothing was asked yet, each block has one length, and files 0
-    // and 1 are on the disk.
+    // Whatever the store tells, it is a new studio, each block has one length, and files 0 and 1 are on the disk.
     ensures studio { IfOk result (λ s. IsStudio S.Store (core_of s)) }
     ensures fresh { IfOk result (λ s. IsNew (core_of s)) }
     ensures one_length { IfOk result (λ s. HaveOneLength (history_blocks (core_of s).history)) }
@@ -93,7 +92,7 @@ pub fn open_store<S: Store>(alloc: Global, store: S) -> Result<Studio<S>, (OpenF
         → IfOk result (λ s. EachNow S.Store (core_of s).store (λ c. Keeps c (shown (studio_of S.Store (core_of s))))) }
     ensures stays_honest { IsHonest S.Store store → IsHonest S.Store (store_of result) }
     ensures cause { Causes S.Store store (store_of result) (answer_of result) }
-    // Nothing changes: each image at any moment is one that the store could already leave. Two syncs are asked of it.
+    // Nothing changes: each image at any moment is one that the store could already leave. It makes two syncs.
     ensures reads { S.reads (store_of result) ≡ S.reads store }
     ensures changed { Changed S.Store StaysStep (record { files = 0; bytes = 0; calls = 2 }) store (store_of result) }
 {

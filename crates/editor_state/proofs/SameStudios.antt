@@ -1,7 +1,7 @@
 -- A studio over another store, with other pages and counts, going on or stopped: all else that holds of it stays.
-use Rattle.editor_state.proofs.Common.{ℕ, ◌<◌, ◌≤◌, ◌↔◌, IsSome, List, Option, arith, rules, COUNTER_LIMIT, Ghosts}
-use Rattle.editor_state.proofs.Common.{Counts, AllPass, Entries, AreCounts, Item, EachNow, Core, form_at, Pin}
-use Rattle.editor_state.proofs.Common.{IsDurable, IsGiven, IsStudio, SameBlocks, clip_blocks, is_given, named_blocks}
+use Rattle.editor_state.proofs.Common.{ℕ, ◌<◌, ◌≤◌, ◌↔◌, IsSome, List, Option, rules, COUNTER_LIMIT, Ghosts, Counts}
+use Rattle.editor_state.proofs.Common.{AllPass, Entries, AreCounts, Item, EachNow, Core, form_at, Pin, IsDurable}
+use Rattle.editor_state.proofs.Common.{IsGiven, IsStudio, SameBlocks, clip_blocks, is_given, named_blocks}
 use Rattle.editor_state.proofs.Common.{studio_tracks}
 use Rattle.pcm_base.specs.declared.limits.TheConstants.{FIRST_BLOCK}
 use Rattle.project_journal.specs.{Journal.IsAt}
@@ -40,20 +40,4 @@ pub durable_so : {D : Type 0} (disk : Ghosts D) (s : Core D) (store : D) (cache 
     (SameBlocks (named_blocks (over_store s store cache stopped next clip pins next_pin uses counts)) (disk.reads store))
     → ((id : ℕ) → FIRST_BLOCK ≤ id → id < COUNTER_LIMIT → IsSome (counts id) ↔ IsSome (disk.reads store id))
     → IsDurable disk (over_store s store cache stopped next clip pins next_pin uses counts)
-durable_so disk s store cache stopped next clip pins next_pin uses counts d there later blocks files = record {
-  log = d.log;
-  base = d.base;
-  kept = d.kept;
-  there = there;
-  generation = d.generation;
-  begins = d.begins;
-  told = d.told;
-  rate = d.rate;
-  block_size = d.block_size;
-  history = d.history;
-  next_block = omega (arith, d.next_block, later);
-  next_track = d.next_track;
-  commit = d.commit;
-  blocks = blocks;
-  files = files;
-}
+durable_so disk s store cache stopped next clip pins next_pin uses counts d there later blocks files = search rules

@@ -45,7 +45,7 @@ asks exchange journal m blocks len packed = record {
   calls = 16 + 2 * blocks + 2 * length exchange.removed;
 }
 
--- One call: a step of the model, the images at each moment, and what is asked of the disk.
+-- One call: a step of the model, the images at each moment, and what the disk has to do.
 pub record Took {D : Type 0} (disk : Ghosts D) (old : Core D) (exchange : Exchange) (new : Core D) : Type 0 where
   -- it is a studio still, and the disk that held it holds it still
   pub studio : IsStudio disk new

@@ -6,8 +6,8 @@ use Rattle.editor_tracks.proofs.Common.{Given, tracks_from, longest, BlockRef, r
 use Rattle.editor_tracks.proofs.Common.{strip_cells, strip_len, strip_blocks, AreItems, Clip, Item, layout_blocks}
 use Rattle.editor_tracks.proofs.Common.{length-layout, longest_of, AreCopies, AreClips, Track, meant, point_blocks}
 use Rattle.editor_tracks.proofs.Common.{AreAbove, track_of, AllValidTracks, all_append, run_of, strips_blocks, all_left}
-use Rattle.editor_tracks.proofs.Common.{all_right}
-use Rattle.std.proofs.Common.{max, flat_map}
+use Rattle.editor_tracks.proofs.Common.{all_right, rules}
+use Rattle.std.proofs.Common.{flat_map}
 use Rattle.clip_track.specs.Items.{item_blocks}
 use Rattle.edit_ops.specs.{Strips.ItemsFrom}
 use Rattle.pcm_base.specs.Cells as cells
@@ -40,14 +40,12 @@ layout_of t = t.layout
 pub run_meant : (src : Sources) (id : ℕ) (ts : List Track)
     → tracks_from id (meant src ts) ≡ meant src (from_track id ts)
 run_meant src id [] = refl
-run_meant src id (t ∷ ts) =
-    ⊎_elim (λ same. rw (same.0) refl) (λ other. rw (other.0) (run_meant src id ts)) (eqb_tells t.id id)
+run_meant src id (t ∷ ts) = search (rules, eqb_tells, run_meant src id ts)
 
 all_above : (id n : ℕ) (ts : List Track) → AreAbove n ts → id ≤ n → run_of id ts ≡ map layout_of ts
 all_above id n [] above le = refl
 all_above id n (t ∷ ts) above le =
-    rw (le-leb id t.id (omega (arith, le, above.0)))
-    (ap (λ (z : List (List Clip)). t.layout ∷ z) (all_above id (t.id + 1) ts above.1 (omega (arith, le, above.0))))
+    search (rules, le-leb, all_above id (t.id + 1) ts above.1 (omega (arith, le, above.0)))
 
 pub found_above : (id n : ℕ) (ts : List Track) (x : Track) → AreAbove n ts → track_of id ts ≡ Some x → n ≤ id
 found_above id n [] x above found = absurd (none-some x found)
@@ -79,8 +77,7 @@ from_valid m next_block next_track id (t ∷ ts) all = ⊎_elim (λ same. rw (sa
 
 pub from_few : (id : ℕ) (ts : List Track) → length (from_track id ts) ≤ length ts
 from_few id [] = omega arith
-from_few id (t ∷ ts) = ⊎_elim (λ same. rw (same.0) (omega arith))
-    (λ other. rw (other.0) (omega (arith, from_few id ts))) (eqb_tells t.id id)
+from_few id (t ∷ ts) = search (rules, eqb_tells, from_few id ts)
 
 pub from_blocks : (P : BlockRef → Type 0) (id : ℕ) (ts : List Track) → AllByRecursion P (point_blocks ts)
     → AllByRecursion P (point_blocks (from_track id ts))
@@ -95,10 +92,7 @@ module _ (m next_block next_track : ℕ) where
       → longest (take n (meant src ts)) ≡ longest_of (take n (map layout_of ts))
   longest_is src zero ts all = refl
   longest_is src (suc n) [] all = refl
-  longest_is src (suc n) (t ∷ ts) all =
-      let here = length-layout src t.layout all.0.layout.apart in
-      let later = longest_is src n ts all.1 in
-      λ i. max (here i) (later i)
+  longest_is src (suc n) (t ∷ ts) all = search (rules, length-layout, longest_is src n ts all.1)
 
   pub longest_most : (n : ℕ) (ts : List Track) → AllValidTracks m next_block next_track ts
       → longest_of (take n (map layout_of ts)) ≤ 2 ^ 32
@@ -127,9 +121,7 @@ copies_mean src from to (suc n) [] [] all = refl
 copies_mean src from to (suc n) [] (s ∷ ss) all = absurd all
 copies_mean src from to (suc n) (t ∷ ts) [] all = absurd all
 copies_mean src from to (suc n) (t ∷ ts) (s ∷ ss) all =
-    let here = all.0.cells src in
-    let later = copies_mean src from to n ts ss all.1 in
-    λ i. here i ∷ later i
+    search (rules, all.0.cells, copies_mean src from to n ts ss all.1)
 
 pub copies_few : (from to n : ℕ) (ts : List Track) (v : List (List Item))
     → AreCopies from to (take n (map layout_of ts)) v → length v ≤ length ts
@@ -147,8 +139,7 @@ copies_short from to zero ts (s ∷ ss) most all = absurd all
 copies_short from to (suc n) [] [] most all = tt
 copies_short from to (suc n) [] (s ∷ ss) most all = absurd all
 copies_short from to (suc n) (t ∷ ts) [] most all = absurd all
-copies_short from to (suc n) (t ∷ ts) (s ∷ ss) most all =
-    (omega (arith, all.0.len, most), copies_short from to n ts ss most all.1)
+copies_short from to (suc n) (t ∷ ts) (s ∷ ss) most all = search (rules, copies_short from to n ts ss most all.1)
 
 all_at : (P : BlockRef → Type 0) (bs : List BlockRef) (b : BlockRef) → AllByRecursion P bs → (k : ℕ) → k < length bs
     → get_or bs k b ≡ b → P b
@@ -160,10 +151,8 @@ origin_all : (P : BlockRef → Type 0) (bs : List BlockRef) (xs : List Item) →
     → AllByRecursion P (strip_blocks xs)
 origin_all P bs [] all from = tt
 origin_all P bs (Gap n ∷ xs) all from = origin_all P bs xs all from.1
-origin_all P bs (Sound (Old b lo hi) ∷ xs) all from =
-    (all_at P bs b all from.0.0 from.0.1 from.0.2, origin_all P bs xs all from.1)
-origin_all P bs (Sound (Scaled b lo hi gain) ∷ xs) all from =
-    (all_at P bs b all from.0.0 from.0.1 from.0.2, origin_all P bs xs all from.1)
+origin_all P bs (Sound (Old b lo hi) ∷ xs) all from = search (rules, all_at, origin_all P bs xs all from.1)
+origin_all P bs (Sound (Scaled b lo hi gain) ∷ xs) all from = search (rules, all_at, origin_all P bs xs all from.1)
 origin_all P bs (Sound (Zero len) ∷ xs) all from = origin_all P bs xs all from.1
 origin_all P bs (Sound (Given lo hi) ∷ xs) all from = origin_all P bs xs all from.1
 
@@ -175,6 +164,12 @@ copies_all P from to (suc n) [] [] all has = tt
 copies_all P from to (suc n) [] (s ∷ ss) all has = absurd all
 copies_all P from to (suc n) (t ∷ ts) [] all has = absurd all
 copies_all P from to (suc n) (t ∷ ts) (s ∷ ss) all has =
-    all_append P (strip_blocks s) (strips_blocks ss)
-    (origin_all P (layout_blocks t.layout) s (all_left P (layout_blocks t.layout) (point_blocks ts) has) all.0.origin)
-    (copies_all P from to n ts ss all.1 (all_right P (layout_blocks t.layout) (point_blocks ts) has))
+    search (
+      rules,
+      all_append,
+      origin_all,
+      all_left,
+      all_right,
+      copies_all P from to n ts ss all.1 (all_right P
+          (layout_blocks t.layout) (point_blocks ts) has),
+    )

@@ -3,15 +3,13 @@ use Rattle.editor_tracks.proofs.Common.{◌≡◌, refl, sym, ap, ◌∙◌, sub
 use Rattle.editor_tracks.proofs.Common.{Option, Some, None, List, [], ◌∷◌, length, length-append, map, take, replicate}
 use Rattle.editor_tracks.proofs.Common.{Contains, arith, length-map, none-some, AllByRecursion, ◌otherwise◌, bad_range}
 use Rattle.editor_tracks.proofs.Common.{is_empty, refused_if, too_narrow, BlockRef, Refusal, Cell, Project, longest}
-use Rattle.editor_tracks.proofs.Common.{tracks_from, Sources, Ghosts, AreItems, strip_blocks, strip_len, Clip, Item}
+use Rattle.editor_tracks.proofs.Common.{tracks_from, Sources, Ghosts, AreItems, strip_len, Clip, Item}
 use Rattle.editor_tracks.proofs.Common.{layout_blocks, AreCuts, copy_tests, longest_of, start_behind, Plan, Start}
 use Rattle.editor_tracks.proofs.Common.{IsUndamaged, meant, meant_track, point_blocks, Track, AreAbove, track_of}
 use Rattle.editor_tracks.proofs.Common.{current_tracks, AllValidTracks, run_of, strips_blocks, RunRange, NoCutPlan}
 use Rattle.editor_tracks.proofs.Common.{Core, AreAmong, lacks, IsStudio, current_valid, lacks_is, all_left, all_right}
 use Rattle.editor_tracks.proofs.Common.{TellsNone, either_tells, lacks_tells, tests_tell}
-use Rattle.std.proofs.{lemmas.Bool.ltb-false}
 use Rattle.edit_ops.specs.Runs.{AllTracksHalfFull}
-use Rattle.model_laws.proofs.OwnTests.{both_passed, not_refused}
 use Rattle.editor_tracks.proofs.CopyStrips.{from_valid, from_track, items_few, layout_of, longest_is, run_is, run_meant}
 use Rattle.editor_tracks.proofs.RunPlans.{AreLaid, CellEdit, edits_at, plan_more}
 use Rattle.editor_state.proofs.Refusals.DamageTests.{range_tells}
@@ -44,11 +42,6 @@ cuts_few edit start (suc n) [] (p ∷ ps) cuts = absurd cuts
 cuts_few edit start (suc n) (t ∷ ts) [] cuts = absurd cuts
 cuts_few edit start (suc n) (t ∷ ts) (p ∷ ps) cuts =
     omega (arith, cuts_few edit (start_behind start p) n ts ps cuts.1)
-
--- a run has the tracks that are needed
-pub wide : (have need : ℕ) (rest : Option Refusal) → (too_narrow have need) otherwise rest ≡ None → need ≤ have
-wide have need rest passed = ltb-false have need
-    (not_refused (nat_lt have need) (refusal.TooNarrow have need) (both_passed (too_narrow have need) rest passed).0)
 
 -- the same edit of each of this many tracks
 abbrev pub each_so : ℕ → (List Cell → List Cell) → List CellEdit
@@ -83,14 +76,7 @@ pub strips_short : (v : List (List Item)) → AllByRecursion AreItems v
     → AllByRecursion (λ strip. strip_len strip ≤ 2 ^ 32) v
     → length (strips_blocks v) ≤ length v * 2 ^ 32
 strips_short [] items short = omega arith
-strips_short (x ∷ xs) items short =
-    omega (
-      arith,
-      length-append (strip_blocks x) (strips_blocks xs),
-      items_few x items.0,
-      short.0,
-      strips_short xs items.1 short.1,
-    )
+strips_short (x ∷ xs) items short = search (rules, length-append, items_few, strips_short xs items.1 short.1)
 
 -- ---- what refuses it
 

@@ -14,7 +14,8 @@ use Rattle.editor_tracks.proofs.Common.{refs}
 use Rattle.std.proofs.lemmas.List.{length-replicate}
 use Rattle.editor_tracks.specs.{Cuts.IsCutPlan}
 use Rattle.editor_tracks.proofs.CopyStrips.{copies_mean, from_blocks, from_track, layout_of, run_is, run_meant}
-use Rattle.editor_tracks.proofs.CutLaws.{cuts_laid, each_so, same_edits, strips_short, there_of, wide}
+use Rattle.editor_tracks.proofs.CutLaws.{cuts_laid, each_so, same_edits, strips_short, there_of}
+use Rattle.edit_ops.proofs.RunLists.{wide_enough}
 use Rattle.editor_tracks.proofs.CutRefusals.{after_by, cut_call, draws_by, own_is}
 use Rattle.editor_tracks.proofs.{CopySteps.may_paste, CopySteps.strips_named, RunLaws.run_few, RunLaws.run_planned}
 use Rattle.editor_tracks.proofs.{RunLaws.run_point, RunPlans.AreLaid, RunPlans.CellEdit, RunPlans.laid_many}
@@ -98,7 +99,7 @@ module _ {D : Type 0} (disk : Ghosts D) (s : Core D) (is : IsStudio disk s) (e :
 
     -- a layout for each track
     draws : n ≡ planned.layouts
-    draws = search (rules, wide, tests, layouts, length-map, layout_of, length-replicate, laid_many, each_so, laid)
+    draws = search (rules, wide_enough, tests, layouts, length-map, layout_of, length-replicate, laid_many, each_so, laid)
 
     few_made : length makes ≤ blocks_of_tracks n
     few_made =

@@ -1,5 +1,5 @@
 -- The strips of the clipboard that are put into a run, as an edit that makes blocks.
-use Rattle.editor_tracks.proofs.Common.{◌≡◌, refl, sym, ap, ◌∙◌, subst, ℕ, zero, suc, ◌^◌, ◌≤◌, ◌<◌, nat_lt, Bool, true}
+use Rattle.editor_tracks.proofs.Common.{◌≡◌, refl, sym, subst, ℕ, zero, suc, ◌^◌, ◌≤◌, ◌<◌, nat_lt, Bool, true}
 use Rattle.editor_tracks.proofs.Common.{rules, false, Option, Some, None, List, [], ◌∷◌, ◌++◌, length, map, take}
 use Rattle.editor_tracks.proofs.Common.{Contains, arith, length-map, unwrap_or, AllByRecursion, Old, Scaled, Zero}
 use Rattle.editor_tracks.proofs.Common.{Given, is_empty, length_limit, refused_if, ◌otherwise◌, too_narrow, BlockRef}
@@ -90,8 +90,7 @@ pastes_laid edit start xs (c ∷ cs) (t ∷ ts) (p ∷ ps) old clip pastes =
 pub same_edits : (src : Sources) (edit : List Cell → List Cell → List Cell) (cs : List (List Item))
     → edits_at src (each_strip edit cs) ≡ map edit (map (strip_cells src) cs)
 same_edits src edit [] = refl
-same_edits src edit (c ∷ cs) =
-    ap (λ (z : List (List Cell → List Cell)). edit (strip_cells src c) ∷ z) (same_edits src edit cs)
+same_edits src edit (c ∷ cs) = search (rules, same_edits src edit cs)
 
 -- ---- its blocks may be read
 
@@ -100,24 +99,8 @@ module _ (m next : ℕ) (size : m ≤ 262144) (most : next ≤ 2 ^ 62) where
       → AllByRecursion (λ (b : BlockRef). IsGiven next b.id) (strip_blocks xs) → AllNamed (strip_blocks xs)
   strip_named [] items fit ids = tt
   strip_named (Gap n ∷ xs) items fit ids = strip_named xs items.1 fit.1 ids
-  strip_named (Sound (Old b from to) ∷ xs) items fit ids = (
-    record {
-      id_low = ids.0.0;
-      id_high = omega (arith, ids.0.1, most);
-      some = omega (arith, items.0.1.2);
-      few = omega (arith, fit.0, size);
-    },
-    strip_named xs items.1 fit.1 ids.1,
-  )
-  strip_named (Sound (Scaled b from to gain) ∷ xs) items fit ids = (
-    record {
-      id_low = ids.0.0;
-      id_high = omega (arith, ids.0.1, most);
-      some = omega (arith, items.0.1.2);
-      few = omega (arith, fit.0, size);
-    },
-    strip_named xs items.1 fit.1 ids.1,
-  )
+  strip_named (Sound (Old b from to) ∷ xs) items fit ids = search (rules, strip_named xs items.1 fit.1 ids.1)
+  strip_named (Sound (Scaled b from to gain) ∷ xs) items fit ids = search (rules, strip_named xs items.1 fit.1 ids.1)
   strip_named (Sound (Zero len) ∷ xs) items fit ids = strip_named xs items.1 fit.1 ids
   strip_named (Sound (Given from to) ∷ xs) items fit ids = strip_named xs items.1 fit.1 ids
 
@@ -159,10 +142,7 @@ lengths_are src f m next track [] [] valid = refl
 lengths_are src f m next track [] (t ∷ ts) valid = refl
 lengths_are src f m next track (c ∷ cs) [] valid = refl
 lengths_are src f m next track (c ∷ cs) (t ∷ ts) valid =
-    let strip = length-strip_cells src c in
-    let cells = length-layout src t.layout valid.0.layout.apart in
-    let later = lengths_are src f m next track cs ts valid.1 in
-    λ i. f (strip i) (cells i) ∷ later i
+    search (rules, length-strip_cells, length-layout, lengths_are src f m next track cs ts valid.1)
 
 -- the own tests of both lines
 abbrev pub line_tests : (f : ℕ → ℕ → ℕ) (id : ℕ) → Option (List (List Cell)) → List (List Cell) → Project

@@ -1,20 +1,21 @@
 -- A planned paste is an edit, and a step.
-use Rattle.editor_tracks.proofs.Common.{◌≡◌, refl, sym, ap, ◌∙◌, subst, ℕ, ◌+◌, ◌≤◌, ℤ, Option, Some, None, List, []}
+use Rattle.editor_tracks.proofs.Common.{◌≡◌, sym, ap, ◌∙◌, subst, ℕ, ◌+◌, ◌≤◌, ℤ, Option, Some, None, List, []}
 use Rattle.editor_tracks.proofs.Common.{◌++◌, rules, length, map, take, Contains, arith, length-map, unwrap_or}
 use Rattle.editor_tracks.proofs.Common.{AllByRecursion, BlockRef, Call, Line, Cell, run_edited, edited, recorded}
 use Rattle.editor_tracks.proofs.Common.{Sources, outside, blocks_of_tracks, clip_of, current, after, Placing, placed}
-use Rattle.editor_tracks.proofs.Common.{placed_length, paste_line, Ghosts, AllNamed, IsNamed, Clip, Item, strip_cells}
-use Rattle.editor_tracks.proofs.Common.{AreWritten, ArePastes, clipboard_tests, Nothing, brought, brought_by}
-use Rattle.editor_tracks.proofs.Common.{history_blocks, meant, meant_history, point_blocks, Track, track_of}
+use Rattle.editor_tracks.proofs.Common.{paste_line, Ghosts, AllNamed, IsNamed, Clip, Item, strip_cells}
+use Rattle.editor_tracks.proofs.Common.{AreWritten, ArePastes, Nothing, brought, brought_by}
+use Rattle.editor_tracks.proofs.Common.{meant, meant_history, point_blocks, Track, track_of}
 use Rattle.editor_tracks.proofs.Common.{current_tracks, IsValidPoint, all_append, meant_recorded, HasNumbers, AreAmong}
 use Rattle.editor_tracks.proofs.Common.{IsEdit, IsEditCall, IsPlanned, alone, blocks_with, clip_behind, clip_then}
 use Rattle.editor_tracks.proofs.Common.{tagged_by, IsClipboard, IsGiven, IsStudio, MayPaste, clip_blocks, clip_cells}
-use Rattle.editor_tracks.proofs.Common.{named_blocks, pin_blocks, studio_by, Planned, Core, silent, run_of}
+use Rattle.editor_tracks.proofs.Common.{named_blocks, studio_by, Planned, Core, silent, run_of}
 use Rattle.editor_tracks.proofs.Common.{strips_blocks, plan_start, among_itself, all_left, all_right, current_valid}
 use Rattle.editor_tracks.proofs.Common.{old_names, current_may_read, current_is, refs}
 use Rattle.editor_tracks.specs.{Pastes.IsPastePlan}
 use Rattle.editor_tracks.proofs.CopyStrips.{from_blocks, from_track, layout_of, run_is}
-use Rattle.editor_tracks.proofs.CutLaws.{there_of, wide}
+use Rattle.editor_tracks.proofs.CutLaws.{there_of}
+use Rattle.edit_ops.proofs.RunLists.{wide_enough}
 use Rattle.editor_tracks.proofs.RunLaws.{run_few, run_planned, run_point}
 use Rattle.editor_tracks.proofs.RunPlans.{AreLaid, CellEdit, edits_at, laid_many}
 use Rattle.editor_tracks.proofs.PasteLaws.{each_strip, pastes_laid, same_edits, strips_may_read}
@@ -56,20 +57,17 @@ module _ {D : Type 0} (disk : Ghosts D) (s : Core D) (is : IsStudio disk s) (e :
     every = blocks_with s makes
 
     found : (x : Track) × (track_of id old ≡ Some x)
-    found =
-        there_of id old (clipboard_tests (placed_length e at) s.clipboard (run_of id old)) (track_of id old) refl p.tests
+    found = search (rules, there_of)
 
     layouts : run_of id old ≡ map layout_of ran
     layouts = run_is id 1 old found.0 old_valid.rising found.1
 
     -- what holds of the blocks that the studio names holds of those of the clipboard
     clip_all : (P : BlockRef → Type 0) → AllByRecursion P (named_blocks s) → AllByRecursion P (clip_blocks s.clipboard)
-    clip_all P all = all_right P (pin_blocks s.pins) (clip_blocks s.clipboard)
-        (all_right P (history_blocks s.history) (pin_blocks s.pins ++ clip_blocks s.clipboard) all)
+    clip_all P all = search (rules, all_right)
 
     strips_all : (P : BlockRef → Type 0) → AllByRecursion P (named_blocks s) → AllByRecursion P (strips_blocks v)
-    strips_all P all =
-        subst (λ (z : Option (List (List Item))). AllByRecursion P (clip_blocks z)) p.clip_is (clip_all P all)
+    strips_all P all = search (rules, clip_all)
 
     xs_named : AreAmong (named_blocks s) xs
     xs_named = search (rules, among_itself, all_append, old_names, strips_all)
@@ -116,7 +114,7 @@ module _ {D : Type 0} (disk : Ghosts D) (s : Core D) (is : IsStudio disk s) (e :
 
       -- a layout for each track
       draws : length (clip_of u.state) ≡ planned.layouts
-      draws = search (rules, wide, layouts, length-map, layout_of, lists, laid_many, laid)
+      draws = search (rules, wide_enough, layouts, length-map, layout_of, lists, laid_many, laid)
 
       few_made : length makes ≤ blocks_of_tracks (length (clip_of u.state))
       few_made =

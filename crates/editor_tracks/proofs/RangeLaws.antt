@@ -1,9 +1,8 @@
 -- Edits of a range of one track: the cells that they meet, and the lines that ask for them.
-use Rattle.editor_tracks.proofs.Common.{◌≡◌, ◌∙◌, ap, ℕ, ◌≤◌, nat_lt, nat_le, ◌&&◌, not, Bool, rules, true, false, None}
-use Rattle.editor_tracks.proofs.Common.{List, ◌++◌, length, append-nil, Line, Cell, cells_at, current, range_of}
+use Rattle.editor_tracks.proofs.Common.{◌≡◌, ℕ, ◌≤◌, nat_lt, nat_le, ◌&&◌, not, Bool, rules, true, false, None}
+use Rattle.editor_tracks.proofs.Common.{List, length, append-nil, Line, Cell, cells_at, current, range_of}
 use Rattle.editor_tracks.proofs.Common.{Sources, bad_range, refused_if, Clip, IsLayout, end_of, layout_cells}
 use Rattle.editor_tracks.proofs.Common.{length-layout, Nothing, IsEditCall, silent, IsTrackCall, track_command}
-use Rattle.std.proofs.Common.{◌-◌}
 use Rattle.std.proofs.{lemmas.Bool.cases_lt, lemmas.Bool.Decides.nat_tests}
 use Rattle.pcm_base.specs.declared.edits.RangeEdit.TheVariants.{Delete}
 use Rattle.pcm_base.specs.{declared.refusal.Refusal.TheVariants.BadRange, Cells.continued, Edits.part}

@@ -81,8 +81,7 @@ module _ {D : Type 0} (disk : Ghosts D) (s : Core D) (is : IsStudio disk s) (id 
       search (rules, fresh, all_readable, origin, new_from_more, laid_is_valid, laid_are_named, refs, laid_used)
 
   pub run_few : n ≤ 8 * length fs
-  run_few = subst (λ (bs : List NewBlock). length bs ≤ 8 * length fs) (sym run.makes_is)
-      (laid_few fs m s.next_block xs ran plans laid)
+  run_few = search (rules, laid_few)
 
   pub run_point : (block : ℕ → ℕ → ℤ) → AreWritten (beside block (brought Nothing)) makes
       → meant (alone block) p.point ≡ run_edited id (edits_at (alone block) fs) (meant (alone block) old)

@@ -1,6 +1,7 @@
 -- The tracks of a run as they are laid out, one after another, and the numbers of their layouts.
-use Rattle.editor_tracks.proofs.Common.{◌≡◌, ⊎_elim, inl, inr, refl, sym, ap, ◌∙◌, ℕ, ◌+◌, ◌≤◌, Option, Some, None}
+use Rattle.editor_tracks.proofs.Common.{◌≡◌, inl, inr, refl, ℕ, ◌+◌, ◌≤◌, Option, Some, None}
 use Rattle.editor_tracks.proofs.Common.{List, [], ◌∷◌, ◌++◌, arith, suc, zero, leb_tells, Track, HasNumbers, laid_from}
+use Rattle.editor_tracks.proofs.Common.{rules}
 use Rattle.std.proofs.Common.{IfSome, slice_get}
 use Rattle.layout_uses.specs.{Laws.IsAmong}
 use Rattle.layout_uses.proofs.Draws.{numbers_kept, numbers_more}
@@ -9,15 +10,11 @@ use Rattle.editor_tracks.specs.RunEdits.{laid_or, next_number}
 -- without plans each track stays
 pub laid_none : (id number : ℕ) (ts : List Track) → laid_from id [] number ts ≡ ts
 laid_none id number [] = refl
-laid_none id number (t ∷ ts) = ⊎_elim
-    (λ in_run. rw (in_run.0) (ap (λ (z : List Track). t ∷ z) (laid_none id (number + 1) ts)))
-    (λ before. rw (before.0) (ap (λ (z : List Track). t ∷ z) (laid_none id number ts)))
-    (leb_tells id t.id)
+laid_none id number (t ∷ ts) = search (rules, leb_tells, laid_none id (number + 1) ts, laid_none id number ts)
 
 pub laid_stays : (id number : ℕ) (t : Track) (ts : List Track)
     → laid_from id [] number (t ∷ ts) ≡ t ∷ laid_from id [] number ts
-laid_stays id number t ts =
-    laid_none id number (t ∷ ts) ∙ ap (λ (z : List Track). t ∷ z) (sym (laid_none id number ts))
+laid_stays id number t ts = search (rules, laid_none)
 
 -- the track at a place is one of them
 pub place_among : (i : ℕ) (ts : List Track) (t : Track) → slice_get ts i ≡ Some t → IsAmong t ts

@@ -2,7 +2,7 @@
 use Rattle.editor_tracks.proofs.Common.{◌≡◌, ⊎_elim, refl, sym, ap, ◌∙◌, subst, ℕ, ◌+◌, ◌≤◌, ◌==◌, if◌then◌else◌, Some}
 use Rattle.editor_tracks.proofs.Common.{List, [], ◌∷◌, arith, ne_eqb, le-leb, lt-leb, eqb_tells, BlockRef, run_edited}
 use Rattle.editor_tracks.proofs.Common.{Sources, Plan, AreWritten, Track, meant, meant_track, AreAbove, track_of}
-use Rattle.editor_tracks.proofs.Common.{laid_from, made_by, with_layout}
+use Rattle.editor_tracks.proofs.Common.{laid_from, made_by, with_layout, rules}
 use Rattle.pcm_base.specs.{Cells.each_edited}
 use Rattle.editor_tracks.proofs.CopyStrips.{found_above, from_track}
 use Rattle.editor_tracks.proofs.RunPlans.{AreLaid, CellEdit, edits_at, written_left, written_right}
@@ -27,11 +27,9 @@ above_laid : (id n : ℕ) (ps : List Plan) (number : ℕ) (ts : List Track) → 
 above_laid id n [] number [] above le = refl
 above_laid id n (p ∷ ps) number [] above le = refl
 above_laid id n [] number (t ∷ ts) above le =
-    rw (le-leb id t.id (omega (arith, le, above.0)))
-    (ap (λ (z : List Track). t ∷ z) (above_laid id (t.id + 1) [] (number + 1) ts above.1 (omega (arith, le, above.0))))
+    search (rules, le-leb, above_laid id (t.id + 1) [] (number + 1) ts above.1 (omega (arith, le, above.0)))
 above_laid id n (p ∷ ps) number (t ∷ ts) above le =
-    rw (le-leb id t.id (omega (arith, le, above.0))) (ap (λ (z : List Track). with_layout number t p.layout ∷ z)
-    (above_laid id (t.id + 1) ps (number + 1) ts above.1 (omega (arith, le, above.0))))
+    search (rules, le-leb, above_laid id (t.id + 1) ps (number + 1) ts above.1 (omega (arith, le, above.0)))
 
 pub run_laid : (id n : ℕ) (ps : List Plan) (number : ℕ) (ts : List Track) (x : Track) → AreAbove n ts
     → track_of id ts ≡ Some x → laid_from id ps number ts ≡ laid_run id ps number ts
@@ -57,10 +55,14 @@ module _ (src : Sources) where
   each_means (f ∷ fs) m next xs [] (p ∷ ps) number laid written = absurd laid
   each_means (f ∷ fs) m next xs (t ∷ ts) [] number laid written = absurd laid
   each_means (f ∷ fs) m next xs (t ∷ ts) (p ∷ ps) number laid written =
-      let here = laid.0.cells src (written_left src p.makes (made_by ps) written) in
-      let later = each_means fs m p.next xs ts ps (number + 1) laid.1
-      (written_right src p.makes (made_by ps) written) in
-      λ i. record { id = t.id; gain = t.gain; side = t.side; mute = t.mute; cells = here i } ∷ later i
+      search (
+        rules,
+        written_left,
+        written_right,
+        laid.0.cells,
+        each_means fs m p.next xs ts ps (number + 1) laid.1
+            (written_right src p.makes (made_by ps) written),
+      )
 
   run_means : (fs : List CellEdit) (m next : ℕ) (xs : List BlockRef) (id : ℕ) (ts : List Track) (ps : List Plan)
       (number : ℕ) → AreLaid fs m next xs (from_track id ts) ps → AreWritten src (made_by ps)
@@ -80,5 +82,4 @@ module _ (src : Sources) where
       (ps : List Plan) (number : ℕ) → AreAbove n ts → track_of id ts ≡ Some x
       → AreLaid fs m next xs (from_track id ts) ps → AreWritten src (made_by ps)
       → meant src (laid_from id ps number ts) ≡ run_edited id (edits_at src fs) (meant src ts)
-  laid_means fs m next xs id n ts x ps number above found laid written =
-      ap (meant src) (run_laid id n ps number ts x above found) ∙ run_means fs m next xs id ts ps number laid written
+  laid_means fs m next xs id n ts x ps number above found laid written = search (rules, run_laid, run_means)

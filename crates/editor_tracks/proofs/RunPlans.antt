@@ -1,5 +1,5 @@
 -- A run of tracks laid out by plans: what holds of the new project, and of the blocks that are to be made for it.
-use Rattle.editor_tracks.proofs.Common.{◌≡◌, inl, inr, ⊎_elim, refl, sym, subst, ℕ, ◌+◌, ◌*◌, ◌≤◌, List, [], ◌∷◌, ◌++◌}
+use Rattle.editor_tracks.proofs.Common.{◌≡◌, inl, inr, ⊎_elim, refl, subst, ℕ, ◌+◌, ◌*◌, ◌≤◌, List, [], ◌∷◌, ◌++◌}
 use Rattle.editor_tracks.proofs.Common.{length, length-append, map, Contains, arith, rules, leb_tells, map-append}
 use Rattle.editor_tracks.proofs.Common.{AllByRecursion, BlockRef, Cell, Sources, IsLayout, layout_blocks, AllNewFrom}
 use Rattle.editor_tracks.proofs.Common.{AreNew, AreOldOrNew, AreWritten, Means, Start, ref_of, NewBlock, Plan, Track}
@@ -138,8 +138,7 @@ laid_half_full [] m next xs ts (p ∷ ps) laid = absurd laid
 laid_half_full (f ∷ fs) m next xs [] [] laid = tt
 laid_half_full (f ∷ fs) m next xs [] (p ∷ ps) laid = absurd laid
 laid_half_full (f ∷ fs) m next xs (t ∷ ts) [] laid = absurd laid
-laid_half_full (f ∷ fs) m next xs (t ∷ ts) (p ∷ ps) laid =
-    (laid.0.plan.half_full, laid_half_full fs m p.next xs ts ps laid.1)
+laid_half_full (f ∷ fs) m next xs (t ∷ ts) (p ∷ ps) laid = search (rules, laid_half_full fs m p.next xs ts ps laid.1)
 
 -- ---- the tracks
 
@@ -150,24 +149,21 @@ id_by (p ∷ ps) number t = refl
 pub laid_length : (id : ℕ) (ps : List Plan) (number : ℕ) (ts : List Track)
     → length (laid_from id ps number ts) ≡ length ts
 laid_length id ps number [] = refl
-laid_length id ps number (t ∷ ts) = ⊎_elim
-    (λ in_run. rw (in_run.0) (omega (arith, laid_length id (drop 1 ps) (number + 1) ts)))
-    (λ before. rw (before.0) (omega (arith, laid_length id ps number ts)))
-    (leb_tells id t.id)
+laid_length id ps number (t ∷ ts) =
+    search (rules, leb_tells, laid_length id (drop 1 ps) (number + 1) ts, laid_length id ps number ts)
 
 pub laid_rising : (id n : ℕ) (ps : List Plan) (number : ℕ) (ts : List Track) → AreAbove n ts
     → AreAbove n (laid_from id ps number ts)
 laid_rising id n ps number [] above = tt
-laid_rising id n ps number (t ∷ ts) above = ⊎_elim
-    (λ in_run.
-    let same = id_by ps number t in
-    rw (in_run.0) (
-      omega (arith, same, above.0),
-      subst (λ (k : ℕ). AreAbove (k + 1) (laid_from id (drop 1 ps) (number + 1) ts))
-          (sym same) (laid_rising id (t.id + 1) (drop 1 ps) (number + 1) ts above.1),
-    ))
-    (λ before. rw (before.0) (above.0, laid_rising id (t.id + 1) ps number ts above.1))
-    (leb_tells id t.id)
+laid_rising id n ps number (t ∷ ts) above =
+    search (
+      rules,
+      id_by,
+      leb_tells,
+      laid_rising id (t.id + 1) (drop 1 ps) (number + 1) ts above.1,
+      laid_rising id
+          (t.id + 1) ps number ts above.1,
+    )
 
 module _ (P : BlockRef → Type 0) where
   all_by : (ps : List Plan) (number : ℕ) (t : Track) → LayoutsAll P ps → AllByRecursion P (layout_blocks t.layout)
@@ -205,10 +201,7 @@ AreValidPlans m next ps = AllByRecursion (IsValidPlan m next) ps
 pub valid_plans : (m next : ℕ) (ps : List Plan) → AreLayouts ps → HalfFull m ps
     → LayoutsAll (λ (b : BlockRef). IsGiven next b.id) ps → AreValidPlans m next ps
 valid_plans m next [] layouts half all = tt
-valid_plans m next (p ∷ ps) layouts half all = (
-  record { layout = layouts.0; half_full = half.0; blocks = ids_clips next p.layout all.0 },
-  valid_plans m next ps layouts.1 half.1 all.1,
-)
+valid_plans m next (p ∷ ps) layouts half all = search (rules, ids_clips, valid_plans m next ps layouts.1 half.1 all.1)
 
 module _ (m next track : ℕ) where
   valid_by : (ps : List Plan) (number : ℕ) (t : Track) → AreValidPlans m next ps → IsValidTrack m next track t
@@ -223,10 +216,13 @@ module _ (m next track : ℕ) where
   pub laid_valid : (id : ℕ) (ps : List Plan) (number : ℕ) (ts : List Track) → AreValidPlans m next ps
       → AllValidTracks m next track ts → AllValidTracks m next track (laid_from id ps number ts)
   laid_valid id ps number [] plans all = tt
-  laid_valid id ps number (t ∷ ts) plans all = ⊎_elim
-      (λ in_run. rw (in_run.0) (
-        valid_by ps number t plans all.0,
-        laid_valid id (drop 1 ps) (number + 1) ts (rest_valid ps plans) all.1,
-      ))
-      (λ before. rw (before.0) (all.0, laid_valid id ps number ts plans all.1))
-      (leb_tells id t.id)
+  laid_valid id ps number (t ∷ ts) plans all =
+      search (
+        rules,
+        valid_by,
+        rest_valid,
+        leb_tells,
+        laid_valid id (drop 1 ps) (number + 1) ts (rest_valid ps plans)
+            all.1,
+        laid_valid id ps number ts plans all.1,
+      )

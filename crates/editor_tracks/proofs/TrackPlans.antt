@@ -1,6 +1,6 @@
 -- The plan of an edit of one track: what it leaves, and why there is none.
 use Rattle.editor_tracks.proofs.Common.{◌≡◌, ◌⊎◌, inl, sym, ap, ◌∙◌, subst, ℕ, ◌+◌, ◌≤◌, ◌<◌, ℤ, Some, None, List}
-use Rattle.editor_tracks.proofs.Common.{rules, ◌++◌, length, Contains, arith, Option, ◌^◌, length-map, changed_at}
+use Rattle.editor_tracks.proofs.Common.{rules, length, Contains, arith, Option, ◌^◌, length-map, changed_at}
 use Rattle.editor_tracks.proofs.Common.{with_cells, BlockRef, Refusal, Ghosts, IsNamed, Item, end_of, layout_blocks}
 use Rattle.editor_tracks.proofs.Common.{layout_cells, NewBlock, AllNewFrom, AreNew, AreOldOrNew, AreWritten, brought}
 use Rattle.editor_tracks.proofs.Common.{brought_by, brought_count, meant, meant_track, point_blocks, Track, track_of}

@@ -1,6 +1,6 @@
 -- An edit of one track by a plan, as an edit that makes blocks.
-use Rattle.editor_tracks.proofs.Common.{◌≡◌, refl, sym, ap, ◌∙◌, subst, ℕ, suc, ◌+◌, ◌≤◌, ◌<◌, ◌==◌, ℤ, rules}
-use Rattle.editor_tracks.proofs.Common.{if◌then◌else◌, Option, Some, None, List, [], ◌∷◌, length, Err, arith, Project}
+use Rattle.editor_tracks.proofs.Common.{◌≡◌, refl, sym, ap, ◌∙◌, subst, ℕ, suc, ◌+◌, ◌≤◌, ◌<◌, ℤ, rules}
+use Rattle.editor_tracks.proofs.Common.{Option, Some, None, List, [], ◌∷◌, length, Err, arith, Project}
 use Rattle.editor_tracks.proofs.Common.{tracks_from, cells_at, with_cells, edited_at, changed_at, ◌otherwise◌}
 use Rattle.editor_tracks.proofs.Common.{call_tests, refused_if, is_empty, outside, Call, SoundMove, Refusal, Cell}
 use Rattle.editor_tracks.proofs.Common.{recorded, Sources, current, Ghosts, Fewer, samples_on, layout_cells, end_of}
@@ -33,9 +33,7 @@ refusal_is src id test m next track ts valid (Some t) found =
 
 edited_changed : (id : ℕ) (f : List Cell → List Cell) (p : Project) → edited_at id f p ≡ changed_at id (with_cells f) p
 edited_changed id f [] = refl
-edited_changed id f (t ∷ ts) =
-    let rest = edited_changed id f ts in
-    λ i. if t.id == id then with_cells f t ∷ ts else t ∷ rest i
+edited_changed id f (t ∷ ts) = search (rules, edited_changed id f ts)
 
 module _ {D : Type 0} (disk : Ghosts D) (s : Core D) (is : IsStudio disk s) (c : Call) (sound : SoundMove)
     (e : TrackEdit) (given : Given) (id tag more : ℕ)
@@ -72,8 +70,7 @@ module _ {D : Type 0} (disk : Ghosts D) (s : Core D) (is : IsStudio disk s) (c :
   pub track_refused : (why : Refusal) → Fewer disk s.store → more < 64 → s.stopped ≡ None
       → NoTrackPlan e id old why
       → Took disk s (with_sound c sound (Err why)) s
-  track_refused why fewer few = edit_refused disk s is fewer line.call few (track_refusal id e.test found)
-      (own_is (samples_on (disk.reads s.store))) why
+  track_refused why fewer few = search (rules, edit_refused, own_is)
 
   -- ---- what the call means
 

@@ -1,4 +1,4 @@
--- A scan of one block that points name: how long it is, and what is told of its file.
+-- A scan of one block that points name: how long it is, and what it says of its file.
 use Rattle.editor_views.proofs.Common.{◌≡◌, refl, sym, subst, ℕ, ◌≤◌, List, ◌++◌, None, Ok, Err, IsTrue}
 use Rattle.editor_views.proofs.Common.{All-from_recursion, Contains, AllByRecursion, BlockRef, IsWhole, Files, Kept}
 use Rattle.editor_views.proofs.Common.{Ghosts, BlockFault, Counted, Track, point_blocks, history_blocks, IsValidPoint}

@@ -1,4 +1,5 @@
 -- Showing cells of a track, and what a scan of them finds.
+use Rattle.std.proofs.Common.{rules, nat_lt, nat_le, ◌&&◌, ◌||◌, not}
 use Rattle.editor_views.proofs.Common.{◌≡◌, ◌⊎◌, inl, inr, refl, sym, ap, ◌∙◌, subst, ℕ, ◌-◌, ◌==◌, Bool, true, false}
 use Rattle.editor_views.proofs.Common.{IsTrue, List, length, Option, Some, None, Ok, Err, arith, same_Some, ◌otherwise◌}
 use Rattle.editor_views.proofs.Common.{refused_if, bad_view, outside, stop_of, Call, Line, Refusal, part, Sources}
@@ -7,7 +8,6 @@ use Rattle.editor_views.proofs.Common.{IsFaultIn, reason_of, reason_damaged, Tra
 use Rattle.editor_views.proofs.Common.{IsStudio, named_blocks, studio_of, Core, Took, quietly, silent, current_meant}
 use Rattle.editor_views.proofs.Common.{looked_ok, looked_failed, looked_wanting, IsQuiet, quiet_passes, carried}
 use Rattle.editor_views.proofs.Common.{room_of, refused_own, refused_stopped, fault_among, fits, ReadsNamed}
-use Rattle.std.proofs.Common.{nat_lt, nat_le, ◌&&◌, ◌||◌, not}
 use Rattle.std.proofs.lemmas.Option.{none-some}
 use Rattle.pcm_base.specs.Refusals.{call_tests, bad_range, bad_columns}
 use Rattle.pcm_base.specs.{declared.sound.Cell.Cell, declared.sound.Scan.Scan, Cells.cells_at, Envelope.columns_of}
@@ -57,13 +57,7 @@ module _ {D : Type 0} (disk : Ghosts D) (s : Core D) (is : IsStudio disk s) (id 
   show = Line (command.Show id from to)
 
   show_quiet : IsQuiet show
-  show_quiet = record {
-    needs = λ t. (refl, refl);
-    no_commit = refl;
-    no_track = λ t. refl;
-    no_layout = λ t. refl;
-    quiet = λ t. refl;
-  }
+  show_quiet = search rules
 
   show_tests : call_tests (outside t silent) t.state show ≡ (lacks id (track_of id ts)) otherwise (bad_view from to)
   show_tests = λ i. (sym (track_is disk s is id) i) otherwise (bad_view from to)
@@ -114,13 +108,7 @@ module _ {D : Type 0} (disk : Ghosts D) (s : Core D) (is : IsStudio disk s) (id 
     scan = Line (command.Envelope id from to columns)
 
     scan_quiet : IsQuiet scan
-    scan_quiet = record {
-      needs = λ t. (refl, refl);
-      no_commit = refl;
-      no_track = λ t. refl;
-      no_layout = λ t. refl;
-      quiet = λ t. refl;
-    }
+    scan_quiet = search rules
 
     pub scan_stopped : (faults : ℕ) → s.stopped ≡ Some faults
         → Took disk s (quietly scan (Err (refusal.Stopped faults))) s
@@ -134,8 +122,7 @@ module _ {D : Type 0} (disk : Ghosts D) (s : Core D) (is : IsStudio disk s) (id 
 
     scan_tests : call_tests (outside t silent) t.state scan
         ≡ ((lacks id (track_of id ts)) otherwise (beyond (length (cells_at id (current t.state))))) otherwise uneven
-    scan_tests = λ i.
-        ((sym (track_is disk s is id) i) otherwise (beyond (length (cells_at id (current t.state))))) otherwise uneven
+    scan_tests = search (rules, track_is)
 
     pub scan_lacks : (why : Refusal) → s.stopped ≡ None → lacks id (track_of id ts) ≡ Some why
         → Took disk s (quietly scan (Err why)) s
@@ -167,8 +154,7 @@ module _ {D : Type 0} (disk : Ghosts D) (s : Core D) (is : IsStudio disk s) (id 
           → IsCountedBy why (disk.read_fault_count s.store) (disk.read_fault_count store)
           → (IsTrue (disk.tells s.store) → IsDamagedIn (disk.reads s.store) (named_blocks s) why)
           → Took disk s (quietly scan (Err why)) (record s { store = store; cache = cache })
-      of_reads refusal.NoMemory reads counted damaged =
-          looked_wanting disk s is store kept cache keeps scan scan_quiet tt going counted
+      of_reads refusal.NoMemory reads counted damaged = search (rules, looked_wanting, scan_quiet)
       of_reads refusal.DiskFault reads counted damaged =
           looked_failed disk s is store kept cache keeps scan scan_quiet tt going refl fault.DiskFault counted damaged
       of_reads (refusal.Damaged file at want have) reads counted damaged =

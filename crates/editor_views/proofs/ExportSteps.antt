@@ -1,8 +1,9 @@
 -- An export: the mix of the current project as a sound of a vault, with nothing of the studio changed.
+use Rattle.std.proofs.Common.{rules}
 use Rattle.editor_views.proofs.Common.{◌≡◌, ◌⊎◌, inl, inr, ⊎_elim, refl, sym, ap, ◌∙◌, subst, ℕ, ◌+◌, ◌*◌, IsTrue}
-use Rattle.editor_views.proofs.Common.{Option, Some, None, List, length, take, Ok, Err, arith, IfErr, ◌otherwise◌}
+use Rattle.editor_views.proofs.Common.{Option, Some, None, List, length, Ok, Err, arith, IfErr, ◌otherwise◌}
 use Rattle.editor_views.proofs.Common.{refused_if, Answers, BreaksOff, CarriesOut, followed, outside, stop_of, Call}
-use Rattle.editor_views.proofs.Common.{Line, Refusal, Frame, Project, mix_of, mix_length, current, wav_text, Files}
+use Rattle.editor_views.proofs.Common.{Line, Refusal, Frame, Project, mix_of, mix_length, current, wav_text}
 use Rattle.editor_views.proofs.Common.{Kept, Ghosts, Fewer, sources_of, BlockFault, Counted, IsFaultIn, mix_length_of}
 use Rattle.editor_views.proofs.Common.{current_tracks, Keeps, meant, length_mix, Entries, IsHeld, IsStudio}
 use Rattle.editor_views.proofs.Common.{named_blocks, shown, studio_of, Core, Took, current_meant, current_valid}
@@ -18,7 +19,6 @@ use Rattle.sound_export.specs.declared.fault.ExportFault.{ExportFault}
 use Rattle.sound_export.specs.declared.fault.ExportFault.TheVariants.{TooLong, Block, VaultFault}
 use Rattle.sound_export.specs.Written.{IsLengthFault, IsNoDamage, IsOfDevice, read_part, refusal_of as reason_of_export}
 use Rattle.envelope_view.specs.Answers.{IsUndamaged}
-use Rattle.editor_state.specs.Studios.{studio_by}
 use Rattle.editor_state.specs.{Left.IsSoOf, Left.Left, Took.with_sound, Spent.Needed}
 use Rattle.editor_state.proofs.Calls.LookCalls.{looked}
 use Rattle.editor_state.proofs.Calls.OtherFiles.{NoneGoes, others_none}
@@ -69,8 +69,7 @@ module _ {D : Type 0} (disk : Ghosts D) (s : Core D) (is : IsStudio disk s) (nam
       ∙ sym (length_mix (meant src (current_tracks s.history)))
 
   len_is : mix_length (current t.state) ≡ length point_mix
-  len_is = ap mix_length (current_meant disk s is)
-      ∙ sym (length_mix (meant (sources_of (disk.reads s.store)) (current_tracks s.history)))
+  len_is = search (rules, current_meant, length_mix)
 
   -- ---- it had stopped before
 
@@ -96,17 +95,10 @@ module _ {D : Type 0} (disk : Ghosts D) (s : Core D) (is : IsStudio disk s) (nam
     -- ---- what it leaves
 
     state_is : studio_of disk here ≡ record t { read_faults = disk.read_fault_count store }
-    state_is =
-        λ i. record (studio_by (sources_of (kept.same_reads i)) disk s) {
-          read_faults = disk.read_fault_count store;
-          change_faults = kept.same_faults i;
-        }
+    state_is = search (rules, kept.same_reads, kept.same_faults)
 
     still : IsHeld disk s → EachSince disk s.store store (λ c. Keeps c (shown t))
-    still held c since =
-        let from = kept.same_images.from c since in
-        subst (λ (f : Files). Keeps f (shown t)) (sym from.2)
-        (keeps_now disk s is.journal.among going held from.0 from.1)
+    still held c since = search (rules, keeps_now, kept.same_images.from)
 
     done : (bytes : ℕ) → (IsHeld disk s → CarriesOut t call sound (reply.Wrote bytes) (studio_of disk here))
         → Took disk s (with_sound call sound (Ok (reply.Wrote bytes))) here
@@ -176,10 +168,7 @@ module _ {D : Type 0} (disk : Ghosts D) (s : Core D) (is : IsStudio disk s) (nam
 
     follows : disk.read_fault_count store ≡ disk.read_fault_count s.store
         → studio_of disk here ≡ followed out t call 0 0 t.next_layout
-    follows faults =
-        let block : t.next_block ≡ t.next_block + 0 = omega arith in
-        let end : t.journal_end ≡ t.journal_end + 0 = omega arith in
-        state_is ∙ (λ i. record t { next_block = block i; journal_end = end i; read_faults = faults i })
+    follows faults = search (rules, state_is)
 
     pub exported : (bytes len : ℕ) → len ≡ length point_mix → FitsFile len → bytes ≡ 44 + 4 * len
         → disk.read_fault_count store ≡ disk.read_fault_count s.store
@@ -202,8 +191,7 @@ module _ {D : Type 0} (disk : Ghosts D) (s : Core D) (is : IsStudio disk s) (nam
 
     part : MayBegin (wav_text point_mix s.rate) sound.before sound.after → IsPartOfMix t.rate t sound
     part (inl same) = inl same
-    part (inr (count, within, front)) =
-        inr (count, front ∙ ap (λ (bytes : List ℕ). Some (take count bytes)) (sym file_is))
+    part (inr (count, within, front)) = search (rules, inr, file_is)
 
     breaks : (IsHeld disk s → MayBegin (wav_text point_mix s.rate) sound.before sound.after) → IsHeld disk s
         → BreaksOff t call sound (studio_of disk here)
@@ -228,10 +216,8 @@ module _ {D : Type 0} (disk : Ghosts D) (s : Core D) (is : IsStudio disk s) (nam
         → (IsTrue (disk.tells s.store) → IfErr (read_part why) (λ e. IsFaultIn (disk.reads s.store) (named_blocks s) e))
         → Left disk s here (reason_of_export why)
     export_left (TooLong frames) counted named = left_read disk s store cache (refusal.TooLong frames) tt
-    export_left (Block fault.DiskFault) counted named =
-        left_read disk s store cache refusal.DiskFault (inl (record { rose = counted.0; later = counted.1 }))
-    export_left (Block (fault.Damaged file found)) counted named =
-        left_read disk s store cache (refusal.Damaged file found.at found.want found.have) named
+    export_left (Block fault.DiskFault) counted named = search (rules, left_read, inl)
+    export_left (Block (fault.Damaged file found)) counted named = search (rules, left_read)
     export_left VaultFault counted named = left_read disk s store cache refusal.VaultFault tt
 
     pub export_failed : (why : ExportFault) (len : ℕ) → len ≡ length point_mix → IsLengthFault len why
@@ -265,12 +251,7 @@ module _ {D : Type 0} (disk : Ghosts D) (s : Core D) (is : IsStudio disk s) (nam
           cause = inl (record { goes_on = going; rose = counted.0; later = counted.1; changes = kept.same_faults });
         })))
     export_failed (Block (fault.Damaged file found)) len long of counted untouched begun named =
-        failed (refusal.Damaged file found.at found.want found.have) named tt (λ held. inr (inr (record {
-          breaks = breaks begun held;
-          stopped = going;
-          reads = counted;
-          changes = kept.same_faults;
-        })))
+        search (rules, failed, inr, breaks)
     export_failed VaultFault len long of counted untouched begun named =
         failed refusal.VaultFault tt tt (λ held. inr (inr (
           refl,

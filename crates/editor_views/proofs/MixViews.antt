@@ -1,5 +1,6 @@
 -- Hearing frames of the mix of the current project, or of a pin.
-use Rattle.editor_views.proofs.Common.{◌≡◌, ⊎_elim, refl, sym, ap, ◌∙◌, ℕ, ◌-◌, min, IsTrue, List, length, length-drop}
+use Rattle.std.proofs.Common.{rules}
+use Rattle.editor_views.proofs.Common.{◌≡◌, refl, sym, ap, ◌∙◌, ℕ, ◌-◌, min, IsTrue, List, length, length-drop}
 use Rattle.editor_views.proofs.Common.{take, drop, Some, None, Ok, Err, arith, Line, PinLen, ReadPin, mix_of}
 use Rattle.editor_views.proofs.Common.{mix_length, Call, Refusal, Frame, Project, part, Sources, bad_view, stop_of}
 use Rattle.editor_views.proofs.Common.{Kept, Ghosts, Fewer, sources_of, BlockFault, CountedBy, IsFaultIn, reason_of}
@@ -7,34 +8,23 @@ use Rattle.editor_views.proofs.Common.{reason_damaged, mix_length_of, Track, mea
 use Rattle.editor_views.proofs.Common.{Entries, IsHeld, IsStudio, named_blocks, studio_of, Core, Took, quietly}
 use Rattle.editor_views.proofs.Common.{LacksPin, MayFind, current_meant, looked_ok, looked_failed, IsQuiet}
 use Rattle.editor_views.proofs.Common.{quiet_passes, carried, room_of, refused_own, refused_stopped, stays_answered}
-use Rattle.editor_views.proofs.Common.{fault_among, fits, ReadsNamed}
-use Rattle.std.proofs.{lemmas.Bool.cases_lt, lemmas.List.length-map, lemmas.List.take_all}
-use Rattle.pcm_base.specs.Mix.{frame_at}
-use Rattle.pcm_base.specs.{Arithmetic.counted_from}
+use Rattle.editor_views.proofs.Common.{fault_among, fits, ReadsNamed, length_mix}
+use Rattle.std.proofs.{lemmas.Bool.cases_lt, lemmas.List.take_all}
 use Rattle.editor_commits.proofs.{CursorTracks.current_named}
 use Rattle.editor_views.proofs.UnpinSteps.{lacks_own, pin_meant, pin_named, has_own}
-use Rattle.pcm_base.proofs.ListFacts.{length-counted_from}
 use Rattle.pcm_base.specs.declared.answer.Reply.TheVariants as reply
 use Rattle.pcm_base.specs.declared.command.Command.TheVariants as command
 use Rattle.pcm_base.specs.declared.refusal.Refusal.TheVariants as refusal
 use Rattle.pcm_base.specs.Studio as model
 
-frames_count : (p : Project) → length (mix_of p) ≡ mix_length p
-frames_count p = length-map (counted_from 0 (mix_length p)) (frame_at p) ∙ length-counted_from 0 (mix_length p)
-
 pub take_few : {A : Type 0} (n most : ℕ) (xs : List A) → n ≡ min most (length xs) → take n xs ≡ take most xs
-take_few n most xs few = ⊎_elim
-    (λ less. take_all n xs (omega (arith, few, less)) ∙ sym (take_all most xs (omega (arith, less))))
-    (λ more. ap (λ (k : ℕ). take k xs) (omega (arith, few, more)))
-    (cases_lt (length xs) most)
+take_few n most xs few = search (rules, take_all, cases_lt)
 
 -- this many frames, as many as there are
 pub as_many : (src : Sources) (ts : List Track) (from most n : ℕ) → n ≡ min most (mix_length_of ts - from)
     → mix_length (meant src ts) ≡ mix_length_of ts
     → take n (drop from (mix_of (meant src ts))) ≡ take most (drop from (mix_of (meant src ts)))
-as_many src ts from most n few len =
-    let frames = mix_of (meant src ts) in
-    take_few n most (drop from frames) (omega (arith, few, len, frames_count (meant src ts), length-drop from frames))
+as_many src ts from most n few len = search (rules, take_few, length_mix, length-drop)
 
 module _ {D : Type 0} (disk : Ghosts D) (s : Core D) (is : IsStudio disk s) (fewer : Fewer disk s.store) where
   abbrev src : Sources
@@ -50,13 +40,7 @@ module _ {D : Type 0} (disk : Ghosts D) (s : Core D) (is : IsStudio disk s) (few
     mix = Line (command.Mix from to)
 
     mix_quiet : IsQuiet mix
-    mix_quiet = record {
-      needs = λ t. (refl, refl);
-      no_commit = refl;
-      no_track = λ t. refl;
-      no_layout = λ t. refl;
-      quiet = λ t. refl;
-    }
+    mix_quiet = search rules
 
     pub mix_stopped : (faults : ℕ) → s.stopped ≡ Some faults → Took disk s (quietly mix (Err (refusal.Stopped faults)))
         s
@@ -93,13 +77,7 @@ module _ {D : Type 0} (disk : Ghosts D) (s : Core D) (is : IsStudio disk s) (few
 
   module _ (pin : ℕ) where
     len_quiet : IsQuiet (PinLen pin)
-    len_quiet = record {
-      needs = λ t. (refl, refl);
-      no_commit = refl;
-      no_track = λ t. refl;
-      no_layout = λ t. refl;
-      quiet = λ t. refl;
-    }
+    len_quiet = search rules
 
     pub len_stopped : (faults : ℕ) → s.stopped ≡ Some faults
         → Took disk s (quietly (PinLen pin) (Err (refusal.Stopped faults))) s
@@ -129,13 +107,7 @@ module _ {D : Type 0} (disk : Ghosts D) (s : Core D) (is : IsStudio disk s) (few
       read = ReadPin pin from count
 
       read_quiet : IsQuiet read
-      read_quiet = record {
-        needs = λ t. (refl, refl);
-        no_commit = refl;
-        no_track = λ t. refl;
-        no_layout = λ t. refl;
-        quiet = λ t. refl;
-      }
+      read_quiet = search rules
 
       pub read_stopped : (faults : ℕ) → s.stopped ≡ Some faults
           → Took disk s (quietly read (Err (refusal.Stopped faults))) s

@@ -1,12 +1,13 @@
 -- Loading a pin is a step that changes nothing but the pages that are kept.
-use Rattle.editor_views.proofs.Common.{◌≡◌, refl, sym, ap, subst, ◌∙◌, map, ℕ, ◌-◌, min, IsTrue, List, Some, None, Ok}
+use Rattle.std.proofs.Common.{rules}
+use Rattle.editor_views.proofs.Common.{◌≡◌, refl, sym, ap, subst, ℕ, ◌-◌, min, IsTrue, List, Some, None, Ok}
 use Rattle.editor_views.proofs.Common.{Err, arith, IfErr, mix_length, Call, Sources, stop_of, Kept, Ghosts, Fewer}
 use Rattle.editor_views.proofs.Common.{sources_of, Entries, Counted, CountedBy, IsFaultIn, BlockFault, reason_of}
 use Rattle.editor_views.proofs.Common.{reason_damaged, mix_length_of, Track, meant, point_blocks, IsHeld, IsStudio}
 use Rattle.editor_views.proofs.Common.{named_blocks, studio_of, Core, Took, quietly, silent, LacksPin, MayFind}
 use Rattle.editor_views.proofs.Common.{looked_ok, looked_failed, looked_wanting, IsQuiet, quiet_passes, carried}
 use Rattle.editor_views.proofs.Common.{room_of, refused_own, refused_stopped, fault_among, fits, ReadsNamed}
-use Rattle.pcm_base.specs.Mix.{loaded_of, loaded_track, unmuted}
+use Rattle.pcm_base.specs.Mix.{loaded_of}
 use Rattle.pcm_base.specs.{declared.command.Call.TheVariants.LoadPin, declared.lists.LoadedTrack.LoadedTrack}
 use Rattle.mixdown.specs.{declared.loaded.Loaded.Loaded, Loads.IsLoaded, Loads.Shows, Loads.tracks_in}
 use Rattle.mixdown.proofs.LoadLaws.{shown_tracks}
@@ -25,14 +26,7 @@ use Rattle.pcm_base.specs.Studio as model
 pub loaded_many : (src : Sources) (ts : List Track) (from most : ℕ) (l : Loaded) → IsLoaded l
     → l.len ≡ min most (mix_length_of ts - from) → mix_length (meant src ts) ≡ mix_length_of ts
     → Shows from (meant src ts) l → tracks_in l ≡ loaded_of from most (meant src ts)
-loaded_many src ts from most l is count len shows =
-    let many : l.len ≡ min most (mix_length (meant src ts) - from) =
-    count ∙ ap (λ (n : ℕ). min most (n - from)) (sym len) in
-    shown_tracks from (meant src ts) l is shows
-    ∙ ap (λ (n : ℕ). loaded_tracks_by n) many
-  where
-    loaded_tracks_by : ℕ → List LoadedTrack
-    loaded_tracks_by n = map (loaded_track from n) (unmuted (meant src ts))
+loaded_many src ts from most l is count len shows = search (rules, shown_tracks)
 
 module _ {D : Type 0} (disk : Ghosts D) (s : Core D) (is : IsStudio disk s) (fewer : Fewer disk s.store)
     (pin from count : ℕ) where
@@ -46,13 +40,7 @@ module _ {D : Type 0} (disk : Ghosts D) (s : Core D) (is : IsStudio disk s) (few
   load = LoadPin pin from count
 
   load_quiet : IsQuiet load
-  load_quiet = record {
-    needs = λ t. (refl, refl);
-    no_commit = refl;
-    no_track = λ t. refl;
-    no_layout = λ t. refl;
-    quiet = λ t. refl;
-  }
+  load_quiet = search rules
 
   pub load_stopped : (faults : ℕ) → s.stopped ≡ Some faults
       → Took disk s (quietly load (Err (refusal.Stopped faults))) s
@@ -102,9 +90,7 @@ module _ {D : Type 0} (disk : Ghosts D) (s : Core D) (is : IsStudio disk s) (few
         → IfErr (disk_part {T = ℕ} (Err why)) (λ e. IsFaultIn (disk.reads s.store) (point_blocks point) e))
         → (IsHeld disk s → IsNoDamage why) → (why ≡ NoMemory → (store ≡ s.store) × (cache ≡ s.cache))
         → Looks disk s load (Err (refusal_of why)) (record s { store = store; cache = cache })
-    load_looks (Block why) counted damaged valid memory =
-        unread_looks disk s load store kept cache (reason_of why) (λ held. undamaged why (valid held))
-        (load_failed why counted damaged)
+    load_looks (Block why) counted damaged valid memory = search (rules, unread_looks, undamaged, load_failed)
     load_looks NoMemory counted damaged valid memory =
         let same = memory refl in
         let wanted : Took disk s (quietly load (Err refusal.NoMemory)) (record s { store = s.store; cache = cache }) =

@@ -1,9 +1,9 @@
 -- Pins by their numbers, and the blocks that they name.
-use Rattle.editor_views.proofs.Common.{◌≡◌, ◌≢◌, ⊎_elim, take, drop, refl, sym, ap, ◌∙◌, ℕ, ◌+◌, ◌≤◌, ◌<◌, false, List}
-use Rattle.editor_views.proofs.Common.{[], ◌∷◌, ◌++◌, Some, None, subst, arith, append-nil, AllByRecursion, BlockRef}
+use Rattle.editor_views.proofs.Common.{◌≡◌, ◌≢◌, take, drop, refl, sym, ap, ◌∙◌, ℕ, ◌+◌, ◌≤◌, ◌<◌, List}
+use Rattle.editor_views.proofs.Common.{[], ◌∷◌, ◌++◌, Some, None, arith, append-nil, AllByRecursion, BlockRef}
 use Rattle.editor_views.proofs.Common.{Sources, with_pin, without_pin, Track, meant, point_blocks, all_append, Pin}
 use Rattle.editor_views.proofs.Common.{PinsRise, pin_at, pin_blocks, LacksPin, all_left, all_right}
-use Rattle.std.proofs.Common.{slice_get, eqb}
+use Rattle.std.proofs.Common.{slice_get, rules}
 use Rattle.std.proofs.lemmas.Bool.{eq-eqb, ne_eqb}
 use Rattle.std.proofs.lemmas.List.{append_assoc, take-append-drop}
 use Rattle.std.proofs.{lemmas.Bool.Decides.eqb_tells, lemmas.Grind.flat_map-append}
@@ -35,9 +35,7 @@ rise_less least next (q ∷ qs) back pin rise = (rise.0, rise.1, rise_less (q.nu
 pub past : (least next : ℕ) (front back : List Pin) (pin : Pin) → PinsRise least next (front ++ pin ∷ back)
     → least ≤ pin.number
 past least next [] back pin rise = rise.0
-past least next (q ∷ qs) back pin rise =
-    let later = past (q.number + 1) next qs back pin rise.2 in
-    omega (arith, rise.0, later)
+past least next (q ∷ qs) back pin rise = search (rules, past (q.number + 1) next qs back pin rise.2)
 
 -- none has a number, and one more has another
 pub lacks_more : (n : ℕ) (ps : List Pin) (p : Pin) → LacksPin n ps → p.number ≢ n → LacksPin n (ps ++ p ∷ [])
@@ -49,8 +47,7 @@ module _ (src : Sources) where
   none_below : (least next n : ℕ) (ps : List Pin) → PinsRise least next ps → n < least → pin_at src ps n ≡ None
   none_below least next n [] rise less = refl
   none_below least next n (p ∷ ps) rise less =
-      rw (ne_eqb n p.number (λ e. absurd (omega (arith, e, rise.0, less))))
-      (none_below (p.number + 1) next n ps rise.2 (omega (arith, rise.0, less)))
+      search (rules, ne_eqb, none_below (p.number + 1) next n ps rise.2 (omega (arith, rise.0, less)))
 
   pub lacks_none : (n : ℕ) (ps : List Pin) → LacksPin n ps → pin_at src ps n ≡ None
   lacks_none n [] all = refl
@@ -60,42 +57,27 @@ module _ (src : Sources) where
       → pin_at src (ps ++ record { number = next; point = point } ∷ []) n
       ≡ with_pin next (meant src point) (pin_at src ps) n
   with_one least next [] point n rise = refl
-  with_one least next (q ∷ qs) point n rise = ⊎_elim
-      (λ same.
-      let other : eqb n next ≡ false = ne_eqb n next (λ e. absurd (omega (arith, e, same.1, rise.1))) in
-      rw (same.0, other) refl)
-      (λ other. rw (other.0) (with_one (q.number + 1) next qs point n rise.2))
-      (eqb_tells n q.number)
+  with_one least next (q ∷ qs) point n rise =
+      search (rules, ne_eqb, eqb_tells, with_one (q.number + 1) next qs point n rise.2)
 
   pub without_one : (least next : ℕ) (front back : List Pin) (pin : Pin) (n : ℕ)
       → PinsRise least next (front ++ pin ∷ back)
       → pin_at src (front ++ back) n ≡ without_pin pin.number (pin_at src (front ++ pin ∷ back)) n
-  without_one least next [] back pin n rise = ⊎_elim
-      (λ same. rw (same.0) (none_below (pin.number + 1) next n back rise.2 (omega (arith, same.1))))
-      (λ other. rw (other.0) refl)
-      (eqb_tells n pin.number)
-  without_one least next (q ∷ qs) back pin n rise = ⊎_elim
-      (λ same.
-      let later = past (q.number + 1) next qs back pin rise.2 in
-      let other : eqb n pin.number ≡ false = ne_eqb n pin.number (λ e. absurd (omega (arith, e, same.1, later))) in
-      rw (same.0, other) refl)
-      (λ other. rw (other.0) (without_one (q.number + 1) next qs back pin n rise.2))
-      (eqb_tells n q.number)
+  without_one least next [] back pin n rise = search (rules, none_below, eqb_tells)
+  without_one least next (q ∷ qs) back pin n rise =
+      search (rules, past, ne_eqb, eqb_tells, without_one (q.number + 1) next qs back pin n rise.2)
 
   -- the pin that is asked for is the one of its number
   pub found_at : (least next : ℕ) (front back : List Pin) (pin : Pin) → PinsRise least next (front ++ pin ∷ back)
       → pin_at src (front ++ pin ∷ back) pin.number ≡ Some (meant src pin.point)
   found_at least next [] back pin rise = rw (eq-eqb pin.number pin.number refl) refl
   found_at least next (q ∷ qs) back pin rise =
-      let later = past (q.number + 1) next qs back pin rise.2 in
-      rw (ne_eqb pin.number q.number (λ e. absurd (omega (arith, e, later))))
-      (found_at (q.number + 1) next qs back pin rise.2)
+      search (rules, past, ne_eqb, found_at (q.number + 1) next qs back pin rise.2)
 
 -- ---- their blocks
 
 pub blocks_more : (ps : List Pin) (p : Pin) → pin_blocks (ps ++ p ∷ []) ≡ pin_blocks ps ++ point_blocks p.point
-blocks_more ps p = flat_map-append (λ (x : Pin). point_blocks x.point) ps (p ∷ [])
-    ∙ ap (λ (z : List BlockRef). pin_blocks ps ++ z) (append-nil (point_blocks p.point))
+blocks_more ps p = search (rules, flat_map-append, append-nil)
 
 pub blocks_around : (front back : List Pin) → pin_blocks (front ++ back) ≡ pin_blocks front ++ pin_blocks back
 blocks_around front back = flat_map-append (λ (x : Pin). point_blocks x.point) front back
@@ -103,8 +85,7 @@ blocks_around front back = flat_map-append (λ (x : Pin). point_blocks x.point) 
 -- on each of all but one, and on that one
 pub all_but : (P : Pin → Type 0) (front back : List Pin) (pin : Pin) → AllByRecursion P (front ++ pin ∷ back)
     → AllByRecursion P (front ++ back)
-all_but P front back pin all =
-    all_append P front back (all_left P front (pin ∷ back) all) (all_right P front (pin ∷ back) all).1
+all_but P front back pin all = search (rules, all_append, all_left, all_right)
 
 pub that_one : (P : Pin → Type 0) (front back : List Pin) (pin : Pin) → AllByRecursion P (front ++ pin ∷ back) → P pin
 that_one P front back pin all = (all_right P front (pin ∷ back) all).0
@@ -112,16 +93,8 @@ that_one P front back pin all = (all_right P front (pin ∷ back) all).0
 -- the same of their blocks
 pub blocks_but : (P : BlockRef → Type 0) (front back : List Pin) (pin : Pin)
     → AllByRecursion P (pin_blocks (front ++ pin ∷ back)) → AllByRecursion P (pin_blocks (front ++ back))
-blocks_but P front back pin all =
-    let parts = subst (AllByRecursion P) (blocks_around front (pin ∷ back)) all in
-    let later = all_right P (pin_blocks front) (point_blocks pin.point ++ pin_blocks back) parts in
-    subst (AllByRecursion P) (sym (blocks_around front back))
-    (all_append P (pin_blocks front) (pin_blocks back) (all_left P (pin_blocks front) (point_blocks pin.point
-    ++ pin_blocks back) parts) (all_right P (point_blocks pin.point) (pin_blocks back) later))
+blocks_but P front back pin all = search (rules, blocks_around, all_right, all_append, all_left)
 
 pub blocks_of_one : (P : BlockRef → Type 0) (front back : List Pin) (pin : Pin)
     → AllByRecursion P (pin_blocks (front ++ pin ∷ back)) → AllByRecursion P (point_blocks pin.point)
-blocks_of_one P front back pin all =
-    let parts = subst (AllByRecursion P) (blocks_around front (pin ∷ back)) all in
-    all_left P (point_blocks pin.point) (pin_blocks back)
-    (all_right P (pin_blocks front) (point_blocks pin.point ++ pin_blocks back) parts)
+blocks_of_one P front back pin all = search (rules, blocks_around, all_left, all_right)

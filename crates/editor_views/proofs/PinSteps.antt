@@ -1,17 +1,17 @@
 -- A pin is a step: the current project is named once more.
+use Rattle.std.proofs.Common.{rules, ◌^◌}
 use Rattle.editor_views.proofs.Common.{◌≡◌, inl, inr, refl, sym, ap, ◌∙◌, subst, ℕ, ◌+◌, ◌<◌, List, [], ◌∷◌, ◌++◌, Some}
 use Rattle.editor_views.proofs.Common.{None, Ok, Err, arith, append_assoc, length, IsSome, ◌↔◌, append-nil}
-use Rattle.editor_views.proofs.Common.{AllByRecursion, BlockRef, stop_of, after, with_pin, Ghosts, Fewer, sources_of}
-use Rattle.editor_views.proofs.Common.{Counts, count_of, Track, point_blocks, history_blocks, current_tracks}
-use Rattle.editor_views.proofs.Common.{IsValidPoint, all_append, IsStudio, pin_at, pin_blocks, pin_tracks, clip_blocks}
+use Rattle.editor_views.proofs.Common.{AllByRecursion, BlockRef, stop_of, after, Ghosts, Fewer, sources_of}
+use Rattle.editor_views.proofs.Common.{Counts, count_of, Track, history_blocks, current_tracks}
+use Rattle.editor_views.proofs.Common.{IsValidPoint, all_append, IsStudio, pin_blocks, pin_tracks, clip_blocks}
 use Rattle.editor_views.proofs.Common.{named_blocks, studio_of, studio_tracks, Core, Pin, Took, quietly, silent, Tally}
 use Rattle.editor_views.proofs.Common.{AreDrawn, AreNumbered, history_tracks, AreCounts, IsTally, counts_swapped}
 use Rattle.editor_views.proofs.Common.{current_valid, current_meant, renamed, Renames, renamed_took, IsQuiet}
 use Rattle.editor_views.proofs.Common.{quiet_passes, carried, room_of, refused_stopped, refused_wanting, all_left}
 use Rattle.editor_views.proofs.Common.{all_right, fits, stopped_not}
-use Rattle.std.proofs.Common.{◌^◌}
-use Rattle.pcm_base.specs.{declared.answer.Reply.TheVariants.Pinned}
-use Rattle.pcm_base.specs.{declared.command.Call.TheVariants.Pin as Keep, Cells.Project, Pieces.Sources, Run.outside}
+use Rattle.pcm_base.specs.{declared.answer.Reply.TheVariants.Pinned, declared.command.Call.TheVariants.Pin as Keep}
+use Rattle.pcm_base.specs.{Pieces.Sources, Run.outside}
 use Rattle.layout_uses.specs.{Tallies.Comes}
 use Rattle.layout_uses.proofs.Moves.{drawn_swapped, numbered_swapped}
 use Rattle.layout_uses.proofs.{Numbers.shared_agree, Putting.same_numbers}
@@ -24,13 +24,7 @@ use Rattle.pcm_base.specs.declared.refusal.Refusal.TheVariants as refusal
 use Rattle.pcm_base.specs.Studio as model
 
 pub pin_quiet : IsQuiet Keep
-pin_quiet = record {
-  needs = λ t. (refl, refl);
-  no_commit = refl;
-  no_track = λ t. refl;
-  no_layout = λ t. refl;
-  quiet = λ t. refl;
-}
+pin_quiet = search rules
 
 module _ {D : Type 0} (disk : Ghosts D) (s : Core D) (is : IsStudio disk s) (fewer : Fewer disk s.store) where
   abbrev src : Sources
@@ -49,24 +43,18 @@ module _ {D : Type 0} (disk : Ghosts D) (s : Core D) (is : IsStudio disk s) (few
   pins = s.pins ++ one ∷ []
 
   pins_all : (P : BlockRef → Type 0) → AllByRecursion P (named_blocks s) → AllByRecursion P (pin_blocks pins)
-  pins_all P all =
-      let rest = all_right P (history_blocks s.history) (pin_blocks s.pins ++ clip_blocks s.clipboard) all in
-      subst (AllByRecursion P) (sym (blocks_more s.pins one))
-      (all_append P (pin_blocks s.pins) (point_blocks current)
-      (all_left P (pin_blocks s.pins) (clip_blocks s.clipboard) rest) (old_names disk s is P all))
+  pins_all P all = search (rules, all_right, blocks_more, all_append, all_left, old_names)
 
   -- the tracks of the points, the pins and the new one
   more_tracks : history_tracks s.history ++ pin_tracks pins ≡ studio_tracks s ++ current
-  more_tracks = ap (λ (ts : List Track). history_tracks s.history ++ ts) (tracks_more s.pins one)
-      ∙ sym (append_assoc (history_tracks s.history) (pin_tracks s.pins) current)
+  more_tracks = search (rules, tracks_more, append_assoc)
 
   -- a stretch in front, and after
   swapped : studio_tracks s ++ (current ++ []) ≡ studio_tracks s ++ current
   swapped = ap (λ (ts : List Track). studio_tracks s ++ ts) (append-nil current)
 
   front_numbered : AreNumbered (current ++ (studio_tracks s ++ []))
-  front_numbered = subst (λ (ts : List Track). AreNumbered (current ++ ts)) (sym (append-nil (studio_tracks s)))
-      (shared_agree current (studio_tracks s) is.numbered (current_among s))
+  front_numbered = search (rules, append-nil, shared_agree, current_among)
 
   front_drawn : AreDrawn s.next_layout (current ++ (studio_tracks s ++ []))
   front_drawn = subst (λ (ts : List Track). AreDrawn s.next_layout (current ++ ts)) (sym (append-nil (studio_tracks s)))
@@ -85,17 +73,13 @@ module _ {D : Type 0} (disk : Ghosts D) (s : Core D) (is : IsStudio disk s) (few
     new = renamed s s.clipboard pins (s.next_pin + 1) uses counts
 
     was : IsTally (studio_tracks s) (clip_blocks s.clipboard) tally
-    was = subst (λ (u : Counts). AreCounts (studio_tracks s) (clip_blocks s.clipboard) u (count_of tally.ledger))
-        (sym uses_are)
-        (subst (λ (c : Counts). AreCounts (studio_tracks s) (clip_blocks s.clipboard) s.uses c) (sym counts_are)
-        is.counted)
+    was = search rules
 
     few : length current + length (studio_tracks s) < 2 ^ 128
     few = omega (arith, tracks_few disk s is, (current_valid disk s is).few)
 
     counted_front : IsTally (current ++ (studio_tracks s ++ [])) (clip_blocks s.clipboard) tally'
-    counted_front = subst (λ (ts : List Track). IsTally (current ++ ts) (clip_blocks s.clipboard) tally')
-        (sym (append-nil (studio_tracks s))) (came.counted (studio_tracks s) (clip_blocks s.clipboard) few was)
+    counted_front = search (rules, append-nil, few, was, came.counted)
 
     pin_renames : Renames s s.clipboard pins (s.next_pin + 1) uses counts
     pin_renames = record {
@@ -124,10 +108,7 @@ module _ {D : Type 0} (disk : Ghosts D) (s : Core D) (is : IsStudio disk s) (few
     }
 
     pin_state : studio_of disk new ≡ record t { state = after (outside t silent) t.state Keep }
-    pin_state =
-        let mean = λ (n : ℕ). with_one src 1 s.next_pin s.pins current n is.numbers
-        ∙ ap (λ (p : Project). with_pin s.next_pin p (pin_at src s.pins) n) (sym (current_meant disk s is)) in
-        λ i. record t { state = record t.state { pins = λ n. mean n i; next_pin = s.next_pin + 1 } }
+    pin_state = search (rules, with_one, current_meant)
 
     pub pinned : Took disk s (quietly Keep (Ok (Pinned s.next_pin))) new
     pinned =

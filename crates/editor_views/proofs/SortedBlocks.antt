@@ -1,8 +1,8 @@
 -- Blocks that are sorted by their ids, and of which each is kept once.
-use Rattle.editor_views.proofs.Common.{◌≡◌, ◌≢◌, ◌∙◌, refl, sym, ap, subst, ℕ, zero, suc, ◌+◌, ◌≤◌, ◌<◌, ◌==◌, List, []}
+use Rattle.editor_views.proofs.Common.{◌≡◌, ◌≢◌, ◌∙◌, refl, sym, ap, subst, ℕ, zero, suc, ◌≤◌, ◌<◌, ◌==◌, List, []}
 use Rattle.editor_views.proofs.Common.{◌∷◌, Bool, true, false, inl, inr, arith, All-from_recursion, Contains}
 use Rattle.editor_views.proofs.Common.{AllByRecursion, BlockRef, all_so}
-use Rattle.std.proofs.Common.{cond}
+use Rattle.std.proofs.Common.{rules}
 use Rattle.std.proofs.lemmas.Bool.{cases_Bool, eqb-true, eqb-false}
 use Rattle.std.proofs.lemmas.List.Elements.{All-contains_itself, recursion_from_All}
 use Rattle.std.proofs.lemmas.List.Kept.{Contains-dedup, Contains-from_dedup}
@@ -41,10 +41,7 @@ over_at : (bs : List BlockRef) → Over bs → IsStrictlyIncreasing (ids_of bs)
 over_at [] o k lt = absurd (omega (arith, lt))
 over_at (b ∷ []) o k lt = absurd (omega (arith, lt))
 over_at (b ∷ c ∷ bs) o zero lt = o.0.0
-over_at (b ∷ c ∷ bs) o (suc k) lt =
-    let e : suc (k + 1) ≡ suc k + 1 = omega arith in
-    subst (λ (n : ℕ). slice_index (ids_of (b ∷ c ∷ bs)) (suc k) < slice_index (ids_of (b ∷ c ∷ bs)) n) e
-    (over_at (c ∷ bs) o.1 k (omega (arith, lt)))
+over_at (b ∷ c ∷ bs) o (suc k) lt = search (rules, slice_index, over_at (c ∷ bs) o.1 k (omega (arith, lt)))
 
 all_in : (bs xs : List BlockRef) → ((b : BlockRef) → Contains xs b → Contains bs b) → AllByRecursion (Contains bs) xs
 all_in bs xs f = recursion_from_All (Contains bs) xs
@@ -55,12 +52,7 @@ abbrev pub is_same : BlockRef → BlockRef → Bool
 is_same x y = x.id == y.id && x.len == y.len
 
 same_both : (x y : BlockRef) → is_same x y ≡ true → x ≡ y
-same_both x y e = by_tests (x.id == y.id) (x.len == y.len) (eqb-true x.id y.id) (eqb-true x.len y.len) e
-  where
-    by_tests : (s t : Bool) → (s ≡ true → x.id ≡ y.id) → (t ≡ true → x.len ≡ y.len) → (s && t) ≡ true → x ≡ y
-    by_tests true true p q e = λ i. record { id = p refl i; len = q refl i }
-    by_tests true false p q e = absurd cc
-    by_tests false t p q e = absurd cc
+same_both x y e = search (rules, eqb-true)
 
 number_itself : (n : ℕ) → n == n ≡ true
 number_itself n = elim (cases_Bool (n == n)) [ inl t ↦ t | inr f ↦ absurd (eqb-false n n f refl) ]
@@ -72,42 +64,22 @@ alike : (x y : BlockRef) → x ≡ y → is_same x y ≡ true
 alike x y e = subst (λ (z : BlockRef). is_same x z ≡ true) e (same_itself x)
 
 same_back : (x y : BlockRef) → is_same x y ≡ is_same y x
-same_back x y = elim (cases_Bool (is_same x y)) [
-  | inl t ↦ t ∙ sym (alike y x (sym (same_both x y t)))
-  | inr f ↦ elim (cases_Bool (is_same y x)) [
-    | inl u ↦ let no : true ≡ false = sym (alike x y (sym (same_both y x u))) ∙ f in absurd cc
-    | inr g ↦ f ∙ sym g
-  ]
-]
+same_back x y = search (rules, cases_Bool, alike, same_both)
 
 same_is : IsEquivalence is_same
-same_is = record {
-  refl = same_itself;
-  symm = same_back;
-  congr = λ x y z e. ap (λ (b : BlockRef). is_same b z) (same_both x y e);
-}
+same_is = search (rules, same_itself, same_back, same_both)
 
 module _ (E : BlockRef → BlockRef → Bool) (is : IsEquivalence E) (same : (x y : BlockRef) → E x y ≡ true → x ≡ y)
     (alike : (x y : BlockRef) → x ≡ y → E x y ≡ true) where
   all_from : (P : BlockRef → Type 0) (k : BlockRef) (xs : List BlockRef) → P k → AllByRecursion P xs
       → AllByRecursion P (dedup_from E k xs)
   all_from P k [] p all = (p, tt)
-  all_from P k (x ∷ xs) p all = pick (E x k) (all_from P k xs p all.1) (all_from P x xs all.0 all.1)
-    where
-      pick : (t : Bool) → AllByRecursion P (dedup_from E k xs) → AllByRecursion P (dedup_from E x xs)
-          → AllByRecursion P (cond t (dedup_from E k xs) (k ∷ dedup_from E x xs))
-      pick true gone kept = gone
-      pick false gone kept = (p, kept)
+  all_from P k (x ∷ xs) p all = search (rules, dedup_from, all_from P k xs p all.1, all_from P x xs all.0 all.1)
 
   up_from : (k : BlockRef) (xs : List BlockRef) → AllByRecursion (λ (c : BlockRef). k.id ≤ c.id) xs → Up xs
       → Up (dedup_from E k xs)
   up_from k [] all up = (tt, tt)
-  up_from k (x ∷ xs) all up = pick (E x k) (up_from k xs all.1 up.1) (up_from x xs up.0 up.1)
-    where
-      pick : (t : Bool) → Up (dedup_from E k xs) → Up (dedup_from E x xs)
-          → Up (cond t (dedup_from E k xs) (k ∷ dedup_from E x xs))
-      pick true gone kept = gone
-      pick false gone kept = (all_from (λ (c : BlockRef). k.id ≤ c.id) x xs all.0 all.1, kept)
+  up_from k (x ∷ xs) all up = search (rules, dedup_from, all_from, up_from k xs all.1 up.1, up_from x xs up.0 up.1)
 
   up_once : (xs : List BlockRef) → Up xs → Up (dedup E xs)
   up_once [] up = tt
@@ -124,19 +96,17 @@ module _ (E : BlockRef → BlockRef → Bool) (is : IsEquivalence E) (same : (x 
     over_from : (k : BlockRef) (xs : List BlockRef) → Contains bs k → AllByRecursion (Contains bs) xs
         → AllByRecursion (λ (c : BlockRef). k.id ≤ c.id) xs → Up xs → Over (dedup_from E k xs)
     over_from k [] hk hs all up = (tt, tt)
-    over_from k (x ∷ xs) hk hs all up = pick (E x k) refl (over_from k xs hk hs.1 all.1 up.1)
-        (over_from x xs hs.0 hs.1 up.0 up.1)
-      where
-        pick : (t : Bool) → E x k ≡ t → Over (dedup_from E k xs) → Over (dedup_from E x xs)
-            → Over (cond t (dedup_from E k xs) (k ∷ dedup_from E x xs))
-        pick true e gone kept = gone
-        pick false e gone kept =
-            let lt = apart k x hk hs.0 all.0 e in (
-              all_from (λ (c : BlockRef). k.id < c.id) x xs lt
-                  (all_so (λ (c : BlockRef). x.id ≤ c.id) (λ (c : BlockRef). k.id < c.id)
-                  (λ c le. omega (arith, lt, le)) xs up.0),
-              kept,
-            )
+    over_from k (x ∷ xs) hk hs all up =
+        search (
+          rules,
+          dedup_from,
+          apart,
+          all_from,
+          all_so,
+          over_from k xs hk hs.1 all.1 up.1,
+          over_from x xs hs.0
+              hs.1 up.0 up.1,
+        )
 
     over_once : (xs : List BlockRef) → AllByRecursion (Contains bs) xs → Up xs → Over (dedup E xs)
     over_once [] hs up = tt

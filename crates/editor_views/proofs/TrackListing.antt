@@ -1,4 +1,5 @@
 -- Telling of the tracks.
+use Rattle.std.proofs.Common.{rules}
 use Rattle.editor_views.proofs.Common.{◌≡◌, refl, sym, ap, ◌∙◌, ℕ, List, [], ◌∷◌, ◌++◌, map, Some, None, Ok, Err, arith}
 use Rattle.editor_views.proofs.Common.{Call, Line, Project, Sources, stop_of, Ghosts, Fewer, sources_of, Track, meant}
 use Rattle.editor_views.proofs.Common.{current_tracks, Core, IsStudio, studio_of, Took, quietly, current_meant, IsQuiet}
@@ -25,13 +26,7 @@ module _ {D : Type 0} (disk : Ghosts D) (s : Core D) (is : IsStudio disk s) (few
   tell = Line command.Tracks
 
   tell_quiet : IsQuiet tell
-  tell_quiet = record {
-    needs = λ t. (refl, refl);
-    no_commit = refl;
-    no_track = λ t. refl;
-    no_layout = λ t. refl;
-    quiet = λ t. refl;
-  }
+  tell_quiet = search rules
 
   pub tell_stopped : (faults : ℕ) → s.stopped ≡ Some faults → Took disk s (quietly tell (Err (refusal.Stopped faults)))
       s

@@ -1,6 +1,7 @@
 -- Letting a pin go is a step; and what holds of a pin that is found.
+use Rattle.std.proofs.Common.{rules, Contains}
 use Rattle.editor_views.proofs.Common.{◌≡◌, refl, sym, ap, ◌∙◌, subst, ℕ, List, ◌∷◌, ◌++◌, Option, Some, None, Ok, Err}
-use Rattle.editor_views.proofs.Common.{append_assoc, IsSome, ◌↔◌, arith, AllByRecursion, after, without_pin, BlockRef}
+use Rattle.editor_views.proofs.Common.{append_assoc, IsSome, ◌↔◌, arith, AllByRecursion, after, BlockRef}
 use Rattle.editor_views.proofs.Common.{Sources, refused_if, outside, Ghosts, Fewer, sources_of, IsWhole, Counts}
 use Rattle.editor_views.proofs.Common.{count_of, Track, meant, point_blocks, history_blocks, IsValidPoint, all_append}
 use Rattle.editor_views.proofs.Common.{PinsRise, IsHeld, IsStudio, pin_at, pin_blocks, pin_tracks, clip_blocks}
@@ -8,7 +9,6 @@ use Rattle.editor_views.proofs.Common.{named_blocks, studio_of, studio_tracks, C
 use Rattle.editor_views.proofs.Common.{AreCounts, IsTally, Tally, AreDrawn, AreNumbered, history_tracks, counts_swapped}
 use Rattle.editor_views.proofs.Common.{LacksPin, MayFind, renamed, Renames, renamed_took, IsQuiet, quiet_passes}
 use Rattle.editor_views.proofs.Common.{carried, room_of, refused_own, all_left, all_right, fits, may_read}
-use Rattle.std.proofs.Common.{Contains}
 use Rattle.std.specs.{Prelude.is_none}
 use Rattle.pcm_base.specs.{declared.answer.Reply.TheVariants.Done, declared.command.Call.TheVariants.Unpin}
 use Rattle.sample_block.specs.Sources.{AllNamed, AllWhole}
@@ -34,13 +34,7 @@ module _ {D : Type 0} (disk : Ghosts D) (s : Core D) (is : IsStudio disk s) (num
   Valid p = IsValidPoint s.block_size s.next_block s.next_track p.point
 
   pub unpin_quiet : IsQuiet (Unpin number)
-  unpin_quiet = record {
-    needs = λ t. (refl, refl);
-    no_commit = refl;
-    no_track = λ t. refl;
-    no_layout = λ t. refl;
-    quiet = λ t. refl;
-  }
+  unpin_quiet = search rules
 
   -- ---- a pin that is found, or not
 
@@ -66,10 +60,7 @@ module _ {D : Type 0} (disk : Ghosts D) (s : Core D) (is : IsStudio disk s) (num
 
     -- what holds of all that the studio names holds of what the pin names
     of_pin : (P : BlockRef → Type 0) → AllByRecursion P (named_blocks s) → AllByRecursion P (point_blocks point)
-    of_pin P all =
-        let rest = all_right P (history_blocks s.history) (pin_blocks s.pins ++ clip_blocks s.clipboard) all in
-        let own = all_left P (pin_blocks s.pins) (clip_blocks s.clipboard) rest in
-        blocks_of_one P found.0 found.1 it (subst (λ (z : List Pin). AllByRecursion P (pin_blocks z)) found.2 own)
+    of_pin P all = search (rules, all_right, all_left, blocks_of_one)
 
     pub pin_whole : IsHeld disk s → AllWhole (disk.reads s.store) (point_blocks point)
     pin_whole held = of_pin (IsWhole (disk.reads s.store)) held.whole
@@ -93,14 +84,10 @@ module _ {D : Type 0} (disk : Ghosts D) (s : Core D) (is : IsStudio disk s) (num
     stay = front_tracks ++ pin_tracks back
 
     tracks_before : studio_tracks s ≡ front_tracks ++ (pin.point ++ pin_tracks back)
-    tracks_before = ap (λ (z : List Pin). history_tracks s.history ++ pin_tracks z) takes.before
-        ∙ ap (λ (ts : List Track). history_tracks s.history ++ ts) (tracks_around front (pin ∷ back))
-        ∙ sym (append_assoc (history_tracks s.history) (pin_tracks front) (pin.point ++ pin_tracks back))
+    tracks_before = search (rules, tracks_around, append_assoc)
 
     tracks_after : history_tracks s.history ++ pin_tracks pins ≡ stay
-    tracks_after = ap (λ (z : List Pin). history_tracks s.history ++ pin_tracks z) takes.after
-        ∙ ap (λ (ts : List Track). history_tracks s.history ++ ts) (tracks_around front back)
-        ∙ sym (append_assoc (history_tracks s.history) (pin_tracks front) (pin_tracks back))
+    tracks_after = search (rules, tracks_around, append_assoc)
 
     numbered_before : AreNumbered (front_tracks ++ (pin.point ++ pin_tracks back))
     numbered_before = subst AreNumbered tracks_before is.numbered
@@ -113,11 +100,7 @@ module _ {D : Type 0} (disk : Ghosts D) (s : Core D) (is : IsStudio disk s) (num
 
     pin_counted : (tally : Tally) → count_of tally.uses ≡ s.uses → count_of tally.ledger ≡ s.counts
         → IsTally (pin.point ++ stay) (clip_blocks s.clipboard) tally
-    pin_counted tally uses_are counts_are =
-        subst (λ (u : Counts). AreCounts (pin.point ++ stay) (clip_blocks s.clipboard) u (count_of tally.ledger))
-        (sym uses_are)
-        (subst (λ (c : Counts). AreCounts (pin.point ++ stay) (clip_blocks s.clipboard) s.uses c) (sym counts_are)
-        counted_front)
+    pin_counted tally uses_are counts_are = search (rules, counted_front)
 
     -- its layouts are used
     pub pin_uses : (tally : Tally) → count_of tally.uses ≡ s.uses → count_of tally.ledger ≡ s.counts
@@ -129,9 +112,7 @@ module _ {D : Type 0} (disk : Ghosts D) (s : Core D) (is : IsStudio disk s) (num
     }
 
     less_all : (P : BlockRef → Type 0) → AllByRecursion P (pin_blocks s.pins) → AllByRecursion P (pin_blocks pins)
-    less_all P all =
-        subst (λ (z : List Pin). AllByRecursion P (pin_blocks z)) (sym takes.after)
-        (blocks_but P front back pin (subst (λ (z : List Pin). AllByRecursion P (pin_blocks z)) takes.before all))
+    less_all P all = search (rules, blocks_but)
 
     module _ (tally tally' : Tally) (uses_are : count_of tally.uses ≡ s.uses)
         (counts_are : count_of tally.ledger ≡ s.counts) (goes : Goes pin.point tally tally') where
@@ -170,14 +151,10 @@ module _ {D : Type 0} (disk : Ghosts D) (s : Core D) (is : IsStudio disk s) (num
       }
 
       held_there : MayFind s.pins number (Some pin.point)
-      held_there =
-          (front, back, takes.before ∙ (λ i. front ++ record { number = takes.is i; point = pin.point } ∷ back))
+      held_there = search (rules, takes.is)
 
       unpin_state : studio_of disk new ≡ record t { state = after (outside t silent) t.state (Unpin number) }
-      unpin_state =
-          let mean = λ (n : ℕ). ap (λ (z : List Pin). pin_at src z n) takes.after ∙ without_one src 1 s.next_pin front
-          back pin n rise ∙ (λ i. without_pin (takes.is i) (pin_at src (sym takes.before i)) n) in
-          λ i. record t { state = record t.state { pins = λ n. mean n i } }
+      unpin_state = search (rules, without_one, rise, takes.is)
 
       pub unpinned : Fewer disk s.store → Took disk s (quietly (Unpin number) (Ok Done)) new
       unpinned fewer =
@@ -191,5 +168,4 @@ module _ {D : Type 0} (disk : Ghosts D) (s : Core D) (is : IsStudio disk s) (num
 
   pub unpin_lacks : Fewer disk s.store → LacksPin number s.pins
       → Took disk s (quietly (Unpin number) (Err (refusal.NoPin number))) s
-  unpin_lacks fewer lacks =
-      refused_own disk s (Unpin number) unpin_quiet tt is fewer (refusal.NoPin number) refl (lacks_own lacks)
+  unpin_lacks fewer lacks = search (rules, refused_own, unpin_quiet, lacks_own)

@@ -1,5 +1,5 @@
 -- The reasons of tests and of faults.
-use Rattle.envelope_view.proofs.Common.{◌≡◌, true, ℕ, List, Result, Ok, Err, refl, sym, subst, arith, Files, Ghosts}
+use Rattle.envelope_view.proofs.Common.{◌≡◌, ℕ, List, Result, Ok, Err, refl, sym, subst, arith, Files, Ghosts}
 use Rattle.envelope_view.proofs.Common.{BlockRef, AllWhole, IsWhole, BlockFault, BlockReader, Entries, SameCache, Reads}
 use Rattle.envelope_view.proofs.Common.{reads_err}
 use Rattle.std.specs.Prelude.{IfErr, IsOk}

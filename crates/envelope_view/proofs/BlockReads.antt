@@ -1,17 +1,17 @@
 -- Reads of one block in turn, by what each gives.
 use Rattle.envelope_view.proofs.Common.{◌≡◌, ◌∙◌, true, ℕ, ◌+◌, ◌-◌, ◌*◌, ◌^◌, ◌≤◌, ◌<◌, ℤ, List, length, take, drop}
 use Rattle.envelope_view.proofs.Common.{Some, Result, Ok, Err, min, refl, sym, ap, subst, arith, fold, Files, Ghosts}
-use Rattle.envelope_view.proofs.Common.{BlockRef, part, blocks, BlockFault, Level, frame_len, Short, Long, BlockReader}
-use Rattle.envelope_view.proofs.Common.{Entries, HasFrames, HasSamples, SameCache, Reads, Hits, same_none, reads_err}
+use Rattle.envelope_view.proofs.Common.{BlockRef, blocks, BlockFault, Level, frame_len, Short, Long, BlockReader}
+use Rattle.envelope_view.proofs.Common.{Entries, HasFrames, HasSamples, SameCache, same_none, reads_err}
 use Rattle.envelope_view.proofs.Common.{reads_none, reads_ok, reads_then, told_on, Summary, AreSamples, frame_count}
-use Rattle.envelope_view.proofs.Common.{frames_of, joined, nothing, summary_of, HasPart, IsSum, false≢true}
-use Rattle.std.specs.Prelude.{IfOk, OnOk, IsErrAnd}
+use Rattle.envelope_view.proofs.Common.{frames_of, joined, nothing, summary_of, HasPart, false≢true}
+use Rattle.std.specs.Prelude.{IfOk, IsErrAnd}
 use Rattle.disk_model.proofs.Frames.{Fewer, tells_back}
 use Rattle.pcm_base.proofs.Exits.{after_err}
 use Rattle.block_cache.proofs.CacheLaws.{same_turn}
 use Rattle.block_cache.proofs.ReaderLaws.{there_on}
 use Rattle.envelope_view.specs.{Parts.OfBlock, Parts.ReadsBlock, Parts.Sums, Parts.SumsFrames}
-use Rattle.envelope_view.proofs.KeptLaws.{frames_on, part_frames, part_in, part_on, part_samples}
+use Rattle.envelope_view.proofs.KeptLaws.{part_frames, part_in, part_on, part_samples}
 use Rattle.envelope_view.proofs.SumLaws.{block_samples_few, block_samples_fit, frames_read, part_end, part_joined}
 use Rattle.envelope_view.proofs.SumLaws.{stop_same}
 use Rattle.std.proofs.{lemmas.Result.IfOk-weaker}
@@ -25,11 +25,6 @@ pub record AreOf (b : BlockRef) (xs : List ℤ) : Type 0 where
 both : {T P : Type 0} (Q : T → Type 0) (r : Result T BlockFault) → P → IfOk r Q → IfOk r (λ y. P × Q y)
 both Q (Ok y) p q = (p, q)
 both Q (Err e) p q = tt
-
--- the pages of as many frames
-pub frames_among : (a : Entries) (l : Level) (b : BlockRef) (first n m : ℕ) → m ≡ n → HasFrames a l b first n
-    → HasFrames a l b first m
-frames_among a l b first n m size has = subst (λ (k : ℕ). HasFrames a l b first k) (sym size) has
 
 frames_some : (l : Level) → 0 < frame_len l
 frames_some Short = omega arith
@@ -186,17 +181,16 @@ module _ {D : Type 0} {disk : Ghosts D} where
   sums_then_err {b = b} {from = from} {mid = mid} {to = to} {a = a} {m = m} r same low high f g =
       block_err r same (two_parts from to f g (omega arith) high low (omega arith)) (λ has. has)
 
-  -- frames that were read are joined
-  pub frames_sum : {b : BlockRef} (l : Level) {first end m : ℕ} {out : List Summary} {a c : BlockReader D disk}
-      (s : Summary) → first ≤ end → end ≤ frame_count (frame_len l) b.len → m ≡ end - first
-      → s ≡ fold joined nothing out
-      → ReadsBlock b (λ e. HasFrames e l b first m) (λ xs x. out ≡ take m (drop first (frames_of (frame_len l) xs))) a c
-      (Ok (tt {0}))
-      → SumsFrames b l first end a c (Ok s)
-  frames_sum {b = b} l {first = first} {end = end} {m = m} {out = out} {a = a} s rising within size is f =
-      block_ok f (frames_among a.cache l b first (end - first) m size) (λ xs of got.
-      frames_read (frame_len l) first end m xs s out of.fit of.few rising
-      (subst (λ (n : ℕ). end ≤ frame_count (frame_len l) n) (sym of.len) within) is got size)
+  -- frames that were joined
+  pub frames_sum : {b : BlockRef} (l : Level) {first end : ℕ} {a c : BlockReader D disk} (r : Result Summary BlockFault)
+      → first ≤ end → end ≤ frame_count (frame_len l) b.len
+      → ReadsBlock b (λ e. HasFrames e l b first (end - first))
+      (λ xs s. s ≡ fold joined nothing (take (end - first) (drop first (frames_of (frame_len l) xs)))) a c r
+      → SumsFrames b l first end a c r
+  frames_sum {b = b} l {first = first} {end = end} r rising within f =
+      block_weaker r f (λ has. has) (λ xs of s is.
+      frames_read (frame_len l) first end xs s of.fit of.few rising
+      (subst (λ (n : ℕ). end ≤ frame_count (frame_len l) n) (sym of.len) within) is)
 
   -- where frames failed
   pub frames_err : {b : BlockRef} (l : Level) {first end : ℕ} {a c : BlockReader D disk} {why : BlockFault} (to : ℕ)

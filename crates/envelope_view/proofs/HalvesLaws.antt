@@ -66,15 +66,6 @@ rest_before a b c xs w s fit few low high within whole side =
     } in
     subst (λ (z : Summary). IsRest w z front) (sym side) other
 
--- frames that were read, all but the last, and the last
-pub all_but_last : {X : Type 0} (fs out : List X) (first n : ℕ) → out ≡ take (n + 1) (drop first fs)
-    → take n out ≡ take n (drop first fs)
-all_but_last fs out first n is = ap (take n) is ∙ take-take n (n + 1) (drop first fs) (omega arith)
-
-pub last_alone : {X : Type 0} (fs out : List X) (first n : ℕ) → out ≡ take (n + 1) (drop first fs)
-    → drop n out ≡ take 1 (drop (first + n) fs)
-last_alone fs out first n is = ap (drop n) is ∙ drop-take n 1 (drop first fs) ∙ ap (take 1) (drop-drop n first fs)
-
 -- of samples that were read, those before an edge and those from it on
 pub front_part : (a b c : ℕ) (xs out : List ℤ) → a ≤ b → b ≤ c → out ≡ take (c - a) (drop a xs)
     → take (b - a) out ≡ part a b xs

@@ -79,7 +79,7 @@ take_range f from (suc a) (suc count) le =
     ap (λ (ss : List Summary). f from ∷ ss) (take_range f (from + 1) a count (omega arith))
 
 -- whole frames joined
-pub frames_joined : (n first k : ℕ) (xs : List ℤ) → AreSamples xs → length xs ≤ 2 ^ 32
+frames_joined : (n first k : ℕ) (xs : List ℤ) → AreSamples xs → length xs ≤ 2 ^ 32
     → first + k ≤ frame_count n (length xs)
     → fold joined nothing (take k (drop first (frames_of n xs))) ≡ summary_of (part (n * first) (n * (first + k)) xs)
 frames_joined n first k xs fit few le =
@@ -93,14 +93,12 @@ frames_joined n first k xs fit few le =
     ∙ ap (λ (i : ℕ). fold joined nothing (map (frame_of n xs) (range_with_len i k))) zero_first
     ∙ frames_run n first k (n * first) xs nothing fit few (omega arith) (ap summary_of (sym none))
 
-pub frames_read : (n first end m : ℕ) (xs : List ℤ) (s : Summary) (out : List Summary) → AreSamples xs
-    → length xs ≤ 2 ^ 32 → first ≤ end → end ≤ frame_count n (length xs)
-    → s ≡ fold joined nothing out → out ≡ take m (drop first (frames_of n xs)) → m ≡ end - first
+pub frames_read : (n first end : ℕ) (xs : List ℤ) (s : Summary) → AreSamples xs → length xs ≤ 2 ^ 32 → first ≤ end
+    → end ≤ frame_count n (length xs) → s ≡ fold joined nothing (take (end - first) (drop first (frames_of n xs)))
     → s ≡ summary_of (part (n * first) (n * end) xs)
-frames_read n first end m xs s out fit few rising within is read size =
+frames_read n first end xs s fit few rising within is =
     let e : first + (end - first) ≡ end = omega arith in
-    is ∙ ap (fold joined nothing) (read ∙ ap (λ (k : ℕ). take k (drop first (frames_of n xs))) size)
-    ∙ frames_joined n first (end - first) xs fit few (omega (arith, within))
+    is ∙ frames_joined n first (end - first) xs fit few (omega (arith, within))
     ∙ ap (λ (j : ℕ). summary_of (part (n * first) (n * j) xs)) e
 
 -- where frames that end a block end

@@ -1,24 +1,18 @@
 // The two sides of an edge inside a long frame: the shorter side is read, and the frame's own summary tells the other.
-ghost use Rattle.std.specs.Prelude.{◌≡◌, ◌≤◌, ◌<◌, ◌+◌, ◌-◌, ◌*◌, IfSome};
+ghost use Rattle.std.specs.Prelude.{◌≡◌, ◌≤◌, ◌<◌, ◌+◌, ◌*◌, IfSome};
 ghost use Rattle.sample_block.specs.Spelling.{IsBlock};
-ghost use Rattle.block_store.specs.declared.frames.Level.TheVariants.{Long};
-ghost use Rattle.block_cache.specs.Caches.{HasFrames};
-ghost use Rattle.peak_summary.specs.Peaks.{frame_count};
 ghost use Rattle.peak_summary.specs.declared.stretch.Summary.{Summary as Sum};
-ghost use Rattle.envelope_view.specs.Parts.{IsSum, OfBlock, ReadsBlock, Sums};
-ghost use Rattle.envelope_view.specs.Halves.{AreHalves, IsRest, SumsHalves};
+ghost use Rattle.envelope_view.specs.Parts.{IsSum, OfBlock, Sums};
+ghost use Rattle.envelope_view.specs.Halves.{IsRest, SumsHalves};
 
-use super::parts::{by_short, join_all, summarize};
-use super::reads::{read_frames, read_samples};
+use super::parts::{by_frames, by_short, summarize};
+use super::reads::read_samples;
 use block_cache::BlockReader;
 use block_store::{BlockFault, Level};
 use disk_model::Store;
 use pcm_base::BlockRef;
-use peak_summary::{NOTHING, Summary, join, of};
+use peak_summary::{Summary, join, of};
 use sample_block::LONG_FRAME;
-
-/// How many long frames a block has at most.
-const MOST: usize = 4;
 
 /// From one place of a block up to another, with an edge between them.
 #[derive(Clone, Copy)]
@@ -64,7 +58,6 @@ fn other_side<S: Store>(
     requires block { IsBlock block.id block.len }
     requires rising { from ≤ to }
     requires within { to ≤ block.len }
-    requires few { to ≤ from + LONG_FRAME }
     requires rest { OfBlock reader.old block (λ xs. IfSome rest (IsSum from to xs)) }
     ensures { Sums block from to to reader.old reader.new result }
 {
@@ -86,7 +79,6 @@ fn before_first<S: Store>(
     requires before { at.from < at.edge }
     requires behind { at.edge < at.to }
     requires within { at.to ≤ block.len }
-    requires few { at.to ≤ at.from + LONG_FRAME }
     requires whole { OfBlock reader.old block (λ xs. IsSum at.from at.to xs whole) }
     ensures { SumsHalves block at reader.old reader.new result }
 {
@@ -108,7 +100,6 @@ fn after_first<S: Store>(
     requires before { at.from < at.edge }
     requires behind { at.edge < at.to }
     requires within { at.to ≤ block.len }
-    requires few { at.to ≤ at.from + LONG_FRAME }
     requires whole { OfBlock reader.old block (λ xs. IsSum at.from at.to xs whole) }
     ensures { SumsHalves block at reader.old reader.new result }
 {
@@ -130,7 +121,6 @@ fn sides<S: Store>(
     requires before { at.from < at.edge }
     requires behind { at.edge < at.to }
     requires within { at.to ≤ block.len }
-    requires few { at.to ≤ at.from + LONG_FRAME }
     requires whole { OfBlock reader.old block (λ xs. IsSum at.from at.to xs whole) }
     ensures { SumsHalves block at reader.old reader.new result }
 {
@@ -138,29 +128,6 @@ fn sides<S: Store>(
         return before_first(reader, block, reach, at, whole);
     }
     after_first(reader, block, reach, at, whole)
-}
-
-/// From the long frames from number `first` up to `last`, and that one by itself, in one read.
-fn long_frames<S: Store>(
-    reader: &mut BlockReader<S>,
-    block: BlockRef,
-    first: u32,
-    last: u32,
-) -> Result<Halves, BlockFault>
-    requires block { IsBlock block.id block.len }
-    requires rising { first ≤ last }
-    requires within { last < frame_count LONG_FRAME block.len }
-    ensures { ReadsBlock block (λ c. HasFrames c Long block first (last + 1 - first)) (AreHalves
-        (record { from = LONG_FRAME * first; edge = LONG_FRAME * last; to = LONG_FRAME * last + LONG_FRAME }))
-        reader.old reader.new result }
-{
-    let mut buf = [NOTHING; MOST];
-    let count = (last - first) as usize;
-    let page = &mut buf[..count + 1];
-    read_frames(reader, block, 0, Level::Long, first, page)?;
-    let before = join_all(&page[..count]);
-    let after = join_all(&page[count..]);
-    Ok(Halves { before, after })
 }
 
 /// The summaries of a part that ends at an edge inside a long frame, and of what is after the edge up to where the
@@ -181,18 +148,16 @@ pub(crate) fn up_to_edge<S: Store>(
     requires last { at.to < LONG_FRAME * frame + LONG_FRAME → at.to ≡ block.len }
     ensures { SumsHalves block at reader.old reader.new result }
 {
-    let first = at.from.div_ceil(LONG_FRAME);
-    let front = by_short(reader, block, reach, at.from, LONG_FRAME * first)?;
-    let long = long_frames(reader, block, first, frame)?;
+    let front = summarize(reader, block, reach, at.from, LONG_FRAME * frame)?;
+    let whole = by_frames(reader, block, reach, Level::Long, frame, frame + 1)?;
     let inside = Split {
         from: LONG_FRAME * frame,
         edge: at.edge,
         to: at.to,
     };
-    let halves = sides(reader, block, reach, inside, long.after)?;
-    let before = join(join(front, long.before), halves.before);
+    let halves = sides(reader, block, reach, inside, whole)?;
     Ok(Halves {
-        before,
+        before: join(front, halves.before),
         after: halves.after,
     })
 }

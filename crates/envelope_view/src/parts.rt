@@ -1,13 +1,13 @@
 // The summary of a part of a block, from whole frames and the samples at its edges.
-ghost use Rattle.std.specs.Prelude.{◌≡◌, ◌≤◌, ◌<◌, ◌+◌, ◌*◌, fold};
+ghost use Rattle.std.specs.Prelude.{◌≡◌, ◌≤◌, ◌<◌, ◌+◌, ◌*◌};
 ghost use Rattle.pcm_base.specs.declared.limits.TheConstants.{MAX_BLOCK_SAMPLES};
 ghost use Rattle.sample_block.specs.Spelling.{IsBlock};
 ghost use Rattle.block_store.specs.Reads.{frame_len};
 ghost use Rattle.block_store.specs.declared.frames.Level.TheVariants.{Short, Long};
-ghost use Rattle.peak_summary.specs.Peaks.{joined, nothing, frame_count};
+ghost use Rattle.peak_summary.specs.Peaks.{frame_count};
 ghost use Rattle.envelope_view.specs.Parts.{Sums, SumsFrames};
 
-use super::reads::{read_frames, read_samples};
+use super::reads::read_samples;
 use block_cache::BlockReader;
 use block_store::{BlockFault, Level};
 use disk_model::Store;
@@ -15,22 +15,8 @@ use pcm_base::BlockRef;
 use peak_summary::{NOTHING, Summary, join, of};
 use sample_block::LONG_FRAME;
 
-/// How many samples, or frames, are read at once.
+/// How many samples are read at once.
 const BUFFER_LEN: usize = 512;
-
-/// How many frames are few.
-const FEW: usize = 128;
-
-/// The summary of stretches that follow one another.
-pub(crate) fn join_all(summaries: &[Summary]) -> Summary
-    ensures { result ≡ fold joined nothing summaries.now }
-{
-    let mut all = NOTHING;
-    for s in summaries {
-        all = join(all, *s);
-    }
-    all
-}
 
 /// The number of the frame of 256 samples at which the whole frames before `to` end. The last frame of a block, which
 /// may be of fewer samples, is whole where the part ends with the block.
@@ -86,9 +72,8 @@ fn by_samples<S: Store>(
     Ok(of(samples))
 }
 
-/// From whole frames that are few: a small buffer is made sooner.
-#[inline(never)]
-fn by_few_frames<S: Store>(
+/// From whole frames, from number `first` up to `end`: of long ones by their page, and of short ones as samples are read.
+pub(crate) fn by_frames<S: Store>(
     reader: &mut BlockReader<S>,
     block: BlockRef,
     reach: u64,
@@ -99,39 +84,10 @@ fn by_few_frames<S: Store>(
     requires block { IsBlock block.id block.len }
     requires rising { first ≤ end }
     requires within { end ≤ frame_count (frame_len level) block.len }
-    requires few { end ≤ first + 128 }
     ensures { SumsFrames block level first end reader.old reader.new result }
 {
-    let mut buf = [NOTHING; FEW];
-    let frames = &mut buf[..(end - first) as usize];
-    read_frames(reader, block, reach, level, first, frames)?;
-    Ok(join_all(frames))
-}
-
-/// From whole frames, from number `first` up to `end`. It is kept out of its callers, whose other reads are slower
-/// where its buffer stands beside theirs.
-#[inline(never)]
-fn by_frames<S: Store>(
-    reader: &mut BlockReader<S>,
-    block: BlockRef,
-    reach: u64,
-    level: Level,
-    first: u32,
-    end: u32,
-) -> Result<Summary, BlockFault>
-    requires block { IsBlock block.id block.len }
-    requires rising { first ≤ end }
-    requires within { end ≤ frame_count (frame_len level) block.len }
-    requires few { end ≤ first + 512 }
-    ensures { SumsFrames block level first end reader.old reader.new result }
-{
-    if end - first <= FEW as u32 {
-        return by_few_frames(reader, block, reach, level, first, end);
-    }
-    let mut buf = [NOTHING; BUFFER_LEN];
-    let frames = &mut buf[..(end - first) as usize];
-    read_frames(reader, block, reach, level, first, frames)?;
-    Ok(join_all(frames))
+    let once = level == Level::Short && reach >= u64::from(LONG_FRAME);
+    reader.join_frames(block, level, first, end - first, once)
 }
 
 /// From whole short frames, from number `first` up to `end`, and the samples after them up to `to`.
@@ -147,7 +103,6 @@ fn short_then_samples<S: Store>(
     requires rising { first < end }
     requires within { to ≤ block.len }
     requires frames { end ≤ frame_count 256 block.len }
-    requires few { end ≤ first + 512 }
     requires behind { 256 * end < to + 256 }
     requires rest { to < 256 * end + 256 }
     requires last { to < 256 * end → to ≡ block.len }
@@ -170,7 +125,6 @@ pub(crate) fn by_short<S: Store>(
     requires block { IsBlock block.id block.len }
     requires rising { from ≤ to }
     requires within { to ≤ block.len }
-    requires few { to ≤ from + 131072 }
     ensures { Sums block from to to reader.old reader.new result }
 {
     let first = from.div_ceil(256);

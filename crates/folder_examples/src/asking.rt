@@ -1,7 +1,7 @@
 // What tests ask of a store over a folder whose calls are watched, step by step.
 use crate::watch::{Call, Watch};
 use crate::watched::watch_files;
-use disk_model::{ListFault, Store};
+use disk_model::{ListFault, Part, Store};
 use project_folder::FolderStore;
 use std::alloc::{AllocError, Global};
 use std::io::ErrorKind;
@@ -11,6 +11,7 @@ use std::io::ErrorKind;
 pub(crate) enum Asked {
     Size,
     Read,
+    Parts,
     Write,
     Sync,
     Remove,
@@ -19,7 +20,7 @@ pub(crate) enum Asked {
 impl Asked {
     pub(crate) fn is_change(self) -> bool {
         match self {
-            Asked::Size | Asked::Read => false,
+            Asked::Size | Asked::Read | Asked::Parts => false,
             Asked::Write | Asked::Sync | Asked::Remove => true,
         }
     }
@@ -65,12 +66,24 @@ pub(crate) enum Step {
     Counts([u32; 6]),
 }
 
+// Whether the first two samples of a file are read in a call of parts.
+fn reads_part<S: Store>(store: &mut S, file: u64) -> bool {
+    let part = Part {
+        file,
+        at: 0,
+        to: 0,
+        len: 2,
+    };
+    store.read_parts(&[part], &mut [0i16; 2]).is_ok()
+}
+
 // Whether the call succeeds.
 pub(crate) fn ask<S: Store>(store: &mut S, asked: Asked, file: u64) -> bool {
     let mut buf = [0u8; 4];
     match asked {
         Asked::Size => store.size(file).is_ok(),
         Asked::Read => store.read_at(file, 0, &mut buf).is_ok(),
+        Asked::Parts => reads_part(store, file),
         Asked::Write => store.write_at(file, 0, b"abcd").is_ok(),
         Asked::Sync => store.sync(file).is_ok(),
         Asked::Remove => store.remove(file).is_ok(),

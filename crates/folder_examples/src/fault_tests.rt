@@ -8,11 +8,14 @@ use std::io::ErrorKind;
 
 /// Calls on file 16, which is there, and on file 17, which is absent, each with the call of the system that fails below
 /// it, and how many of that kind are served before.
-static FAULTS: [(Asked, u64, Call, u32); 21] = [
+static FAULTS: [(Asked, u64, Call, u32); 24] = [
     (Asked::Size, 16, Call::Look, 0),
     (Asked::Read, 16, Call::Look, 0),
     (Asked::Read, 16, Call::Open, 0),
     (Asked::Read, 16, Call::Read, 0),
+    (Asked::Parts, 16, Call::Look, 0),
+    (Asked::Parts, 16, Call::Open, 0),
+    (Asked::Parts, 16, Call::Read, 0),
     // The folder, the file where it is to be made, and the file.
     (Asked::Write, 16, Call::Open, 0),
     (Asked::Write, 16, Call::Open, 1),

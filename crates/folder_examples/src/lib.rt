@@ -10,6 +10,8 @@ mod fault_tests;
 #[cfg(test)]
 mod flags;
 #[cfg(test)]
+mod parts_tests;
+#[cfg(test)]
 mod port_fault_tests;
 #[cfg(test)]
 mod port_tests;

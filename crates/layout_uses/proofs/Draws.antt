@@ -1,5 +1,5 @@
 -- Numbers that layouts get.
-use Rattle.layout_uses.proofs.Common.{◌≡◌, ⊎_elim, inl, inr, refl, sym, ap, ◌∙◌, subst, ℕ, ◌≤◌, ◌<◌, List, [], ◌∷◌}
+use Rattle.layout_uses.proofs.Common.{◌≡◌, ⊎_elim, inl, inr, sym, ap, ◌∙◌, ℕ, ◌≤◌, ◌<◌, List, [], ◌∷◌}
 use Rattle.layout_uses.proofs.Common.{◌++◌, arith, map, Some, length, slice_get, zero, suc, cases_eq, eq-eqb, ne_eqb}
 use Rattle.layout_uses.proofs.Common.{length-map, Track, AllBelow, track_of, unnumbered, Agree, AgreesWith, AreDrawn}
 use Rattle.layout_uses.proofs.Common.{AreNumbered, Draws, HasNumbers, AreAmong, IsAmong}
@@ -8,15 +8,7 @@ use Rattle.layout_uses.proofs.{Numbers.among_agrees, Moves.flipped}
 
 pub found_among : (id : ℕ) (ts : List Track) (t : Track) → track_of id ts ≡ Some t → IsAmong t ts
 found_among id [] t is = absurd cc
-found_among id (u ∷ us) t is = ⊎_elim
-    (λ same.
-    let here : track_of id (u ∷ us) ≡ Some u = rw (eq-eqb id u.id same) refl in
-    let one : Some u ≡ Some t = sym here ∙ is in
-    inl cc)
-    (λ ne.
-    let rest : track_of id (u ∷ us) ≡ track_of id us = rw (ne_eqb id u.id ne) refl in
-    inr (found_among id us t (sym rest ∙ is)))
-    (cases_eq id u.id)
+found_among id (u ∷ us) t is = search (arith, found_among id us t, eq-eqb, ne_eqb, cases_eq)
 
 -- a track at a place is among all
 pub at_among : (ts : List Track) (i : ℕ) (t : Track) → slice_get ts i ≡ Some t → IsAmong t ts
@@ -28,12 +20,7 @@ at_among (u ∷ us) (suc i) t here = inr (at_among us i t here)
 pub kept_among : (current ts : List Track) (i : ℕ) (t : Track) → slice_get ts i ≡ Some t → AreNewOrCurrent current ts
     → 0 < t.number → IsAmong t current
 kept_among current [] i t here kept some = absurd cc
-kept_among current (u ∷ us) zero t here kept some =
-    let same : u ≡ t = cc in
-    ⊎_elim
-    (λ none. absurd (omega (arith, none, some, ap (λ (x : Track). x.number) same)))
-    (λ found. subst (λ (x : Track). IsAmong x current) same (found_among u.id current u found))
-    kept.0
+kept_among current (u ∷ us) zero t here kept some = search (arith, found_among)
 kept_among current (u ∷ us) (suc i) t here kept some = kept_among current us i t here kept.1 some
 
 -- ---- a track more at the end
@@ -46,10 +33,7 @@ agrees_at t x (z ∷ zs) ys one agree = (agree.0, agrees_at t x zs ys one agree.
 numbered_at : (t : Track) (xs ys : List Track) → AgreesWith t (xs ++ ys) → AreNumbered (xs ++ ys)
     → AreNumbered ((xs ++ t ∷ []) ++ ys)
 numbered_at t [] ys agree numbered = (agree, numbered)
-numbered_at t (x ∷ xs) ys agree numbered = (
-  agrees_at t x xs ys (flipped t x agree.0) numbered.0,
-  numbered_at t xs ys agree.1 numbered.1,
-)
+numbered_at t (x ∷ xs) ys agree numbered = search (arith, numbered_at t xs ys agree.1 numbered.1, agrees_at, flipped)
 
 drawn_at : (next : ℕ) (t : Track) (xs ys : List Track) → t.number < next → AreDrawn next (xs ++ ys)
     → AreDrawn next ((xs ++ t ∷ []) ++ ys)
@@ -62,22 +46,15 @@ drawn_up low high (t ∷ ts) le drawn = (omega (arith, le, drawn.0), drawn_up lo
 
 pub drawn_one : (next : ℕ) (t : Track) (ts : List Track) → AreDrawn next ts → IsAmong t ts → t.number < next
 drawn_one next t [] drawn among = absurd among
-drawn_one next t (u ∷ us) drawn among = ⊎_elim
-    (λ same. subst (λ (y : Track). y.number < next) same drawn.0)
-    (λ there. drawn_one next t us drawn.1 there)
-    among
+drawn_one next t (u ∷ us) drawn among = search (arith, drawn_one next t us drawn.1)
 
 pub above_agrees : (next : ℕ) (t : Track) (ts : List Track) → AreDrawn next ts → t.number ≡ next → AgreesWith t ts
 above_agrees next t [] drawn e = tt
-above_agrees next t (u ∷ us) drawn e =
-    (λ same. absurd (omega (arith, drawn.0, same, e)), above_agrees next t us drawn.1 e)
+above_agrees next t (u ∷ us) drawn e = search (arith, above_agrees next t us drawn.1 e)
 
 pub among_all : (t : Track) (xs ts : List Track) → AreAmong xs ts → IsAmong t xs → IsAmong t ts
 among_all t [] ts all among = absurd among
-among_all t (x ∷ xs) ts all among = ⊎_elim
-    (λ same. subst (λ (y : Track). IsAmong y ts) same all.0)
-    (λ there. among_all t xs ts all.1 there)
-    among
+among_all t (x ∷ xs) ts all among = search (arith, among_all t xs ts all.1)
 
 pub among_behind : (t : Track) (xs ts : List Track) → IsAmong t ts → IsAmong t (xs ++ ts)
 among_behind t [] ts among = among
@@ -86,15 +63,10 @@ among_behind t (x ∷ xs) ts among = inr (among_behind t xs ts among)
 pub like_agrees : (t u : Track) (ts : List Track) → t.layout ≡ u.layout → t.number ≡ u.number → AgreesWith t ts
     → AgreesWith u ts
 like_agrees t u [] layout number agree = tt
-like_agrees t u (x ∷ xs) layout number agree =
-    (λ e. sym layout ∙ agree.0 (number ∙ e), like_agrees t u xs layout number agree.1)
+like_agrees t u (x ∷ xs) layout number agree = search (arith, like_agrees t u xs layout number agree.1)
 
 pub numbers_none : (current : List Track) (next : ℕ) → HasNumbers current next [] next
-numbers_none current next = record {
-  least = omega arith;
-  numbered = λ ts numbered drawn among. numbered;
-  drawn = λ ts drawn among. drawn;
-}
+numbers_none current next = search arith
 
 module _ (current : List Track) (next : ℕ) (point : List Track) (last : ℕ) (was : HasNumbers current next point last)
     (t : Track) (draws : Draws t.layout current last t.number) (after : ℕ) (up : last ≤ after)
@@ -126,26 +98,13 @@ module _ (current : List Track) (next : ℕ) (point : List Track) (last : ℕ) (
 module _ (current : List Track) (next : ℕ) (point : List Track) (last : ℕ) (was : HasNumbers current next point last)
     (t : Track) (among : IsAmong t current) where
   pub numbers_kept : HasNumbers current next (point ++ t ∷ []) last
-  numbers_kept = record {
-    least = was.least;
-    numbered = λ ts numbered drawn all.
-        let before = was.numbered ts numbered drawn all in
-        numbered_at t point ts
-        (among_agrees t (point ++ ts) before (among_behind t point ts (among_all t current ts all among))) before;
-    drawn = λ ts drawn all.
-        let low = drawn_one next t ts drawn (among_all t current ts all among) in
-        drawn_at last t point ts (omega (arith, low, was.least)) (was.drawn ts drawn all);
-  }
+  numbers_kept = search (arith, numbered_at, among_agrees, among_behind, among_all, drawn_one, drawn_at)
 
 -- ids of tracks that are the same but for their numbers
 pub below_same : (id : ℕ) (xs ys : List Track) → map unnumbered xs ≡ map unnumbered ys → AllBelow id ys → AllBelow id xs
 below_same id [] ys same below = tt
 below_same id (x ∷ xs) [] same below = absurd cc
-below_same id (x ∷ xs) (y ∷ ys) same below =
-    let head : unnumbered x ≡ unnumbered y = cc in
-    let rest : map unnumbered xs ≡ map unnumbered ys = cc in
-    let ids : x.id ≡ y.id = ap (λ (t : Track). t.id) head in
-    (omega (arith, ids, below.0), below_same id xs ys rest below.1)
+below_same id (x ∷ xs) (y ∷ ys) same below = search (arith, below_same id xs ys)
 
 -- as many tracks
 pub same_length : (xs ys : List Track) → map unnumbered xs ≡ map unnumbered ys → length xs ≡ length ys
@@ -154,11 +113,4 @@ same_length xs ys same = sym (length-map xs unnumbered) ∙ ap length same ∙ l
 -- tracks that are heard the same way, and have the same clips, are the same but for their numbers
 pub same_but_number : (t u : Track) → t.id ≡ u.id → t.gain ≡ u.gain → t.side ≡ u.side → t.mute ≡ u.mute
     → t.layout ≡ u.layout → unnumbered t ≡ unnumbered u
-same_but_number t u id gain side mute layout = λ k. record {
-  id = id k;
-  gain = gain k;
-  side = side k;
-  mute = mute k;
-  number = 0;
-  layout = layout k;
-}
+same_but_number t u id gain side mute layout = search arith

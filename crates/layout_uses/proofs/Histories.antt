@@ -1,14 +1,12 @@
 -- Points of a history.
 use Rattle.layout_uses.proofs.Common.{◌≡◌, refl, sym, ap, ◌∙◌, subst, ℕ, zero, suc, ◌+◌, ◌-◌, ◌^◌, ◌≤◌, ◌<◌, List, []}
-use Rattle.layout_uses.proofs.Common.{◌∷◌, ◌++◌, length, map, take, drop, append_assoc, take-append-drop, slice_get}
+use Rattle.layout_uses.proofs.Common.{◌∷◌, ◌++◌, length, take, drop, append_assoc, take-append-drop, slice_get}
 use Rattle.layout_uses.proofs.Common.{Some, arith, length-append, append-nil, drop-map, length-map, length-take}
 use Rattle.layout_uses.proofs.Common.{map-append, flat_map-append, BlockRef, History, IsHistory, amended, edited}
 use Rattle.layout_uses.proofs.Common.{point_of, points_of, purged, Track, drop_some, take_some, AreDrawn, AreNumbered}
 use Rattle.layout_uses.proofs.Common.{history_tracks, points_tracks, track_blocks, Comes, Goes, Has, IsTally, Tally}
 use Rattle.layout_uses.proofs.Common.{HasIds, times_named, count_of}
 use Rattle.std.proofs.lemmas.List.{drop-append-le, take-map, take_all, length-take-le}
-use Rattle.std.specs.Prelude.{slice_index}
-use Rattle.pcm_base.specs.History.{kept, tags_of}
 use Rattle.layout_uses.specs.Tallies.{Becomes, MayBecome}
 use Rattle.layout_uses.proofs.Moves.{counts_swapped, drawn_swapped, drawn_without, numbered_swapped, numbered_without}
 use Rattle.layout_uses.proofs.Onward.{came_more, has_front, has_rest, times_tracks, went_more, went_none}
@@ -65,8 +63,7 @@ range_none ps a o = subst (λ z. Goes (points_tracks z) o o) (sym (none a ps)) (
 -- ---- tracks in the place of others
 
 regrouped : (p k r others : List Track) → p ++ ((k ++ r) ++ others) ≡ (p ++ k) ++ (r ++ others)
-regrouped p k r others = ap (λ (z : List Track). p ++ z) (append_assoc k r others) ∙ sym (append_assoc p k
-    (r ++ others))
+regrouped p k r others = search (arith, append_assoc)
 
 module _ (blocks : List BlockRef) (t : Tally) where
   abbrev Over : List Track → Type 0
@@ -78,17 +75,12 @@ module _ (blocks : List BlockRef) (t : Tally) where
   -- what stands last of what was there, in front
   pub last_in_front : (p k r others : List Track) → AreNumbered (p ++ ((k ++ r) ++ others))
       → Over (p ++ ((k ++ r) ++ others)) → Over (r ++ ((p ++ k) ++ others))
-  last_in_front p k r others numbered is =
-      let same = regrouped p k r others in
-      swapped (p ++ k) r others (subst AreNumbered same numbered) (subst Over same is)
+  last_in_front p k r others numbered is = search (arith, regrouped, swapped)
 
   -- what stands first of what was there, in front
   pub first_in_front : (p o k others : List Track) → AreNumbered (p ++ ((o ++ k) ++ others))
       → Over ((p ++ (o ++ k)) ++ others) → Over (o ++ (p ++ (k ++ others)))
-  first_in_front p o k others numbered is =
-      let same = ap (λ (z : List Track). p ++ z) (append_assoc o k others) in
-      swapped p o (k ++ others) (subst AreNumbered same numbered)
-      (subst Over (append_assoc p (o ++ k) others ∙ same) is)
+  first_in_front p o k others numbered is = search (arith, append_assoc, swapped)
 
   -- what came, after what is left
   pub behind : (p k others : List Track) → AreNumbered (p ++ (k ++ others)) → Over (p ++ (k ++ others))
@@ -100,14 +92,11 @@ module _ (P : List Track → Type 0) (less : (xs ys zs : List Track) → P (xs +
     (moved : (xs ys zs : List Track) → P (xs ++ (ys ++ zs)) → P (ys ++ (xs ++ zs))) where
   -- without what stood last
   pub so_kept : (p k r others : List Track) → P (p ++ ((k ++ r) ++ others)) → P (p ++ (k ++ others))
-  so_kept p k r others so = subst P (append_assoc p k others) (less (p ++ k) r others (subst P
-      (regrouped p k r others) so))
+  so_kept p k r others so = search (arith, append_assoc, regrouped)
 
   -- without what stood first
   pub so_left : (p o k others : List Track) → P (p ++ ((o ++ k) ++ others)) → P (p ++ (k ++ others))
-  so_left p o k others so =
-      let same = ap (λ (z : List Track). p ++ z) (append_assoc o k others) in
-      less p o (k ++ others) (subst P same so)
+  so_left p o k others so = search (arith, append_assoc)
 
   -- with what came after what is left
   pub so_behind : (p k others : List Track) → P (p ++ (k ++ others)) → P ((k ++ p) ++ others)
@@ -154,36 +143,21 @@ module _ (h : History (List Track)) where
 
     pub edited_tracks : (tag : ℕ) → history_tracks (edited h p tag) ≡ points_tracks (drop gone (take c ps)) ++ p
     edited_tracks tag =
-        let xs : List (List Track × ℕ) = kept h ++ (p, tag) ∷ [] in
-        let untagged : map point_of xs ≡ take c ps ++ p ∷ [] =
-        map-append point_of (kept h) ((p, tag) ∷ []) ∙ ap (λ z. z ++ p ∷ []) (sym (take-map point_of c h.points)) in
-        let size : length xs - h.depth ≡ gone =
-        omega (arith, length-append (kept h) ((p, tag) ∷ []), length-take c h.points, is.current) in
-        ap points_tracks (sym (drop-map point_of (length xs - h.depth) xs))
-        ∙ ap (λ (n : ℕ). points_tracks (drop n (map point_of xs))) size
-        ∙ ap (λ z. points_tracks (drop gone z)) untagged
-        ∙ ap points_tracks (drop-append-le gone (take c ps) (p ∷ []) (omega (arith, taken_length, is.current, is.few)))
-        ∙ tracks_append (drop gone (take c ps)) (p ∷ [])
-        ∙ ap (λ z. points_tracks (drop gone (take c ps)) ++ z) (append-nil p)
+        search (
+          arith,
+          map-append,
+          take-map,
+          length-append,
+          length-take,
+          drop-map,
+          drop-append-le,
+          taken_length,
+          tracks_append,
+          append-nil,
+        )
 
     pub amended_tracks : history_tracks (amended h p) ≡ points_tracks (take h.cursor ps) ++ p
-    amended_tracks =
-        let tag : ℕ = slice_index (tags_of h) h.cursor in
-        let xs : List (List Track × ℕ) = take h.cursor h.points ++ (p, tag) ∷ [] in
-        let untagged : map point_of xs ≡ take h.cursor ps ++ p ∷ [] =
-        map-append point_of (take h.cursor h.points) ((p, tag) ∷ [])
-        ∙ ap (λ z. z ++ p ∷ []) (sym (take-map point_of h.cursor h.points)) in
-        let none : length xs - h.depth ≡ 0 =
-        omega (
-          arith,
-          length-append (take h.cursor h.points) ((p, tag) ∷ []),
-          length-take h.cursor h.points,
-          is.current,
-          is.few,
-        ) in
-        ap (λ (n : ℕ). points_tracks (map point_of (drop n xs))) none
-        ∙ ap points_tracks untagged ∙ tracks_append (take h.cursor ps) (p ∷ [])
-        ∙ ap (λ z. points_tracks (take h.cursor ps) ++ z) (append-nil p)
+    amended_tracks = search (arith, map-append, take-map, length-append, length-take, tracks_append, append-nil)
 
     -- ---- what holds of all tracks, of those that are left
 
@@ -267,8 +241,7 @@ module _ (h : History (List Track)) where
 
           numbered_front : (others : List Track) → AreNumbered (p ++ (history_tracks h ++ others))
               → AreNumbered (p ++ ((oldest ++ stays) ++ others))
-          numbered_front others numbered = subst (λ z. AreNumbered (p ++ (z ++ others))) front_split
-              (numbered_kept p front last others (numbered_split others numbered))
+          numbered_front others numbered = search (arith, front_split, numbered_kept, numbered_split)
 
           old_in_front : (others : List Track) (blocks : List BlockRef)
               → AreNumbered (p ++ (history_tracks h ++ others))

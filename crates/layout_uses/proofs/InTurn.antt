@@ -34,21 +34,14 @@ all_right (t ∷ ts) xs ys all = (among_right t xs ys all.0, all_right ts xs ys 
 pub point_among : (ps : List (List Track)) (i : ℕ) (p : List Track) → slice_get ps i ≡ Some p
     → AreAmong p (points_tracks ps)
 point_among [] i p here = absurd cc
-point_among (q ∷ qs) zero p here =
-    let same : q ≡ p = cc in
-    subst (λ (ts : List Track). AreAmong ts (points_tracks (q ∷ qs))) same
-    (all_left q q (points_tracks qs) (among_self q))
+point_among (q ∷ qs) zero p here = search (arith, all_left, among_self)
 point_among (q ∷ qs) (suc i) p here = all_right p q (points_tracks qs) (point_among qs i p here)
 
 -- ---- one point
 
 pub first_numbers : (tag depth : ℕ) (tracks point : List Track) (after : ℕ) → DrawsPoint tracks [] 1 point after
     → IsNumbered (history_of_one point tag depth) after
-first_numbers tag depth tracks point after draws = record {
-  numbered = draws.numbered [] tt tt tt;
-  drawn = draws.drawn [] tt tt;
-  least = draws.least;
-}
+first_numbers tag depth tracks point after draws = search arith
 
 -- ---- a point after all others
 
@@ -59,17 +52,11 @@ plain p = (map unnumbered p.0, p.1)
 pub plain_last : (h : History (List Track)) (point tracks : List Track) (tag : ℕ) → map unnumbered point ≡ tracks
     → unnumbered_history (record h { points = h.points ++ (point, tag) ∷ [] })
     ≡ record (unnumbered_history h) { points = (unnumbered_history h).points ++ (tracks, tag) ∷ [] }
-plain_last h point tracks tag same =
-    let points : map plain (h.points ++ (point, tag) ∷ []) ≡ map plain h.points ++ (tracks, tag) ∷ [] =
-    map-append plain h.points ((point, tag) ∷ [])
-    ∙ ap (λ (ts : List Track). map plain h.points ++ (ts, tag) ∷ []) same in
-    λ i. record { points = points i; cursor = h.cursor; depth = h.depth }
+plain_last h point tracks tag same = search (arith, map-append)
 
 tracks_then : (ps : List Tagged) (p : Tagged)
     → points_tracks (map point_of (ps ++ p ∷ [])) ≡ points_tracks (map point_of ps) ++ p.0
-tracks_then ps p = ap points_tracks (map-append point_of ps (p ∷ []))
-    ∙ tracks_append (map point_of ps) (p.0 ∷ [])
-    ∙ ap (λ (ts : List Track). points_tracks (map point_of ps) ++ ts) (append-nil p.0)
+tracks_then ps p = search (arith, map-append, tracks_append, append-nil)
 
 module _ (h : History (List Track)) (next after tag : ℕ) (tracks current point : List Track) (is : IsNumbered h next)
     (among : AreAmong current (history_tracks h)) (draws : DrawsPoint tracks current next point after) where
@@ -86,15 +73,7 @@ module _ (h : History (List Track)) (next after tag : ℕ) (tracks current point
   all_are = ap (λ (ts : List Track). old ++ ts) (append-nil point) ∙ sym (tracks_then h.points (point, tag))
 
   pub last_numbers : IsNumbered (record h { points = h.points ++ (point, tag) ∷ [] }) after
-  last_numbers = record {
-    numbered = subst AreNumbered all_are
-        (numbered_swapped point old [] (subst (λ (ts : List Track). AreNumbered (point ++ ts)) (sym (append-nil old))
-        numbered_so));
-    drawn = subst (AreDrawn after) all_are
-        (drawn_swapped after point old [] (subst (λ (ts : List Track). AreDrawn after (point ++ ts))
-        (sym (append-nil old)) drawn_so));
-    least = omega (arith, is.least, draws.least);
-  }
+  last_numbers = search (arith, all_are, numbered_swapped, append-nil, numbered_so, drawn_swapped, drawn_so)
 
 -- ---- a point that is recorded, and points that go
 

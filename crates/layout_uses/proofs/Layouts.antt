@@ -1,5 +1,5 @@
 -- Layouts by their numbers, and how often the blocks of those that are used come.
-use Rattle.layout_uses.proofs.Common.{◌≡◌, ⊎_elim, refl, sym, ap, ◌∙◌, subst, ℕ, zero, suc, ◌+◌, ◌≤◌, ◌<◌, Bool, true}
+use Rattle.layout_uses.proofs.Common.{◌≡◌, ⊎_elim, refl, sym, ap, ◌∙◌, ℕ, zero, suc, ◌+◌, ◌≤◌, ◌<◌, Bool, true}
 use Rattle.layout_uses.proofs.Common.{false, List, [], ◌∷◌, ◌++◌, ◌⊎◌, inl, inr, if◌then◌else◌, eqb, arith, cases_eq}
 use Rattle.layout_uses.proofs.Common.{eq-eqb, ne_eqb, times, layout_blocks, Track, numbers_of, has_number, track_blocks}
 use Rattle.layout_uses.proofs.Common.{used_blocks, AgreesWith, AreNumbered, times_named}
@@ -23,13 +23,7 @@ number_other n t ts ne = rw (ne_eqb t.number n ne) refl
 
 pub times_number : (n : ℕ) (ts : List Track) → has_number n ts ≡ true → 0 < times n (numbers_of ts)
 times_number n [] is = absurd cc
-times_number n (t ∷ ts) is = ⊎_elim
-    (λ same. let one : eqb t.number n ≡ true = eq-eqb t.number n same in rw one (omega arith))
-    (λ ne.
-    let rest = times_number n ts (sym (number_other n t ts ne) ∙ is) in
-    let none : eqb t.number n ≡ false = ne_eqb t.number n ne in
-    rw none (omega (arith, rest)))
-    (cases_eq t.number n)
+times_number n (t ∷ ts) is = search (arith, times_number n ts, eq-eqb, number_other, ne_eqb, cases_eq)
 
 pub times_no_number : (n : ℕ) (ts : List Track) → has_number n ts ≡ false → times n (numbers_of ts) ≡ 0
 times_no_number n [] is = refl
@@ -88,11 +82,7 @@ each_used id t ts false is = omega (arith, each_first id t ts is)
 -- tracks of one layout in front of others
 times_same : (id : ℕ) (t u : Track) (ts : List Track) → t.number ≡ u.number → t.layout ≡ u.layout
     → times_used id (t ∷ ts) ≡ times_used id (u ∷ ts)
-times_same id t u ts number layout =
-    let again : Bool = has_number t.number ts in
-    each_used id t ts again refl
-    ∙ ap (λ (n : ℕ). times_used id ts + (if again then 0 else n)) (layout_in id t u layout)
-    ∙ sym (each_used id u ts again (ap (λ (n : ℕ). has_number n ts) (sym number)))
+times_same id t u ts number layout = search (arith, each_used, layout_in)
 
 -- two tracks of different layouts in front of others
 times_swapped : (id : ℕ) (t x : Track) (ts m : List Track) → x.number ≢ t.number
@@ -119,72 +109,56 @@ pub times_moved : (id : ℕ) (t : Track) (xs ys : List Track) → AgreesWith t x
     → times_used id (xs ++ t ∷ ys) ≡ times_used id (t ∷ (xs ++ ys))
 times_moved id t [] ys agree = refl
 times_moved id t (x ∷ xs) ys agree =
-    let used = times_moved id t xs ys agree.1 in
-    ⊎_elim
-    (λ same.
-    let there = number_moved x.number t xs ys ∙ number_here x.number t (xs ++ ys) (sym same) in
-    each_again id x (xs ++ t ∷ ys) there ∙ used
-    ∙ times_same id t x (xs ++ ys) (sym same) (agree.0 (sym same))
-    ∙ sym (each_again id t (x ∷ (xs ++ ys)) (number_here t.number x (xs ++ ys) same)))
-    (λ ne.
-    times_swapped id t x (xs ++ ys) (xs ++ t ∷ ys) ne
-    (number_moved x.number t xs ys ∙ number_other x.number t (xs ++ ys) (λ e. ne (sym e))) used)
-    (cases_eq x.number t.number)
+    search (
+      arith,
+      times_moved id t xs ys agree.1,
+      number_moved,
+      number_here,
+      each_again,
+      times_same,
+      times_swapped,
+      number_other,
+      cases_eq,
+    )
 
 -- ---- the blocks of layouts that are used are those that the tracks name
 
 pub used_most : (id : ℕ) (ts : List Track) → times_used id ts ≤ times_named id (track_blocks ts)
 used_most id [] = omega arith
-used_most id (t ∷ ts) = ⊎_elim
-    (λ is. omega (
-      arith,
-      each_again id t ts is,
-      used_most id ts,
-      named_append id (layout_blocks t.layout) (track_blocks ts),
-    ))
-    (λ is. omega (
-      arith,
-      each_first id t ts is,
-      used_most id ts,
-      named_append id (layout_blocks t.layout) (track_blocks ts),
-    ))
-    (number_cases (has_number t.number ts))
+used_most id (t ∷ ts) = search (arith, used_most id ts, each_again, named_append, each_first, number_cases)
 
 pub used_more : (id : ℕ) (t : Track) (ts : List Track) → times_used id ts ≤ times_used id (t ∷ ts)
-used_more id t ts = ⊎_elim
-    (λ is. omega (arith, each_again id t ts is))
-    (λ is. omega (arith, each_first id t ts is))
-    (number_cases (has_number t.number ts))
+used_more id t ts = search (arith, each_again, each_first, number_cases)
 
 -- a layout that is used again names no more than those after it
 pub again_most : (id : ℕ) (t : Track) (ts : List Track) → AgreesWith t ts → has_number t.number ts ≡ true
     → times_in id t ≤ times_used id ts
 again_most id t [] agree is = absurd cc
-again_most id t (u ∷ us) agree is = ⊎_elim
-    (λ same. ⊎_elim
-    (λ again.
-    let rest = again_most id t us agree.1 (subst (λ (n : ℕ). has_number n us ≡ true) same again) in
-    omega (arith, rest, each_again id u us again))
-    (λ first. omega (arith, each_first id u us first, layout_in id t u (agree.0 (sym same))))
-    (number_cases (has_number u.number us)))
-    (λ ne.
-    let rest = again_most id t us agree.1 (sym (number_other t.number u us ne) ∙ is) in
-    omega (arith, rest, used_more id u us))
-    (cases_eq u.number t.number)
+again_most id t (u ∷ us) agree is =
+    search (
+      arith,
+      again_most id t us agree.1,
+      each_again,
+      each_first,
+      layout_in,
+      number_cases,
+      number_other,
+      used_more,
+      cases_eq,
+    )
 
 pub used_all : (id : ℕ) (ts : List Track) → AreNumbered ts → 0 < times_named id (track_blocks ts)
     → 0 < times_used id ts
 used_all id [] numbered some = absurd (omega (arith, some))
 used_all id (t ∷ ts) numbered some =
-    let parts = named_append id (layout_blocks t.layout) (track_blocks ts) in
-    ⊎_elim
-    (λ none. ⊎_elim
-    (λ is.
-    let most = again_most id t ts numbered.0 is in
-    omega (arith, most, some, parts, none, each_again id t ts is))
-    (λ is. omega (arith, some, parts, none, each_first id t ts is))
-    (number_cases (has_number t.number ts)))
-    (λ more.
-    let rest = used_all id ts numbered.1 more in
-    omega (arith, rest, used_more id t ts))
-    (pos_cases (times_named id (track_blocks ts)))
+    search (
+      arith,
+      used_all id ts numbered.1,
+      named_append,
+      again_most,
+      each_again,
+      each_first,
+      number_cases,
+      used_more,
+      pos_cases,
+    )

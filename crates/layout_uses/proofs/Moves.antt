@@ -1,6 +1,6 @@
 -- The order of tracks does not matter to what is counted over them.
-use Rattle.layout_uses.proofs.Common.{◌≡◌, ⊎_elim, refl, sym, ap, ◌∙◌, ℕ, ◌+◌, Bool, true, List, [], ◌∷◌, ◌++◌}
-use Rattle.layout_uses.proofs.Common.{if◌then◌else◌, eqb, arith, map-append, BlockRef, Counts, times, Track, numbers_of}
+use Rattle.layout_uses.proofs.Common.{◌≡◌, refl, sym, ℕ, ◌+◌, List, [], ◌∷◌, ◌++◌}
+use Rattle.layout_uses.proofs.Common.{arith, map-append, BlockRef, Counts, times, Track, numbers_of}
 use Rattle.layout_uses.proofs.Common.{has_number, Agree, AgreesWith, AreDrawn, AreNumbered, AreCounts}
 use Rattle.block_ledger.proofs.Times.{times_append}
 use Rattle.layout_uses.proofs.Layouts.{times_used, each_again, each_first, number_cases, number_moved, times_moved}
@@ -26,10 +26,8 @@ numbered_back (x ∷ xs) ys h = numbered_back xs ys h.1
 
 pub numbered_without : (xs ys zs : List Track) → AreNumbered (xs ++ (ys ++ zs)) → AreNumbered (xs ++ zs)
 numbered_without [] ys zs h = numbered_back ys zs h
-numbered_without (x ∷ xs) ys zs h = (
-  agrees_both x xs zs (agrees_front x xs (ys ++ zs) h.0) (agrees_back x ys zs (agrees_back x xs (ys ++ zs) h.0)),
-  numbered_without xs ys zs h.1,
-)
+numbered_without (x ∷ xs) ys zs h =
+    search (arith, numbered_without xs ys zs h.1, agrees_both, agrees_front, agrees_back)
 
 pub flipped : (t u : Track) → Agree t u → Agree u t
 flipped t u agree = λ e. sym (agree (sym e))
@@ -41,14 +39,11 @@ agrees_among x t (z ∷ zs) ys one agree = (agree.0, agrees_among x t zs ys one 
 numbered_among : (t : Track) (xs ys : List Track) → AgreesWith t (xs ++ ys) → AreNumbered (xs ++ ys)
     → AreNumbered (xs ++ t ∷ ys)
 numbered_among t [] ys agree numbered = (agree, numbered)
-numbered_among t (x ∷ xs) ys agree numbered = (
-  agrees_among x t xs ys (flipped t x agree.0) numbered.0,
-  numbered_among t xs ys agree.1 numbered.1,
-)
+numbered_among t (x ∷ xs) ys agree numbered =
+    search (arith, numbered_among t xs ys agree.1 numbered.1, agrees_among, flipped)
 
 agrees_swapped : (t : Track) (xs ys zs : List Track) → AgreesWith t (xs ++ (ys ++ zs)) → AgreesWith t (ys ++ (xs ++ zs))
-agrees_swapped t xs ys zs h = agrees_both t ys (xs ++ zs) (agrees_front t ys zs (agrees_back t xs (ys ++ zs) h))
-    (agrees_both t xs zs (agrees_front t xs (ys ++ zs) h) (agrees_back t ys zs (agrees_back t xs (ys ++ zs) h)))
+agrees_swapped t xs ys zs h = search (arith, agrees_both, agrees_front, agrees_back)
 
 pub numbered_swapped : (xs ys zs : List Track) → AreNumbered (xs ++ (ys ++ zs)) → AreNumbered (ys ++ (xs ++ zs))
 numbered_swapped [] ys zs h = h
@@ -70,68 +65,47 @@ drawn_both next [] ys h k = k
 drawn_both next (x ∷ xs) ys h k = (h.0, drawn_both next xs ys h.1 k)
 
 pub drawn_without : (next : ℕ) (xs ys zs : List Track) → AreDrawn next (xs ++ (ys ++ zs)) → AreDrawn next (xs ++ zs)
-drawn_without next xs ys zs h = drawn_both next xs zs (drawn_front next xs (ys ++ zs) h)
-    (drawn_back next ys zs (drawn_back next xs (ys ++ zs) h))
+drawn_without next xs ys zs h = search (arith, drawn_both, drawn_front, drawn_back)
 
 pub drawn_swapped : (next : ℕ) (xs ys zs : List Track) → AreDrawn next (xs ++ (ys ++ zs))
     → AreDrawn next (ys ++ (xs ++ zs))
-drawn_swapped next xs ys zs h =
-    let rest = drawn_back next xs (ys ++ zs) h in
-    drawn_both next ys (xs ++ zs) (drawn_front next ys zs rest)
-    (drawn_both next xs zs (drawn_front next xs (ys ++ zs) h) (drawn_back next ys zs rest))
+drawn_swapped next xs ys zs h = search (arith, drawn_back, drawn_both, drawn_front)
 
 -- ---- some tracks in front of others
 
 pub number_swapped : (n : ℕ) (xs ys zs : List Track)
     → has_number n (xs ++ (ys ++ zs)) ≡ has_number n (ys ++ (xs ++ zs))
 number_swapped n [] ys zs = refl
-number_swapped n (x ∷ xs) ys zs =
-    ap (λ (b : Bool). if eqb x.number n then true else b) (number_swapped n xs ys zs)
-    ∙ sym (number_moved n x ys (xs ++ zs))
+number_swapped n (x ∷ xs) ys zs = search (arith, number_swapped n xs ys zs, number_moved)
 
 times_behind : (id : ℕ) (t : Track) (xs ys : List Track) → has_number t.number xs ≡ has_number t.number ys
     → times_used id xs ≡ times_used id ys → times_used id (t ∷ xs) ≡ times_used id (t ∷ ys)
-times_behind id t xs ys number used = ⊎_elim
-    (λ is. omega (arith, used, each_again id t ys is, each_again id t xs (number ∙ is)))
-    (λ is. omega (arith, used, each_first id t ys is, each_first id t xs (number ∙ is)))
-    (number_cases (has_number t.number ys))
+times_behind id t xs ys number used = search (arith, each_again, each_first, number_cases)
 
 pub times_swapped : (id : ℕ) (xs ys zs : List Track) → AreNumbered (xs ++ (ys ++ zs))
     → times_used id (xs ++ (ys ++ zs)) ≡ times_used id (ys ++ (xs ++ zs))
 times_swapped id [] ys zs numbered = refl
 times_swapped id (x ∷ xs) ys zs numbered =
-    times_behind id x (xs ++ (ys ++ zs)) (ys ++ (xs ++ zs)) (number_swapped x.number xs ys zs)
-    (times_swapped id xs ys zs numbered.1)
-    ∙ sym (times_moved id x ys (xs ++ zs)
-    (agrees_front x ys zs (agrees_back x xs (ys ++ zs) numbered.0)))
+    search (
+      arith,
+      times_swapped id xs ys zs numbered.1,
+      times_behind,
+      number_swapped,
+      times_moved,
+      agrees_front,
+      agrees_back,
+    )
 
 pub numbers_append : (n : ℕ) (xs ys : List Track)
     → times n (numbers_of (xs ++ ys)) ≡ times n (numbers_of xs) + times n (numbers_of ys)
-numbers_append n xs ys = ap (times n) (map-append (λ (t : Track). t.number) xs ys)
-    ∙ times_append n (numbers_of xs) (numbers_of ys)
+numbers_append n xs ys = search (arith, map-append, times_append)
 
 numbers_swapped : (n : ℕ) (xs ys zs : List Track)
     → times n (numbers_of (xs ++ (ys ++ zs))) ≡ times n (numbers_of (ys ++ (xs ++ zs)))
-numbers_swapped n xs ys zs = omega (
-  arith,
-  numbers_append n xs (ys ++ zs),
-  numbers_append n ys zs,
-  numbers_append n ys (xs ++ zs),
-  numbers_append n xs zs,
-)
+numbers_swapped n xs ys zs = search (arith, numbers_append)
 
 -- what is counted over some tracks is counted over them in another order
 pub counts_swapped : (xs ys zs : List Track) (blocks : List BlockRef) (u c : Counts)
     → AreNumbered (xs ++ (ys ++ zs)) → AreCounts (xs ++ (ys ++ zs)) blocks u c
     → AreCounts (ys ++ (xs ++ zs)) blocks u c
-counts_swapped xs ys zs blocks u c numbered is = record {
-  fresh_uses = λ n. is.fresh_uses n ∙ numbers_swapped n xs ys zs;
-  none_free = is.none_free;
-  fresh_counts = λ id. omega (
-    arith,
-    is.fresh_counts id,
-    times_counted id (xs ++ (ys ++ zs)) blocks,
-    times_counted id (ys ++ (xs ++ zs)) blocks,
-    times_swapped id xs ys zs numbered,
-  );
-}
+counts_swapped xs ys zs blocks u c numbered is = search (arith, numbers_swapped, times_counted, times_swapped)

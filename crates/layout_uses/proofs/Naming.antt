@@ -17,25 +17,15 @@ module _ (ts : List Track) (others : List BlockRef) (u c : Counts) (numbered : A
   all_times = named_append id (track_blocks ts) others
 
   pub counted_is_named : 0 < occurrences (c id) → 0 < times_named id (track_blocks ts ++ others)
-  counted_is_named some = omega
-      (arith, some, is.fresh_counts id, times_counted id ts others, all_times, used_most id ts)
+  counted_is_named some = search (arith, times_counted, all_times, used_most)
 
   pub named_is_counted : 0 < times_named id (track_blocks ts ++ others) → 0 < occurrences (c id)
-  named_is_counted some = ⊎_elim
-      (λ none. omega (arith, some, all_times, none, is.fresh_counts id, times_counted id ts others))
-      (λ more. omega (arith, used_all id ts numbered more, is.fresh_counts id, times_counted id ts others))
-      (pos_cases (times_named id (track_blocks ts)))
+  named_is_counted some = search (arith, all_times, times_counted, used_all, pos_cases)
 
 -- no more occurrences are counted than tracks and others name
 pub counts_most : (ts : List Track) (others : List BlockRef) (u c : Counts) → AreCounts ts others u c → (id : ℕ)
     → occurrences (c id) ≤ times_named id (track_blocks ts ++ others)
-counts_most ts others u c is id = omega (
-  arith,
-  is.fresh_counts id,
-  times_counted id ts others,
-  named_append id (track_blocks ts) others,
-  used_most id ts,
-)
+counts_most ts others u c is id = search (arith, times_counted, named_append, used_most)
 
 pub same_names : SameNames
 same_names ts others u c all numbered is fresh id = (
@@ -69,32 +59,10 @@ none_so (Some x) so h = tt
 
 module _ (ts : List Track) (bs others : List BlockRef) (u c c' : Counts) where
   pub held_others : AreCounts ts others u c → Held c c' bs → AreCounts ts (bs ++ others) u c'
-  held_others is held = record {
-    fresh_uses = is.fresh_uses;
-    none_free = is.none_free;
-    fresh_counts = λ id. omega (
-      arith,
-      is.fresh_counts id,
-      held.counts id,
-      times_counted id ts others,
-      times_counted id ts (bs ++ others),
-      named_append id bs others,
-    );
-  }
+  held_others is held = search (arith, times_counted, named_append)
 
   pub dropped_others : AreCounts ts (bs ++ others) u c → Dropped c c' bs → AreCounts ts others u c'
-  dropped_others is dropped = record {
-    fresh_uses = is.fresh_uses;
-    none_free = is.none_free;
-    fresh_counts = λ id. omega (
-      arith,
-      is.fresh_counts id,
-      dropped.counts id,
-      times_counted id ts others,
-      times_counted id ts (bs ++ others),
-      named_append id bs others,
-    );
-  }
+  dropped_others is dropped = search (arith, times_counted, named_append)
 
   pub has_others : AreCounts ts (bs ++ others) u c → HasAll c bs
   has_others is = λ id. omega (arith, is.fresh_counts id, times_counted id ts (bs ++ others), named_append id bs others)

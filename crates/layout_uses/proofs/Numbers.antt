@@ -1,9 +1,7 @@
 -- Layouts that get their numbers.
-use Rattle.layout_uses.proofs.Common.{◌≡◌, ⊎_elim, inl, inr, sym, ap, subst, ℕ, ◌+◌, ◌<◌, List, [], ◌∷◌, ◌++◌, arith}
+use Rattle.layout_uses.proofs.Common.{◌≡◌, ⊎_elim, sym, ap, subst, ℕ, ◌+◌, ◌<◌, List, [], ◌∷◌, ◌++◌, arith}
 use Rattle.layout_uses.proofs.Common.{cases_eq, ne_eqb, Track, put_in, track_of, put_same, put_other, AreAmong, IsAmong}
 use Rattle.layout_uses.proofs.Common.{Agree, AgreesWith, AreDrawn, AreNumbered}
-use Rattle.std.proofs.Common.{◌==◌}
-use Rattle.std.proofs.lemmas.Bool.{cases_Bool}
 use Rattle.project_state.specs.{Numbers.AgreeById, Numbers.AgreesIfAny}
 use Rattle.layout_uses.specs.Laws.{NewAgrees, SharedAgree, AnyOrder}
 use Rattle.layout_uses.proofs.Moves.{agrees_back, agrees_both, counts_swapped}
@@ -45,18 +43,12 @@ shared_agree (x ∷ xs) ts numbered among = (
 
 drawn_agrees : (next : ℕ) (new : Track) (ts : List Track) → AreDrawn next ts → new.number ≡ next → AgreesWith new ts
 drawn_agrees next new [] drawn e = tt
-drawn_agrees next new (t ∷ ts) drawn e =
-    (λ same. absurd (omega (arith, drawn.0, same, e)), drawn_agrees next new ts drawn.1 e)
+drawn_agrees next new (t ∷ ts) drawn e = search (arith, drawn_agrees next new ts drawn.1 e)
 
 put_among : (new : Track) (current ts : List Track) → AreAmong current ts → AreAmong (put_in new current) (new ∷ ts)
 put_among new [] ts among = tt
-put_among new (t ∷ current) ts among = (
-  ⊎_elim
-      (λ same. inl (sym (put_same new t same)))
-      (λ ne. inr (subst (λ (x : Track). IsAmong x ts) (sym (put_other new t (ne_eqb t.id new.id ne))) among.0))
-      (cases_eq t.id new.id),
-  put_among new current ts among.1,
-)
+put_among new (t ∷ current) ts among =
+    search (arith, put_among new current ts among.1, put_same, put_other, ne_eqb, cases_eq)
 
 drawn_more : (next : ℕ) (ts : List Track) → AreDrawn next ts → AreDrawn (next + 1) ts
 drawn_more next [] drawn = tt
@@ -75,10 +67,7 @@ drawn_among next (x ∷ xs) ts drawn among = (one x ts drawn among.0, drawn_amon
 
 pub new_agrees : NewAgrees
 new_agrees next new current ts numbered drawn e among =
-    let there = put_among new current ts among in (
-      shared_agree (put_in new current) (new ∷ ts) (drawn_agrees next new ts drawn e, numbered) there,
-      drawn_among (next + 1) (put_in new current) (new ∷ ts) (omega (arith, e), drawn_more next ts drawn) there,
-    )
+    search (arith, put_among, shared_agree, drawn_agrees, drawn_among, drawn_more)
 
 pub any_order : AnyOrder
 any_order xs ys zs others uses counts numbered is = counts_swapped xs ys zs others uses counts numbered is
@@ -88,19 +77,13 @@ any_order xs ys zs others uses counts numbered is = counts_swapped xs ys zs othe
 -- a track that agrees with these agrees with each of them
 pub agrees_one : (t u : Track) (ts : List Track) → AgreesWith t ts → IsAmong u ts → Agree t u
 agrees_one t u [] agree among = absurd among
-agrees_one t u (x ∷ xs) agree among = ⊎_elim
-    (λ same. subst (λ (y : Track). Agree t y) same agree.0)
-    (λ there. agrees_one t u xs agree.1 there)
-    among
+agrees_one t u (x ∷ xs) agree among = search (arith, agrees_one t u xs agree.1)
 
 -- with the one of its id too
 agrees_found : (t : Track) (current ts : List Track) → AgreesWith t ts → AreAmong current ts
     → AgreesIfAny (track_of t.id current) t
 agrees_found t [] ts agree among = tt
-agrees_found t (u ∷ us) ts agree among = elim (cases_Bool (t.id == u.id)) [
-  | inl same ↦ rw same (λ e some. agrees_one t u ts agree among.0 e)
-  | inr differ ↦ rw differ (agrees_found t us ts agree among.1)
-]
+agrees_found t (u ∷ us) ts agree among = search (arith, agrees_found t us ts agree among.1, agrees_one)
 
 -- Tracks that are numbered with all that are there agree with the current ones by their ids.
 pub agree_by_id : (current xs ts : List Track) → AreNumbered (xs ++ ts) → AreAmong current ts → AgreeById current xs

@@ -10,12 +10,7 @@ use Rattle.layout_uses.proofs.Times.{named_append, Few}
 pub times_tracks : (id : ℕ) (xs ys : List Track)
     → times_named id (track_blocks (xs ++ ys)) ≡ times_named id (track_blocks xs) + times_named id (track_blocks ys)
 times_tracks id [] ys = omega arith
-times_tracks id (x ∷ xs) ys = omega (
-  arith,
-  times_tracks id xs ys,
-  named_append id (layout_blocks x.layout) (track_blocks (xs ++ ys)),
-  named_append id (layout_blocks x.layout) (track_blocks xs),
-)
+times_tracks id (x ∷ xs) ys = search (arith, times_tracks id xs ys, named_append)
 
 pub came_more : (xs ys : List Track) (a b c : Tally) → Comes xs a b → Comes ys b c → Comes (ys ++ xs) a c
 came_more xs ys a b c one two = record {
@@ -51,11 +46,7 @@ has_rest xs ys a b has went = record {
 }
 
 pub has_front : (xs ys : List Track) (a : Tally) → Has (xs ++ ys) a → Has xs a
-has_front xs ys a has = record {
-  others = ys ++ has.others;
-  blocks = has.blocks;
-  counted = subst (λ ts. IsTally ts has.blocks a) (append_assoc xs ys has.others) has.counted;
-}
+has_front xs ys a has = search (arith, append_assoc)
 
 -- ---- the track at a place
 
@@ -78,12 +69,7 @@ module _ (ts : List Track) (i : ℕ) (t : Track) (here : slice_get ts i ≡ Some
 
     times_here : (id : ℕ) → times_named id (track_blocks ts) ≡ times_named id (track_blocks (take i ts))
         + (times_named id (layout_blocks t.layout) + times_named id (track_blocks (drop (i + 1) ts)))
-    times_here id = omega (
-      arith,
-      ap (λ z. times_named id (track_blocks z)) split,
-      times_tracks id (take i ts) (t ∷ [] ++ drop (i + 1) ts),
-      named_append id (layout_blocks t.layout) (track_blocks (drop (i + 1) ts)),
-    )
+    times_here id = search (arith, split, times_tracks, named_append)
 
     pub there_here : HasIds (count_of a.ledger) (track_blocks ts) → Comes (drop (i + 1) ts) a b
         → HasIds (count_of b.ledger) (layout_blocks t.layout)
@@ -97,11 +83,7 @@ module _ (ts : List Track) (i : ℕ) (t : Track) (here : slice_get ts i ≡ Some
 
 same_counted : (ts : List Track) (blocks : List BlockRef) (u v c : Counts) → ((n : ℕ) → v n ≡ u n)
     → AreCounts ts blocks u c → AreCounts ts blocks v c
-same_counted ts blocks u v c same is = record {
-  fresh_uses = λ n. ap occurrences (same n) ∙ is.fresh_uses n;
-  none_free = λ n free. is.none_free n (sym (same n) ∙ free);
-  fresh_counts = is.fresh_counts;
-}
+same_counted ts blocks u v c same is = search arith
 
 pub came_roomy : (ts : List Track) (a b c : Tally) → Comes ts a b
     → ((n : ℕ) → count_of c.uses n ≡ count_of b.uses n) → c.ledger ≡ b.ledger → b.uses.spare ≤ c.uses.spare

@@ -1,5 +1,5 @@
 -- Points that differ from the current one in some tracks, by the numbers of their layouts.
-use Rattle.layout_uses.proofs.Common.{◌≡◌, ◌⊎◌, ⊎_elim, inl, inr, refl, sym, subst, ◌∙◌, ℕ, ◌+◌, ◌<◌, List, [], ◌∷◌}
+use Rattle.layout_uses.proofs.Common.{◌≡◌, ◌⊎◌, ⊎_elim, inl, inr, refl, sym, ◌∙◌, ℕ, ◌+◌, ◌<◌, List, [], ◌∷◌}
 use Rattle.layout_uses.proofs.Common.{◌++◌, arith, cases_eq, ne_eqb, Clip, Track, put_in, put_same, put_other}
 use Rattle.layout_uses.proofs.Common.{AgreesWith, AreDrawn, AreNumbered, HasNumbers, AreAmong, IsAmong}
 use Rattle.std.specs.List.{AllByRecursion}
@@ -41,13 +41,11 @@ module _ (current : List Track) (next : ℕ) where
 
   like_below : (t : Track) (ts : List Track) → IsLike current t → AreDrawn next ts → AreAmong current ts
       → t.number < next
-  like_below t ts like drawn all =
-      omega (arith, like.number, drawn_one next like.old ts drawn (among_all like.old current ts all like.among))
+  like_below t ts like drawn all = search (arith, drawn_one, among_all)
 
   -- a point of such layouts alone needs no number
   pub like_numbers : (xs : List Track) → AllByRecursion (IsLike current) xs → HasNumbers current next xs next
-  like_numbers [] like =
-      record { least = omega arith; numbered = λ ts numbered drawn all. numbered; drawn = λ ts drawn all. drawn }
+  like_numbers [] like = search arith
   like_numbers (x ∷ xs) like =
       let rest = like_numbers xs like.1 in
       record {
@@ -109,54 +107,35 @@ module _ (current : List Track) (next : ℕ) where
 put_of : (current : List Track) (next : ℕ) (new : Track) (ts : List Track) → new.number ≡ next → AreAmong ts current
     → AllByRecursion (IsOf current next new.layout) (put_in new ts)
 put_of current next new [] number all = tt
-put_of current next new (t ∷ ts) number all = (
-  ⊎_elim
-      (λ same. subst (λ (x : Track). IsOf current next new.layout x) (sym (put_same new t same)) (inr (number, refl)))
-      (λ ne. subst (λ (x : Track). IsOf current next new.layout x) (sym (put_other new t (ne_eqb t.id new.id ne)))
-      (inl (like_itself current t all.0)))
-      (cases_eq t.id new.id),
-  put_of current next new ts number all.1,
-)
+put_of current next new (t ∷ ts) number all =
+    search (arith, put_of current next new ts number all.1, put_same, put_other, ne_eqb, like_itself, cases_eq)
 
 -- with a new layout
 pub put_numbers : (current : List Track) (new : Track) → HasNumbers current new.number (put_in new current)
     (new.number + 1)
-put_numbers current new = new_numbers current new.number new.layout (put_in new current)
-    (put_of current new.number new current refl (among_self current))
+put_numbers current new = search (arith, new_numbers, put_of, among_self)
 
 put_like : (current : List Track) (new : Track) (ts : List Track) → IsLike current new → AreAmong ts current
     → AllByRecursion (IsLike current) (put_in new ts)
 put_like current new [] like all = tt
-put_like current new (t ∷ ts) like all = (
-  ⊎_elim
-      (λ same. subst (IsLike current) (sym (put_same new t same)) like)
-      (λ ne. subst (IsLike current) (sym (put_other new t (ne_eqb t.id new.id ne))) (like_itself current t all.0))
-      (cases_eq t.id new.id),
-  put_like current new ts like all.1,
-)
+put_like current new (t ∷ ts) like all =
+    search (arith, put_like current new ts like all.1, put_same, put_other, ne_eqb, like_itself, cases_eq)
 
 -- with a layout that is there
 pub set_numbers : (current : List Track) (next : ℕ) (new : Track) → IsLike current new
     → HasNumbers current next (put_in new current) next
-set_numbers current next new like =
-    like_numbers current next (put_in new current) (put_like current new current like (among_self current))
+set_numbers current next new like = search (arith, like_numbers, put_like, among_self)
 
 without_like : (current : List Track) (id : ℕ) (ts : List Track) → AreAmong ts current
     → AllByRecursion (IsLike current) (without id ts)
 without_like current id [] all = tt
 without_like current id (t ∷ ts) all =
-    let rest = without_like current id ts all.1 in
-    ⊎_elim
-    (λ same. subst (λ xs. AllByRecursion (IsLike current) (xs ++ without id ts)) (sym (other_same id t same)) rest)
-    (λ ne. subst (λ xs. AllByRecursion (IsLike current) (xs ++ without id ts))
-    (sym (other_keeps id t (ne_eqb t.id id ne))) (like_itself current t all.0, rest))
-    (cases_eq t.id id)
+    search (arith, without_like current id ts all.1, other_same, other_keeps, ne_eqb, like_itself, cases_eq)
 
 -- ---- without the track of an id
 
 pub without_numbers : (current : List Track) (next id : ℕ) → HasNumbers current next (without id current) next
-without_numbers current next id =
-    like_numbers current next (without id current) (without_like current id current (among_self current))
+without_numbers current next id = search (arith, like_numbers, without_like, among_self)
 
 -- ---- the same point
 

@@ -1,5 +1,5 @@
 -- A use of a layout that comes or goes.
-use Rattle.layout_uses.proofs.Common.{◌≡◌, ⊎_elim, refl, sym, ap, ◌∙◌, subst, ℕ, zero, suc, ◌+◌, ◌<◌, true, length}
+use Rattle.layout_uses.proofs.Common.{◌≡◌, ⊎_elim, refl, sym, ap, ◌∙◌, ℕ, zero, suc, ◌+◌, ◌<◌, true, length}
 use Rattle.layout_uses.proofs.Common.{false, List, [], ◌∷◌, ◌++◌, Option, Some, None, IsSome, arith, cases_eq, BlockRef}
 use Rattle.layout_uses.proofs.Common.{Counts, SetsCount, occurrences, one_more, one_less, layout_blocks, Track, HasAll}
 use Rattle.layout_uses.proofs.Common.{Dropped, Held, times_named, numbers_of, has_number, used_blocks, AreCounts}
@@ -20,9 +20,7 @@ not_free (Some (suc n)) some free = omega arith
 
 more_than_none : (o : Option ℕ) → Some (one_more o) ≡ Some 0 → ⊥
 more_than_none None e = absurd cc
-more_than_none (Some n) e =
-    let same : one_more (Some n) ≡ 0 = ap occurrences e in
-    absurd (omega (arith, same))
+more_than_none (Some n) e = search arith
 
 pub none_is : {X : Type 0} (o : Option X) → is_none o ≡ true → o ≡ None
 none_is None is = refl
@@ -34,29 +32,15 @@ some_is (Some x) is = refl
 
 module _ (ts : List Track) (blocks : List BlockRef) (u c : Counts) (is : AreCounts ts blocks u c) (t : Track) where
   unused : u t.number ≡ None → has_number t.number ts ≡ false
-  unused none = ⊎_elim
-      (λ yes. absurd (omega (arith, times_number t.number ts yes, is.fresh_uses t.number, ap occurrences none)))
-      (λ no. no)
-      (number_cases (has_number t.number ts))
+  unused none = search (arith, times_number, number_cases)
 
   used : IsSome (u t.number) → has_number t.number ts ≡ true
-  used some = ⊎_elim
-      (λ yes. yes)
-      (λ no. absurd (omega (
-        arith,
-        times_no_number t.number ts no,
-        is.fresh_uses t.number,
-        not_free (u t.number) some (is.none_free t.number),
-      )))
-      (number_cases (has_number t.number ts))
+  used some = search (arith, times_no_number, not_free, number_cases)
 
   module _ (u' : Counts) (set : SetsCount u u' t.number (Some (one_more (u t.number))))
       (fresh : IsFreshCount (t.number ∷ numbers_of ts) u') where
     still_used : (n : ℕ) → u' n ≡ Some 0 → ⊥
-    still_used n free = ⊎_elim
-        (λ same. more_than_none (u t.number) (sym set.here ∙ ap u' (sym same) ∙ free))
-        (λ ne. is.none_free n (sym (set.others n ne) ∙ free))
-        (cases_eq n t.number)
+    still_used n free = search (arith, more_than_none, cases_eq)
 
     pub came_first : (c' : Counts) → u t.number ≡ None → Held c c' (layout_blocks t.layout)
         → AreCounts (t ∷ ts) blocks u' c'
@@ -74,27 +58,14 @@ module _ (ts : List Track) (blocks : List BlockRef) (u c : Counts) (is : AreCoun
     }
 
     pub came_again : IsSome (u t.number) → AreCounts (t ∷ ts) blocks u' c
-    came_again some = record {
-      fresh_uses = fresh;
-      none_free = still_used;
-      fresh_counts = λ id. omega (
-        arith,
-        is.fresh_counts id,
-        times_counted id ts blocks,
-        times_counted id (t ∷ ts) blocks,
-        each_again id t ts (used some),
-      );
-    }
+    came_again some = search (arith, still_used, times_counted, each_again, used)
 
 module _ (ts : List Track) (blocks : List BlockRef) (u c : Counts) (t : Track) (is : AreCounts
     (t ∷ ts) blocks u c) where
   module _ (u1 : Counts) (set : SetsCount u u1 t.number (Some (one_less (u t.number))))
       (fresh : IsFreshCount (numbers_of ts) u1) where
     last : u1 t.number ≡ Some 0 → has_number t.number ts ≡ false
-    last free = ⊎_elim
-        (λ yes. absurd (omega (arith, times_number t.number ts yes, fresh t.number, ap occurrences free)))
-        (λ no. no)
-        (number_cases (has_number t.number ts))
+    last free = search (arith, times_number, number_cases)
 
     pub has_last : u1 t.number ≡ Some 0 → HasAll c (layout_blocks t.layout)
     has_last free = λ id. omega (
@@ -126,31 +97,7 @@ module _ (ts : List Track) (blocks : List BlockRef) (u c : Counts) (t : Track) (
         none_some e = absurd cc
 
     pub left_used : (u1 t.number ≡ Some 0 → ⊥) → AreCounts ts blocks u1 c
-    left_used more =
-        let some : IsSome (u1 t.number) = subst IsSome (sym set.here) refl in
-        let there : has_number t.number ts ≡ true = ⊎_elim
-        (λ yes. yes)
-        (λ no. absurd (omega (
-          arith,
-          times_no_number t.number ts no,
-          fresh t.number,
-          not_free (u1 t.number) some more,
-        )))
-        (number_cases (has_number t.number ts)) in
-        record {
-          fresh_uses = fresh;
-          none_free = λ n zero. ⊎_elim
-              (λ same. more (ap u1 (sym same) ∙ zero))
-              (λ ne. is.none_free n (sym (set.others n ne) ∙ zero))
-              (cases_eq n t.number);
-          fresh_counts = λ id. omega (
-            arith,
-            is.fresh_counts id,
-            times_counted id (t ∷ ts) blocks,
-            times_counted id ts blocks,
-            each_again id t ts there,
-          );
-        }
+    left_used more = search (arith, times_no_number, not_free, number_cases, cases_eq, times_counted, each_again)
 
 pub numbers_length : (ts : List Track) → length (numbers_of ts) ≡ length ts
 numbers_length [] = refl

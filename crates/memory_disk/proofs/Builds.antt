@@ -67,7 +67,4 @@ built_next numbers i disk old new x was is sets =
 -- the same of histories that are known by equations
 pub sets_written : (file : ℕ) (v : List ℕ) (was removed wrote now : List Step) → removed ≡ Removed file ∷ was
     → wrote ≡ Wrote file 0 v ∷ removed → now ≡ Synced file ∷ wrote → SetsFile file (Some v) was now
-sets_written file v was removed wrote now one two three =
-    let whole : now ≡ Synced file ∷ Wrote file 0 v ∷ Removed file ∷ was =
-    three ∙ ap (λ (h : List Step). Synced file ∷ h) (two ∙ ap (λ (h : List Step). Wrote file 0 v ∷ h) one) in
-    subst (λ (h : List Step). SetsFile file (Some v) was h) (sym whole) (sets_some file v was)
+sets_written file v was removed wrote now one two three = rw (three, two, one) (sets_some file v was)

@@ -18,8 +18,7 @@ module _ (reads : ℕ → Files) (file_of : ℕ → ℕ) (n : ℕ) where
     begins = was.begins;
     ends = was.ends;
     absent = was.absent;
-    leads = λ i from lt is. subst (λ (k : ℕ). LeadsTo reads file_of head.file i k head.last)
-        (sym (same i (omega (arith, was.bound)) (λ e. apart (sym is ∙ e)))) (was.leads i from lt is);
+    leads = λ i from lt is. rw (same i (omega (arith, was.bound)) (λ e. apart (sym is ∙ e))) (was.leads i from lt is);
     behind = λ i after lt is. ⊎_elim (λ (e : i ≡ n). apart (sym is ∙ ap file_of e))
         (λ ne. was.behind i after (omega arith) is) (cases_eq i n);
     rest = stays ∙ was.rest;

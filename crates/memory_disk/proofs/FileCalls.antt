@@ -1,19 +1,17 @@
 -- What holds of a file holds by its own calls.
-use Rattle.memory_disk.proofs.Common.{◌≡◌, ◌≢◌, ⊎_elim, ℕ, zero, suc, ◌+◌, ◌-◌, ◌≤◌, ◌<◌, true, false, eqb, Option}
-use Rattle.memory_disk.proofs.Common.{Some, List, [], ◌∷◌, ◌++◌, length, take, drop, get_or, refl, sym, ◌∙◌, ap, subst}
-use Rattle.memory_disk.proofs.Common.{arith, length-drop, cases_eq, cases_lt, cond-true, cond-false, eq-eqb, ne_eqb}
-use Rattle.memory_disk.proofs.Common.{nat_tests, get_or-take, get_or-drop, length-take-le, All, nat_cmp, bytes_of}
+use Rattle.memory_disk.proofs.Common.{◌≡◌, ◌≢◌, ⊎_elim, ℕ, zero, suc, ◌+◌, ◌≤◌, ◌<◌, eqb, Option}
+use Rattle.memory_disk.proofs.Common.{Some, List, [], ◌∷◌, length, take, drop, get_or, refl, sym, ◌∙◌, ap, subst}
+use Rattle.memory_disk.proofs.Common.{arith, cases_eq, cases_lt, cond-true, cond-false, eq-eqb, ne_eqb}
+use Rattle.memory_disk.proofs.Common.{nat_tests, All, nat_cmp, bytes_of}
 use Rattle.memory_disk.proofs.Common.{written, Left, IsLeft, left_of, image_of, after_write, after_removal, AllHeld}
 use Rattle.memory_disk.proofs.Common.{Held, step_by, step_of, history_on, history_of, Write, Sync, Remove, Step}
 use Rattle.memory_disk.proofs.Common.{reads_of, reads_written, reads_removed, calls_of, no_call, Kind, Call}
-use Rattle.std.proofs.Common.{not, ◌&&◌, take-append-drop}
-use Rattle.std.proofs.lemmas.List.{append-nil}
-use Rattle.std.proofs.lemmas.List.Elements.{filter-append, filter_agree}
+use Rattle.std.proofs.Common.{not, ◌&&◌}
+use Rattle.std.proofs.lemmas.List.Elements.{filter_agree}
 use Rattle.std.specs.{List.Sorted.ties, List.Sorted.IsStableByKey, Ordering.is_lt}
 use Rattle.memory_disk.specs.Images.{state_at}
 use Rattle.memory_disk.specs.{ByFile.is_of}
-use Rattle.memory_disk.proofs.LeftFiles.{wrote_here, wrote_other, synced_here, synced_other, removed_here}
-use Rattle.memory_disk.proofs.LeftFiles.{removed_other}
+use Rattle.memory_disk.proofs.LeftFiles.{wrote_here, synced_here, removed_here, left_other}
 use Rattle.memory_disk.proofs.{CallsLemmas.held_at, Noted.step_other, Rising.state_first, Rising.state_next}
 
 -- two histories that a file cannot tell apart
@@ -21,18 +19,12 @@ record AreAlike (f : ℕ) (h k : List Step) : Type 0 where
   reads : reads_of h f ≡ reads_of k f
   left : (choice start : ℕ) → left_of choice f h start ≡ left_of choice f k start
 
-left_other : (choice : ℕ) (k : Kind) (file at : ℕ) (bytes : List ℕ) (h : List Step) (f start : ℕ) → f ≢ file
-    → left_of choice f (step_by k file at bytes ∷ h) start ≡ left_of choice f h start
-left_other choice Write file at bytes h f start ne = wrote_other choice file at bytes h f start ne
-left_other choice Sync file at bytes h f start ne = synced_other choice file h f start ne
-left_other choice Remove file at bytes h f start ne = removed_other choice file h f start ne
-
 -- a call of another file, and one of this file in both
 alike_other : (k : Kind) (file at : ℕ) (bytes : List ℕ) (h g : List Step) (f : ℕ) → f ≢ file → AreAlike f h g
     → AreAlike f (step_by k file at bytes ∷ h) g
 alike_other k file at bytes h g f ne was = record {
   reads = step_other k file at bytes h f ne ∙ was.reads;
-  left = λ choice start. left_other choice k file at bytes h f start ne ∙ was.left choice start;
+  left = λ choice start. left_other k choice file at bytes h f start ne ∙ was.left choice start;
 }
 
 alike_here : (k : Kind) (at : ℕ) (bytes : List ℕ) (h g : List Step) (f : ℕ) → AreAlike f h g
@@ -56,6 +48,14 @@ alike_here Remove at bytes h g f was = record {
       ∙ ap (λ (l : Left). after_removal choice l) (was.left choice start) ∙ sym (removed_here choice g f start);
 }
 
+-- the first call of a list is the file's or not
+own_first : (call : Call) (calls : List Call) (f : ℕ) → call.file ≡ f
+    → calls_of f (call ∷ calls) ≡ call ∷ calls_of f calls
+own_first call calls f same = cond-true (is_of f call) _ _ (eq-eqb call.file f same)
+
+not_first : (call : Call) (calls : List Call) (f : ℕ) → call.file ≢ f → calls_of f (call ∷ calls) ≡ calls_of f calls
+not_first call calls f ne = cond-false (is_of f call) _ _ (ne_eqb call.file f ne)
+
 own_on : (row : List ℕ) (f : ℕ) (calls : List Call) (h g : List Step) → AreAlike f h g
     → AreAlike f (history_on h row calls) (history_on g row (calls_of f calls))
 own_on row f [] h g was = was
@@ -63,18 +63,13 @@ own_on row f (call ∷ calls) h g was =
     let bytes = take call.len (drop call.from row) in
     ⊎_elim
     (λ (same : call.file ≡ f).
-    let kept : calls_of f (call ∷ calls) ≡ call ∷ calls_of f calls =
-    cond-true (is_of f call) (call ∷ calls_of f calls) (calls_of f calls) (eq-eqb call.file f same) in
     let step = subst (λ (file : ℕ). AreAlike f (step_by call.kind file call.at bytes ∷ h)
     (step_by call.kind file call.at bytes ∷ g)) (sym same) (alike_here call.kind call.at bytes h g f was) in
-    subst (λ (l : List Call). AreAlike f (history_on (step_of row call ∷ h) row calls) (history_on g row l)) (sym kept)
-    (own_on row f calls (step_of row call ∷ h) (step_of row call ∷ g) step))
-    (λ ne.
-    let dropped : calls_of f (call ∷ calls) ≡ calls_of f calls =
-    cond-false (is_of f call) (call ∷ calls_of f calls) (calls_of f calls) (ne_eqb call.file f ne) in
     subst (λ (l : List Call). AreAlike f (history_on (step_of row call ∷ h) row calls) (history_on g row l))
-    (sym dropped)
-    (own_on row f calls (step_of row call ∷ h) g
+    (sym (own_first call calls f same)) (own_on row f calls (step_of row call ∷ h) (step_of row call ∷ g) step))
+    (λ ne.
+    subst (λ (l : List Call). AreAlike f (history_on (step_of row call ∷ h) row calls) (history_on g row l))
+    (sym (not_first call calls f ne)) (own_on row f calls (step_of row call ∷ h) g
     (alike_other call.kind call.file call.at bytes h g f (λ e. ne (sym e)) was)))
     (cases_eq call.file f)
 
@@ -118,10 +113,9 @@ module _ (row : List ℕ) (xs ys : List Call) (same : (f : ℕ) → calls_of f x
 pub held_own : (n f : ℕ) (calls : List Call) → AllHeld n calls → AllHeld n (calls_of f calls)
 held_own n f [] held = tt
 held_own n f (call ∷ calls) held = ⊎_elim
-    (λ (same : call.file ≡ f). subst (λ (l : List Call). AllHeld n l) (sym (cond-true (is_of f call)
-    (call ∷ calls_of f calls) (calls_of f calls) (eq-eqb call.file f same))) (held.0, held_own n f calls held.1))
-    (λ ne. subst (λ (l : List Call). AllHeld n l) (sym (cond-false (is_of f call) (call ∷ calls_of f calls)
-    (calls_of f calls) (ne_eqb call.file f ne))) (held_own n f calls held.1))
+    (λ (same : call.file ≡ f).
+    subst (AllHeld n) (sym (own_first call calls f same)) (held.0, held_own n f calls held.1))
+    (λ ne. subst (AllHeld n) (sym (not_first call calls f ne)) (held_own n f calls held.1))
     (cases_eq call.file f)
 
 -- each call is held
@@ -133,72 +127,35 @@ all_held n [] each = tt
 all_held n (call ∷ calls) each =
     (each 0 call (omega arith), all_held n calls (λ k d lt. each (suc k) d (omega (arith, lt))))
 
--- a list of which all or none is the file's
-filter_all : (f : ℕ) (calls : List Call) → ((k : ℕ) → k < length calls → (get_or calls k no_call).file ≡ f)
-    → calls_of f calls ≡ calls
-filter_all f [] all = refl
-filter_all f (call ∷ calls) all =
-    cond-true (is_of f call) (call ∷ calls_of f calls) (calls_of f calls) (eq-eqb call.file f (all 0 (omega arith)))
-    ∙ ap (λ (l : List Call). call ∷ l) (filter_all f calls (λ k lt. all (suc k) (omega (arith, lt))))
-
-filter_none : (f : ℕ) (calls : List Call) → ((k : ℕ) → k < length calls → (get_or calls k no_call).file ≢ f)
+filter_none : (f : ℕ) (calls : List Call) → ((k : ℕ) → k < length calls → f < (get_or calls k no_call).file)
     → calls_of f calls ≡ []
-filter_none f [] none = refl
-filter_none f (call ∷ calls) none = cond-false (is_of f call) (call ∷ calls_of f calls) (calls_of f calls)
-    (ne_eqb call.file f (none 0 (omega arith))) ∙ filter_none f calls (λ k lt. none (suc k) (omega (arith, lt)))
+filter_none f [] above = refl
+filter_none f (call ∷ calls) above = not_first call calls f (λ e. omega (arith, above 0 (omega arith), e))
+    ∙ filter_none f calls (λ k lt. above (suc k) (omega (arith, lt)))
 
 -- the part of a list that is the file's
-pub own_part : (calls : List Call) (from to f : ℕ) → from ≤ to
-    → to ≤ length calls → ((k : ℕ) → k < from → (get_or calls k no_call).file < f)
-    → ((k : ℕ) → from ≤ k → k < to → (get_or calls k no_call).file ≡ f)
-    → ((k : ℕ) → to ≤ k → k < length calls → f < (get_or calls k no_call).file)
-    → take (to - from) (drop from calls) ≡ calls_of f calls
-own_part calls from to f le bound below within above =
-    let front = take from calls in
-    let rest = drop from calls in
-    let part = take (to - from) rest in
-    let back = drop (to - from) rest in
-    let long = length-drop from calls in
-    let front_long = length-take-le from calls (omega (arith, le, bound)) in
-    let part_long = length-take-le (to - from) rest (omega (arith, le, bound, long)) in
-    let none = filter_none f front (λ k lt e. let b = below k (omega (arith, lt, front_long)) in
-    let g = ap (λ (c : Call). c.file) (get_or-take from calls k no_call (omega (arith, lt, front_long))) in
-    omega (arith, b, e, g)) in
-    let all = filter_all f part (λ k lt.
-    ap (λ (c : Call). c.file)
-    (get_or-take (to - from) rest k no_call (omega (arith, lt, part_long)) ∙ get_or-drop from calls k no_call)
-    ∙ within (from + k) (omega arith) (omega (arith, lt, part_long, le))) in
-    let after = filter_none f back (λ k lt e.
-    let g = ap (λ (c : Call). c.file)
-    (get_or-drop (to - from) rest k no_call ∙ get_or-drop from calls (to - from + k) no_call) in
-    let up = above (from + (to - from + k)) (omega (arith, le))
-    (omega (arith, lt, length-drop (to - from) rest, long, le)) in
-    omega (arith, up, g, e)) in
-    sym (ap (λ (l : List Call). calls_of f l) (sym (take-append-drop from calls)
-    ∙ ap (λ (l : List Call). front ++ l) (sym (take-append-drop (to - from) rest)))
-    ∙ filter-append (is_of f) front (part ++ back)
-    ∙ ap (λ (l : List Call). l ++ calls_of f (part ++ back)) none
-    ∙ filter-append (is_of f) part back
-    ∙ ap (λ (l : List Call). l ++ calls_of f back) all
-    ∙ ap (λ (l : List Call). part ++ l) after
-    ∙ append-nil part)
+pub own_part : (calls : List Call) (from n f : ℕ) → from + n ≤ length calls
+    → ((k : ℕ) → k < from → (get_or calls k no_call).file < f)
+    → ((k : ℕ) → from ≤ k → k < from + n → (get_or calls k no_call).file ≡ f)
+    → ((k : ℕ) → from + n ≤ k → k < length calls → f < (get_or calls k no_call).file)
+    → take n (drop from calls) ≡ calls_of f calls
+own_part calls zero zero f bound below within above = sym (filter_none f calls (λ k lt. above k (omega arith) lt))
+own_part [] zero (suc n) f bound below within above = absurd (omega (arith, bound))
+own_part (call ∷ calls) zero (suc n) f bound below within above =
+    ap (λ (l : List Call). call ∷ l) (own_part calls zero n f (omega (arith, bound))
+    (λ k lt. absurd (omega (arith, lt))) (λ k le lt. within (suc k) (omega arith) (omega (arith, lt)))
+    (λ k le lt. above (suc k) (omega (arith, le)) (omega (arith, lt))))
+    ∙ sym (own_first call calls f (within 0 (omega arith) (omega arith)))
+own_part [] (suc from) n f bound below within above = absurd (omega (arith, bound))
+own_part (call ∷ calls) (suc from) n f bound below within above =
+    own_part calls from n f (omega (arith, bound)) (λ k lt. below (suc k) (omega (arith, lt)))
+    (λ k le lt. within (suc k) (omega (arith, le)) (omega (arith, lt)))
+    (λ k le lt. above (suc k) (omega (arith, le)) (omega (arith, lt)))
+    ∙ sym (not_first call calls f (λ e. omega (arith, below 0 (omega arith), e)))
 
 -- a stable sort by file keeps the calls of each file in order
 file_ties : (f g : ℕ) → eqb g f ≡ not (is_lt (nat_cmp f g)) && not (is_lt (nat_cmp g f))
-file_ties f g = ⊎_elim
-    (λ (e : g ≡ f). eq-eqb g f e ∙ sym (ties_same f g e))
-    (λ ne. ne_eqb g f ne
-    ∙ sym (⊎_elim (λ less. ties_below f g less) (λ le. ties_above f g (omega arith)) (cases_lt f g)))
-    (cases_eq g f)
-  where
-    ties_same : (f g : ℕ) → g ≡ f → not (is_lt (nat_cmp f g)) && not (is_lt (nat_cmp g f)) ≡ true
-    ties_same f g e = grind (arith, nat_tests)
-
-    ties_below : (f g : ℕ) → f < g → not (is_lt (nat_cmp f g)) && not (is_lt (nat_cmp g f)) ≡ false
-    ties_below f g less = grind (arith, nat_tests)
-
-    ties_above : (f g : ℕ) → g < f → not (is_lt (nat_cmp f g)) && not (is_lt (nat_cmp g f)) ≡ false
-    ties_above f g less = grind (arith, nat_tests)
+file_ties f g = grind (arith, nat_tests)
 
 pub stable_calls : (xs ys : List Call) → IsStableByKey (λ (c : Call). c.file) nat_cmp xs ys → (f : ℕ)
     → calls_of f ys ≡ calls_of f xs

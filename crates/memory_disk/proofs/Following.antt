@@ -60,9 +60,7 @@ remove_none file c = record { gone = inl refl; others = λ _ _. refl }
 -- The same for a history that is known by an equation.
 pub follows_same : (h k : List Step) → k ≡ h
     → Follows StaysStep (At (length h)) (At (length k)) (SinceMoment h) (SinceMoment k)
-follows_same h k is =
-    subst (λ (l : List Step). Follows StaysStep (At (length h)) (At (length l)) (SinceMoment h) (SinceMoment l))
-    (sym is) (follows_none h)
+follows_same h k is = rw is (follows_none h)
 
 same_step : (step : Files → Files → Type 0) (h k : List Step) → ((c : Files) → step c c) → k ≡ h
     → Follows step (At (length h)) (At (length k)) (SinceMoment h) (SinceMoment k)
@@ -71,9 +69,7 @@ same_step step h k none is = wider (λ d c stays. subst (step d) (sym stays) (no
 more_step : (step : Files → Files → Type 0) (s : Step) (h k : List Step) → ((c : Files) → step c c)
     → ((c : Files) → IsImage (s ∷ h) c → (d : Files) × IsImage h d × step d c) → k ≡ s ∷ h
     → Follows step (At (length h)) (At (length k)) (SinceMoment h) (SinceMoment k)
-more_step step s h k none comes is =
-    subst (λ (l : List Step). Follows step (At (length h)) (At (length l)) (SinceMoment h) (SinceMoment l)) (sym is)
-    (follows_step step s h none comes)
+more_step step s h k none comes is = rw is (follows_step step s h none comes)
 
 pub write_same : (file at n : ℕ) (h k : List Step) → k ≡ h
     → Follows (WriteStep file at n) (At (length h)) (At (length k)) (SinceMoment h) (SinceMoment k)

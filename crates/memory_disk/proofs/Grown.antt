@@ -1,5 +1,5 @@
 -- An index while its list of calls grows.
-use Rattle.memory_disk.proofs.Common.{◌≡◌, ◌≢◌, ℕ, zero, suc, ◌+◌, ◌≤◌, ◌<◌, Option, None, List, [], ◌∷◌, ◌++◌, length}
+use Rattle.memory_disk.proofs.Common.{◌≡◌, ◌≢◌, ℕ, ◌+◌, ◌≤◌, ◌<◌, Option, None, List, [], ◌∷◌, ◌++◌, length}
 use Rattle.memory_disk.proofs.Common.{take, drop, get_or, refl, sym, ◌∙◌, ap, subst, arith, false≢true}
 use Rattle.memory_disk.proofs.Common.{take-append-drop, get_or-take, IsSome, option_map, Files, AllHeld, step_by}
 use Rattle.memory_disk.proofs.Common.{history_of, IsChain, IsIndexed, MakesFile, reads_at, file_at, no_call, Write}
@@ -7,6 +7,7 @@ use Rattle.memory_disk.proofs.Common.{Sync, Remove, Step, reads_of, reads_remove
 use Rattle.std.proofs.Common.{Result, Ok, Err}
 use Rattle.std.specs.{Prelude.IsOk, Prelude.OnOk}
 use Rattle.memory_disk.proofs.{CallsLemmas.history_row, CallsLemmas.held_take, ReadChain.reads_all}
+use Rattle.std.proofs.lemmas.List.{take-take}
 
 pub on_ok : {T E P : Type 0} (r : Result T E) → IsOk r → OnOk r P → P
 on_ok (Ok x) ok p = p
@@ -58,12 +59,6 @@ module _ (reads now : ℕ → Files) (file_of file_now : ℕ → ℕ) (n : ℕ) 
     unknown = λ file none. reads_same n file (omega arith) ∙ was.unknown file none;
   }
 
-take_less : (k n : ℕ) (calls : List Call) → k ≤ n → take k (take n calls) ≡ take k calls
-take_less zero n calls le = refl
-take_less (suc k) zero calls le = absurd (omega (arith, le))
-take_less (suc k) (suc n) [] le = refl
-take_less (suc k) (suc n) (call ∷ calls) le = ap (λ (l : List Call). call ∷ l) (take_less k n calls (omega (arith, le)))
-
 -- more bytes and calls after those that are there
 module _ (row longer : List ℕ) (calls more : List Call) (held : AllHeld (length row) calls)
     (kept : take (length row) longer ≡ row) (earlier : take (length calls) more ≡ calls) where
@@ -73,7 +68,7 @@ module _ (row longer : List ℕ) (calls more : List Call) (held : AllHeld (lengt
       let whole : longer ≡ row ++ rest =
       sym (take-append-drop (length row) longer) ∙ ap (λ (l : List ℕ). l ++ rest) kept in
       let first : take k more ≡ take k calls =
-      sym (take_less k (length calls) more le) ∙ ap (λ (l : List Call). take k l) earlier in
+      sym (take-take k (length calls) more le) ∙ ap (λ (l : List Call). take k l) earlier in
       ap (λ (l : List Call). reads_of (history_of longer l)) first
       ∙ ap (λ (l : List ℕ). reads_of (history_of l (take k calls))) whole
       ∙ ap reads_of (history_row [] row rest (take k calls) (held_take (length row) calls k held))
@@ -115,19 +110,3 @@ module _ (row longer : List ℕ) (calls more : List Call) (held : AllHeld (lengt
       none Write ne h was some = ne refl
       none Sync ne h was some = some_not_none was some
       none Remove ne h was some = some_not_none (reads_removed file h) some
-
--- the same index of lists that are the same
-pub indexed_seen : (row seen_row : List ℕ) (calls seen : List Call) (n m : ℕ) (heads : List Head) (links : List ℕ)
-    → seen_row ≡ row → seen ≡ calls → m ≡ n → IsIndexed (reads_at row calls) (file_at calls) n heads links
-    → IsIndexed (reads_at seen_row seen) (file_at seen) m heads links
-indexed_seen row seen_row calls seen n m heads links same_row same same_count was =
-    subst (λ (l : List ℕ). IsIndexed (reads_at l seen) (file_at seen) m heads links) (sym same_row)
-    (subst (λ (l : List Call). IsIndexed (reads_at row l) (file_at l) m heads links) (sym same)
-    (subst (λ (k : ℕ). IsIndexed (reads_at row calls) (file_at calls) k heads links) (sym same_count) was))
-
-pub makes_seen : (row seen_row : List ℕ) (calls seen : List Call) (n m : ℕ) → seen_row ≡ row → seen ≡ calls → m ≡ n
-    → MakesFile (reads_at seen_row seen) (file_at seen) m → MakesFile (reads_at row calls) (file_at calls) n
-makes_seen row seen_row calls seen n m same_row same same_count was =
-    subst (λ (l : List ℕ). MakesFile (reads_at l calls) (file_at calls) n) same_row
-    (subst (λ (l : List Call). MakesFile (reads_at seen_row l) (file_at l) n) same
-    (subst (λ (k : ℕ). MakesFile (reads_at seen_row seen) (file_at seen) k) same_count was))

@@ -1,4 +1,5 @@
 -- Heads that rise by file: what is found, put in another's place, and put among them.
+use Rattle.memory_disk.proofs.Common.{nat_tests}
 use Rattle.memory_disk.proofs.Common.{◌≡◌, ◌≢◌, ⊎_elim, ℕ, zero, suc, ◌+◌, ◌-◌, ◌≤◌, ◌<◌, eqb, cond, Option, Some, None}
 use Rattle.memory_disk.proofs.Common.{List, [], ◌∷◌, length, get_or, set, refl, sym, ◌∙◌, ap, subst, arith, cases_eq}
 use Rattle.memory_disk.proofs.Common.{cases_lt, cond-true, cond-false, eq-eqb, ne_eqb, get_or-set_same}
@@ -29,26 +30,13 @@ head_missing (h ∷ hs) f d none =
 -- what is put first
 head_put : (new : Head) (rest was : Option Head) (f : ℕ) → (new.file ≢ f → rest ≡ was)
     → cond (eqb new.file f) (Some new) rest ≡ cond (eqb new.file f) (Some new) was
-head_put new rest was f same = ⊎_elim
-    (λ e. cond-true (eqb new.file f) (Some new) rest (eq-eqb new.file f e)
-    ∙ sym (cond-true (eqb new.file f) (Some new) was (eq-eqb new.file f e)))
-    (λ ne. ap (λ (o : Option Head). cond (eqb new.file f) (Some new) o) (same ne))
-    (cases_eq new.file f)
+head_put new rest was f same = grind (arith, nat_tests, same)
 
 -- a head of another file before it
 head_past : (h new : Head) (was rest : Option Head) (f : ℕ) → h.file ≢ new.file
     → rest ≡ cond (eqb new.file f) (Some new) was
     → cond (eqb h.file f) (Some h) rest ≡ cond (eqb new.file f) (Some new) (cond (eqb h.file f) (Some h) was)
-head_past h new was rest f apart is = ⊎_elim
-    (λ e. cond-true (eqb h.file f) (Some h) rest (eq-eqb h.file f e)
-    ∙ sym (cond-false (eqb new.file f) (Some new) (cond (eqb h.file f) (Some h) was)
-    (ne_eqb new.file f (λ g. apart (e ∙ sym g)))
-    ∙ cond-true (eqb h.file f) (Some h) was (eq-eqb h.file f e)))
-    (λ ne. cond-false (eqb h.file f) (Some h) rest (ne_eqb h.file f ne)
-    ∙ is
-    ∙ ap (λ (o : Option Head). cond (eqb new.file f) (Some new) o)
-    (sym (cond-false (eqb h.file f) (Some h) was (ne_eqb h.file f ne))))
-    (cases_eq h.file f)
+head_past h new was rest f apart is = grind (arith, nat_tests, apart, is)
 
 pub head_replaced : (hs : List Head) (p : ℕ) (new d : Head) (f : ℕ) → p < length hs → (get_or hs p d).file ≡ new.file
     → ((k : ℕ) → k < p → (get_or hs k d).file ≢ new.file)

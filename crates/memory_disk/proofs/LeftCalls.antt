@@ -32,9 +32,7 @@ pub left_next : (row : List ℕ) (calls : List Call) (i choice old f start state
     → IsLeft old f (step_of row (get_or calls i d) ∷ history_on h row (take i calls)) start content state
     → IsLeft choice f (history_on h row (take (i + 1) calls)) start content state
 left_next row calls i choice old f start state d h content lt same left =
-    subst (λ (l : List Step). IsLeft choice f l start content state) (sym (history_on_next h row calls i d lt))
-    (subst (λ (k : ℕ).
-    IsLeft k f (step_of row (get_or calls i d) ∷ history_on h row (take i calls)) start content state) same left)
+    rw (history_on_next h row calls i d lt, ← same) left
 
 -- a list from an index on, as a slice of it is
 pub rest_is : (calls : List Call) (n : ℕ) → take (length calls - n) (drop n calls) ≡ drop n calls
@@ -49,6 +47,4 @@ pub left_parts : (row : List ℕ) (calls : List Call) (n choice f start state : 
     → IsLeft choice f (history_on (history_of row (take n calls)) row (take (length calls - n) (drop n calls))) start
     content state → IsLeft choice f (history_of row calls) start content state
 left_parts row calls n choice f start state content left =
-    subst (λ (h : List Step). IsLeft choice f h start content state) (sym (history_parts row calls n))
-    (subst (λ (l : List Call). IsLeft choice f (history_on (history_of row (take n calls)) row l) start content state)
-    (rest_is calls n) left)
+    rw (history_parts row calls n) (rw (rest_is calls n) at left)

@@ -1,53 +1,49 @@
 -- What the draws leave of a file, call by call, and that it is an image.
+use Rattle.memory_disk.proofs.Common.{Kind, Write, Sync, Remove, step_by}
 use Rattle.memory_disk.proofs.Common.{◌≡◌, ◌≢◌, ◌⊎◌, inl, inr, ⊎_elim, ℕ, ◌+◌, ◌-◌, ◌≤◌, ◌<◌, max, Bool, true, false}
-use Rattle.memory_disk.proofs.Common.{Option, Some, None, List, [], ◌∷◌, length, replicate, get_or, eqb, refl, sym, ◌∙◌}
-use Rattle.memory_disk.proofs.Common.{ap, subst, arith, length-append, cases_eq, cases_lt, cond-true, get_or-take}
+use Rattle.memory_disk.proofs.Common.{Option, Some, None, List, [], ◌∷◌, length, replicate, get_or, refl, sym, ◌∙◌}
+use Rattle.memory_disk.proofs.Common.{ap, subst, arith, length-append, cases_eq, cases_lt, get_or-take}
 use Rattle.memory_disk.proofs.Common.{length-replicate, length-take-le, nat_tests, same_number_lists, bytes_of, written}
 use Rattle.memory_disk.proofs.Common.{Torn, TornFile, Step, Wrote, Synced, Removed, IsImage, IsFileImage, reads_of}
-use Rattle.memory_disk.proofs.Common.{reads_written, reads_elsewhere, reads_removed, elsewhere_removed, Left}
+use Rattle.memory_disk.proofs.Common.{reads_written, reads_removed, Left}
 use Rattle.memory_disk.proofs.Common.{after_write, after_removal, left_of, image_of, IsLeft}
 use Rattle.memory_disk.specs.Histories.{same_eq, length-written, reads_is_image}
 use Rattle.memory_disk.specs.Images.{takes, next_state, grown, laid, left_by_write, left_by_removal, state_at}
 use Rattle.memory_disk.specs.Images.{synced_of}
-use Rattle.memory_disk.proofs.Following.{torn_file_none}
+use Rattle.memory_disk.proofs.{Following.torn_file_none, Noted.step_other}
 use Rattle.memory_disk.proofs.Images.{image_from_files, image_to_file, torn_by_index}
 use Rattle.memory_disk.proofs.Windows.{get_or-zeros, written_before, written_inside, written_after}
 
--- one call more, on this file or on another
+-- one call more, on this file
 pub wrote_here : (choice at : ℕ) (bytes : List ℕ) (h : List Step) (f start : ℕ)
     → left_of choice f (Wrote f at bytes ∷ h) start ≡ after_write choice at bytes (left_of choice f h start)
-wrote_here choice at bytes h f start =
-    cond-true (eqb f f) (after_write choice at bytes (left_of choice f h start)) (left_of choice f h start) (same_eq f)
-
-pub wrote_other : (choice file at : ℕ) (bytes : List ℕ) (h : List Step) (f start : ℕ) → f ≢ file
-    → left_of choice f (Wrote file at bytes ∷ h) start ≡ left_of choice f h start
-wrote_other choice file at bytes h f start ne = grind (arith, nat_tests, ne)
+wrote_here choice at bytes h f start = rw (same_eq f) refl
 
 pub synced_here : (choice : ℕ) (h : List Step) (f start : ℕ)
     → left_of choice f (Synced f ∷ h) start ≡ record { content = reads_of h f; state = start }
-synced_here choice h f start =
-    cond-true (eqb f f) (record { content = reads_of h f; state = start }) (left_of choice f h start) (same_eq f)
-
-pub synced_other : (choice file : ℕ) (h : List Step) (f start : ℕ) → f ≢ file
-    → left_of choice f (Synced file ∷ h) start ≡ left_of choice f h start
-synced_other choice file h f start ne = grind (arith, nat_tests, ne)
+synced_here choice h f start = rw (same_eq f) refl
 
 pub removed_here : (choice : ℕ) (h : List Step) (f start : ℕ)
     → left_of choice f (Removed f ∷ h) start ≡ after_removal choice (left_of choice f h start)
-removed_here choice h f start =
-    cond-true (eqb f f) (after_removal choice (left_of choice f h start)) (left_of choice f h start) (same_eq f)
+removed_here choice h f start = rw (same_eq f) refl
 
-pub removed_other : (choice file : ℕ) (h : List Step) (f start : ℕ) → f ≢ file
-    → left_of choice f (Removed file ∷ h) start ≡ left_of choice f h start
-removed_other choice file h f start ne = grind (arith, nat_tests, ne)
+-- or on another
+pub left_other : (k : Kind) (choice file at : ℕ) (bytes : List ℕ) (h : List Step) (f start : ℕ) → f ≢ file
+    → left_of choice f (step_by k file at bytes ∷ h) start ≡ left_of choice f h start
+left_other Write choice file at bytes h f start ne = grind (arith, nat_tests, ne)
+left_other Sync choice file at bytes h f start ne = grind (arith, nat_tests, ne)
+left_other Remove choice file at bytes h f start ne = grind (arith, nat_tests, ne)
+
+content_other : (k : Kind) (choice file at : ℕ) (bytes : List ℕ) (h : List Step) (f start : ℕ) → f ≢ file
+    → (left_of choice f (step_by k file at bytes ∷ h) start).content ≡ (left_of choice f h start).content
+content_other k choice file at bytes h f start ne =
+    ap (λ (left : Left). left.content) (left_other k choice file at bytes h f start ne)
 
 -- how long a part of a write makes a file
 pub length-grown : (b : Bool) (old : List ℕ) (end : ℕ)
     → (length old ≤ length (grown b old end)) × (length (grown b old end) ≤ max (length old) end)
-length-grown true old end =
-    let size = length-append old (replicate (end - length old) 0) in
-    let more = length-replicate {A = ℕ} (end - length old) 0 in (omega (arith, size, more), omega (arith, size, more))
-length-grown false old end = (omega arith, omega arith)
+length-grown true old end = omega (arith, length-append {A = ℕ}, length-replicate {A = ℕ})
+length-grown false old end = omega arith
 
 pub get_or-grown : (b : Bool) (old : List ℕ) (end i : ℕ) → get_or (grown b old end) i 0 ≡ get_or old i 0
 get_or-grown true old end i = get_or-zeros old (end - length old) i
@@ -90,8 +86,7 @@ torn_made (Some old) new at n torn = torn
 
 left_torn : (b l : Bool) (old : Option (List ℕ)) (at : ℕ) (bytes : List ℕ)
     → TornFile at (length bytes) old (left_by_write b l old at bytes)
-left_torn true true old at bytes = torn_made old _ at (length bytes) (torn_part true true (bytes_of old) at bytes)
-left_torn true false old at bytes = torn_made old _ at (length bytes) (torn_part true false (bytes_of old) at bytes)
+left_torn true l old at bytes = torn_made old _ at (length bytes) (torn_part true l (bytes_of old) at bytes)
 left_torn false true old at bytes = torn_made old _ at (length bytes) (torn_part false true (bytes_of old) at bytes)
 left_torn false false old at bytes = torn_file_none at (length bytes) old
 
@@ -103,25 +98,18 @@ left_gone false old = inl refl
 pub left_is_image : (choice f start : ℕ) (h : List Step) → IsFileImage f h (left_of choice f h start).content
 left_is_image choice f start [] = refl
 left_is_image choice f start (Wrote file at bytes ∷ h) =
-    let was = left_of choice f h start in
-    let now = left_of choice f (Wrote file at bytes ∷ h) start in (
+    let was = left_of choice f h start in (
       was.content,
       left_is_image choice f start h,
-      (λ same. subst (λ (x : Option (List ℕ)). TornFile at (length bytes) was.content x)
-          (ap (λ (left : Left). left.content) (sym (wrote_here choice at bytes h f start)
-          ∙ ap (λ (g : ℕ). left_of choice f (Wrote g at bytes ∷ h) start) same))
-          (left_torn (takes choice (next_state was.state))
+      (λ same. rw (← same, same_eq f) (left_torn (takes choice (next_state was.state))
           (takes choice (next_state (next_state was.state))) was.content at bytes)),
-      (λ ne. ap (λ (left : Left). left.content) (wrote_other choice file at bytes h f start ne)),
+      content_other Write choice file at bytes h f start,
     )
 left_is_image choice f start (Synced file ∷ h) = ⊎_elim
-    (λ same. subst (λ (g : ℕ). IsFileImage f (Synced g ∷ h) (left_of choice f (Synced g ∷ h) start).content) same
-    (subst (λ (x : Option (List ℕ)). IsFileImage f (Synced f ∷ h) x)
-    (sym (ap (λ (left : Left). left.content) (synced_here choice h f start)))
-    (image_to_file h (reads_of h) f (reads_is_image h), λ _. refl)))
+    (λ same. rw (← same, same_eq f) (image_to_file h (reads_of h) f (reads_is_image h), λ _. refl))
     (λ ne. (
-      subst (λ (x : Option (List ℕ)). IsFileImage f h x) (sym (ap (λ (left : Left). left.content)
-          (synced_other choice file h f start ne))) (left_is_image choice f start h),
+      subst (λ (x : Option (List ℕ)). IsFileImage f h x) (sym (content_other Sync choice file 0 [] h f start ne))
+          (left_is_image choice f start h),
       (λ same. absurd (ne same)),
     ))
     (cases_eq f file)
@@ -129,11 +117,8 @@ left_is_image choice f start (Removed file ∷ h) =
     let was = left_of choice f h start in (
       was.content,
       left_is_image choice f start h,
-      (λ same. subst (λ (x : Option (List ℕ)). (x ≡ was.content) ⊎ (x ≡ None))
-          (ap (λ (left : Left). left.content)
-          (sym (removed_here choice h f start) ∙ ap (λ (g : ℕ). left_of choice f (Removed g ∷ h) start) same))
-          (left_gone (takes choice (next_state was.state)) was.content)),
-      (λ ne. ap (λ (left : Left). left.content) (removed_other choice file h f start ne)),
+      (λ same. rw (← same, same_eq f) (left_gone (takes choice (next_state was.state)) was.content)),
+      content_other Remove choice file 0 [] h f start,
     )
 
 pub image_is_image : (choice : ℕ) (h : List Step) → IsImage h (image_of choice h)
@@ -171,43 +156,34 @@ record IsLeftBy (taken : Bool) (means : List Step → ℕ → Option (List ℕ))
   none : (f : ℕ) → means [] f ≡ None
   wrote : (f at : ℕ) (bytes : List ℕ) (h : List Step)
       → left_by_write taken taken (means h f) at bytes ≡ means (Wrote f at bytes ∷ h) f
-  wrote_else : (file at : ℕ) (bytes : List ℕ) (h : List Step) (f : ℕ) → f ≢ file
-      → means (Wrote file at bytes ∷ h) f ≡ means h f
   synced : (f : ℕ) (h : List Step) → reads_of h f ≡ means (Synced f ∷ h) f
-  synced_else : (file : ℕ) (h : List Step) (f : ℕ) → f ≢ file → means (Synced file ∷ h) f ≡ means h f
   removed : (f : ℕ) (h : List Step) → left_by_removal taken (means h f) ≡ means (Removed f ∷ h) f
-  removed_else : (file : ℕ) (h : List Step) (f : ℕ) → f ≢ file → means (Removed file ∷ h) f ≡ means h f
+  other : (k : Kind) (file at : ℕ) (bytes : List ℕ) (h : List Step) (f : ℕ) → f ≢ file
+      → means (step_by k file at bytes ∷ h) f ≡ means h f
 
 module _ (choice : ℕ) (taken : Bool) (means : List Step → ℕ → Option (List ℕ)) (by : IsLeftBy taken means)
     (draws : (state : ℕ) → takes choice state ≡ taken) where
   left_means : (f start : ℕ) (h : List Step) → (left_of choice f h start).content ≡ means h f
   left_means f start [] = sym (by.none f)
   left_means f start (Wrote file at bytes ∷ h) =
-      let was = left_of choice f h start in
-      let next = next_state was.state in
+      let next = next_state (left_of choice f h start).state in
       ⊎_elim
-      (λ same. subst (λ (g : ℕ). (left_of choice f (Wrote g at bytes ∷ h) start).content
-      ≡ means (Wrote g at bytes ∷ h) f)
-      same (ap (λ (left : Left). left.content) (wrote_here choice at bytes h f start)
-      ∙ (λ i. left_by_write (draws next i) (draws (next_state next) i) (left_means f start h i) at bytes)
-      ∙ by.wrote f at bytes h))
-      (λ ne. ap (λ (left : Left). left.content) (wrote_other choice file at bytes h f start ne) ∙ left_means f start h
-      ∙ sym (by.wrote_else file at bytes h f ne))
+      (λ same. rw (← same, same_eq f) ((λ i. left_by_write (draws next i) (draws (next_state next) i)
+      (left_means f start h i) at bytes) ∙ by.wrote f at bytes h))
+      (λ ne. content_other Write choice file at bytes h f start ne ∙ left_means f start h
+      ∙ sym (by.other Write file at bytes h f ne))
       (cases_eq f file)
   left_means f start (Synced file ∷ h) = ⊎_elim
-      (λ same. subst (λ (g : ℕ). (left_of choice f (Synced g ∷ h) start).content ≡ means (Synced g ∷ h) f) same
-      (ap (λ (left : Left). left.content) (synced_here choice h f start) ∙ by.synced f h))
-      (λ ne. ap (λ (left : Left). left.content) (synced_other choice file h f start ne) ∙ left_means f start h
-      ∙ sym (by.synced_else file h f ne))
+      (λ same. rw (← same, same_eq f) (by.synced f h))
+      (λ ne. content_other Sync choice file 0 [] h f start ne ∙ left_means f start h
+      ∙ sym (by.other Sync file 0 [] h f ne))
       (cases_eq f file)
   left_means f start (Removed file ∷ h) =
-      let was = left_of choice f h start in
+      let next = next_state (left_of choice f h start).state in
       ⊎_elim
-      (λ same. subst (λ (g : ℕ). (left_of choice f (Removed g ∷ h) start).content ≡ means (Removed g ∷ h) f) same
-      (ap (λ (left : Left). left.content) (removed_here choice h f start)
-      ∙ (λ i. left_by_removal (draws (next_state was.state) i) (left_means f start h i)) ∙ by.removed f h))
-      (λ ne. ap (λ (left : Left). left.content) (removed_other choice file h f start ne) ∙ left_means f start h
-      ∙ sym (by.removed_else file h f ne))
+      (λ same. rw (← same, same_eq f) ((λ i. left_by_removal (draws next i) (left_means f start h i)) ∙ by.removed f h))
+      (λ ne. content_other Remove choice file 0 [] h f start ne ∙ left_means f start h
+      ∙ sym (by.other Remove file 0 [] h f ne))
       (cases_eq f file)
 
 all_left : IsLeftBy true reads_of
@@ -215,11 +191,9 @@ all_left = record {
   none = λ f. refl;
   wrote = λ f at bytes h. ap (λ (x : List ℕ). Some x) (all_written (bytes_of (reads_of h f)) at bytes)
       ∙ sym (reads_written f at bytes h);
-  wrote_else = λ file at bytes h f ne. reads_elsewhere file at bytes h f ne;
   synced = λ f h. refl;
-  synced_else = λ file h f ne. refl;
   removed = λ f h. sym (reads_removed f h);
-  removed_else = λ file h f ne. elsewhere_removed file h f ne;
+  other = step_other;
 }
 
 pub image_0 : (h : List Step) → image_of 0 h ≡ reads_of h
@@ -230,18 +204,19 @@ pub takes_nothing : (state : ℕ) → takes 1 state ≡ false
 unfolding takes
 takes_nothing state = refl
 
-synced_elsewhere : (file : ℕ) (h : List Step) (f : ℕ) → f ≢ file → synced_of (Synced file ∷ h) f ≡ synced_of h f
-synced_elsewhere file h f ne = grind (arith, nat_tests, ne)
+synced_other : (k : Kind) (file at : ℕ) (bytes : List ℕ) (h : List Step) (f : ℕ) → f ≢ file
+    → synced_of (step_by k file at bytes ∷ h) f ≡ synced_of h f
+synced_other Write file at bytes h f ne = refl
+synced_other Sync file at bytes h f ne = grind (arith, nat_tests, ne)
+synced_other Remove file at bytes h f ne = refl
 
 none_left : IsLeftBy false synced_of
 none_left = record {
   none = λ f. refl;
   wrote = λ f at bytes h. refl;
-  wrote_else = λ file at bytes h f ne. refl;
-  synced = λ f h. sym (cond-true (eqb f f) (reads_of h f) (synced_of h f) (same_eq f));
-  synced_else = synced_elsewhere;
+  synced = λ f h. rw (same_eq f) refl;
   removed = λ f h. refl;
-  removed_else = λ file h f ne. refl;
+  other = synced_other;
 }
 
 pub image_1 : (h : List Step) → image_of 1 h ≡ synced_of h

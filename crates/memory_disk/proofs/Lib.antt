@@ -16,3 +16,4 @@ mod ReadChain
 mod Grown
 mod Places
 mod FileCalls
+mod PartReads

@@ -1,12 +1,12 @@
 -- Files that no call wrote or removed.
 use Rattle.memory_disk.proofs.Common.{◌≡◌, ◌≢◌, ℕ, ◌+◌, ◌<◌, None, List, ◌∷◌, length, get_or, refl, sym, ◌∙◌, subst}
 use Rattle.memory_disk.proofs.Common.{arith, true, false, nat_tests, common_steps, get_or_default, Contains}
-use Rattle.memory_disk.proofs.Common.{IsStrictlyIncreasing, nat_cmp, contains, Files, Write, Sync, Remove, Step}
-use Rattle.memory_disk.proofs.Common.{reads_of, IsUnnamed, reads_elsewhere, elsewhere_removed, step_by, IsBuilt, Kind}
+use Rattle.memory_disk.proofs.Common.{IsStrictlyIncreasing, nat_cmp, contains, Files, Step}
+use Rattle.memory_disk.proofs.Common.{reads_of, IsUnnamed, step_by, IsBuilt, Kind}
 use Rattle.std.proofs.{lemmas.Map.Keys.below_from_sorted, lemmas.Map.Views.btree_set_contains_iff}
 use Rattle.std.proofs.{lemmas.Map.Lookups.exact_unsigned, lemmas.Cmp.nat_cmp_total}
 use Rattle.std.specs.{List.Sorted.IsStrictlySortedBy, BTreeSet.BTreeSet, BTreeSet.Updates}
-use Rattle.memory_disk.proofs.LeftFiles.{wrote_other, synced_other, removed_other}
+use Rattle.memory_disk.proofs.{LeftFiles.left_other, Noted.step_other}
 
 pub still_absent : (k f : ℕ) (s n : BTreeSet ℕ) → Updates nat_cmp s n k true → contains nat_cmp n f ≡ false
     → (k ≢ f) × (contains nat_cmp s f ≡ false)
@@ -19,15 +19,9 @@ still_absent k f s n u absent = (
 pub other_next : (k : Kind) (file at : ℕ) (bytes : List ℕ) (h : List Step) (f : ℕ) → file ≢ f
     → IsUnnamed h f × (reads_of h f ≡ None)
     → IsUnnamed (step_by k file at bytes ∷ h) f × (reads_of (step_by k file at bytes ∷ h) f ≡ None)
-other_next Write file at bytes h f ne was = (
-  (λ choice start. wrote_other choice file at bytes h f start (λ e. ne (sym e)) ∙ was.0 choice start),
-  reads_elsewhere file at bytes h f (λ e. ne (sym e)) ∙ was.1,
-)
-other_next Sync file at bytes h f ne was =
-    ((λ choice start. synced_other choice file h f start (λ e. ne (sym e)) ∙ was.0 choice start), was.1)
-other_next Remove file at bytes h f ne was = (
-  (λ choice start. removed_other choice file h f start (λ e. ne (sym e)) ∙ was.0 choice start),
-  elsewhere_removed file h f (λ e. ne (sym e)) ∙ was.1,
+other_next k file at bytes h f ne was = (
+  (λ choice start. left_other k choice file at bytes h f start (λ e. ne (sym e)) ∙ was.0 choice start),
+  step_other k file at bytes h f (λ e. ne (sym e)) ∙ was.1,
 )
 
 -- the keys of a set are what it contains

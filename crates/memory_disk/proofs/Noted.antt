@@ -1,6 +1,6 @@
 -- One call more of a list, in its index.
 use Rattle.memory_disk.proofs.Common.{◌≡◌, ◌≢◌, ℕ, ◌+◌, ◌^◌, ◌≤◌, ◌<◌, eqb, cond, Option, Some, None, IfSome, List, []}
-use Rattle.memory_disk.proofs.Common.{◌∷◌, ◌++◌, length, take, get_or, set, refl, sym, ◌∙◌, ap, subst, arith, IsSome}
+use Rattle.memory_disk.proofs.Common.{◌∷◌, ◌++◌, length, take, get_or, set, refl, sym, ◌∙◌, ap, arith, IsSome}
 use Rattle.memory_disk.proofs.Common.{option_map, step_by, step_of, history_of, AreRising, IsIndexed, MakesFile}
 use Rattle.memory_disk.proofs.Common.{reads_at, file_at, no_call, head_of, size_from, Write, Sync, Remove, Step}
 use Rattle.memory_disk.proofs.Common.{reads_of, reads_elsewhere, elsewhere_removed, Kind, Call, Head}
@@ -30,12 +30,7 @@ module _ (row : List ℕ) (calls : List Call) where
   module _ (n count : ℕ) (same : n ≡ count) (lt : n < length calls) (heads : List Head) (links : List ℕ)
       (counted : IsIndexed (reads_at row calls) (file_at calls) count heads links) where
     was : IsIndexed (reads_at row calls) (file_at calls) n heads links
-    was = subst (λ (k : ℕ). IsIndexed (reads_at row calls) (file_at calls) k heads links) (sym same) counted
-
-    after : {new : List Head} {more : List ℕ} → IsIndexed (reads_at row calls) (file_at calls) (n + 1) new more
-        → IsIndexed (reads_at row calls) (file_at calls) (count + 1) new more
-    after {new = new} {more = more} =
-        subst (λ (k : ℕ). IsIndexed (reads_at row calls) (file_at calls) (k + 1) new more) same
+    was = rw same counted
 
     -- the size after the call
     sized : (before after : Option ℕ) → ((h : List Step) → before ≡ option_map length (reads_of h (file_at calls n))
@@ -60,11 +55,10 @@ module _ (row : List ℕ) (calls : List Call) where
         → IsIndexed (reads_at row calls) (file_at calls) (count + 1) new more
     noted_follow new x more head size found some goes bound rising put is =
         let old = was.known (file_at calls n) head found in
-        after (subst (λ (l : List ℕ). IsIndexed (reads_at row calls) (file_at calls) (n + 1) new l) (sym is)
-        (indexed_follow (reads_at row calls) (file_at calls) n heads links was
+        rw (← same, is) (indexed_follow (reads_at row calls) (file_at calls) n heads links was
         (others_stay n lt) new x head size found some
         (sized head.size size goes (old.1.size ∙ ap (λ (g : ℕ). option_map length (reads_at row calls n g)) old.0))
-        (bound old.1.bound) rising put))
+        (bound old.1.bound) rising put)
 
     pub is_none : size_from (head_of heads (file_at calls n)) ≡ None
         → None ≡ option_map length (reads_at row calls n (file_at calls n))
@@ -83,15 +77,14 @@ module _ (row : List ℕ) (calls : List Call) where
         })) (head_of heads g)) → more ≡ links ++ x ∷ []
         → IsIndexed (reads_at row calls) (file_at calls) (count + 1) new more
     noted_made new x more size none goes bound rising put is =
-        after (subst (λ (l : List ℕ). IsIndexed (reads_at row calls) (file_at calls) (n + 1) new l) (sym is)
-        (indexed_made (reads_at row calls) (file_at calls) n heads links was (others_stay n lt) new x
-        (file_at calls n) size refl none (sized None (Some size) goes (is_none none)) bound rising put))
+        rw (← same, is) (indexed_made (reads_at row calls) (file_at calls) n heads links was (others_stay n lt) new x
+        (file_at calls n) size refl none (sized None (Some size) goes (is_none none)) bound rising put)
 
     pub makes : (size : ℕ) → size_from (head_of heads (file_at calls n)) ≡ None
         → ((h : List Step) → None ≡ option_map length (reads_of h (file_at calls n))
         → Some size ≡ option_map length (reads_of (step_of row (get_or calls n no_call) ∷ h) (file_at calls n)))
         → MakesFile (reads_at row calls) (file_at calls) count
-    makes size none goes = subst (λ (k : ℕ). MakesFile (reads_at row calls) (file_at calls) k) same (record {
+    makes size none goes = rw (← same) (record {
       absent = absent_is (reads_at row calls) (file_at calls) n heads links was (file_at calls n) none;
       there =
           some_mapped (reads_at row calls (n + 1) (file_at calls n)) size (sized None (Some size) goes (is_none none));
@@ -102,22 +95,15 @@ module _ (row : List ℕ) (calls : List Call) where
         (reads_of (step_of row (get_or calls n no_call) ∷ h) (file_at calls n))) → more ≡ links ++ x ∷ []
         → IsIndexed (reads_at row calls) (file_at calls) (count + 1) heads more
     noted_absent x more none goes is =
-        after (subst (λ (l : List ℕ). IsIndexed (reads_at row calls) (file_at calls) (n + 1) heads l) (sym is)
-        (indexed_absent (reads_at row calls) (file_at calls) n heads links was (others_stay n lt) x
-        (file_at calls n) refl none (sized None None goes (is_none none))))
+        rw (← same, is) (indexed_absent (reads_at row calls) (file_at calls) n heads links was (others_stay n lt) x
+        (file_at calls n) refl none (sized None None goes (is_none none)))
 
 -- the index of no call
 pub indexed_none : (row : List ℕ) (calls : List Call) (n : ℕ) (heads : List Head) (links : List ℕ) → n ≡ 0 → heads ≡ []
     → links ≡ [] → IsIndexed (reads_at row calls) (file_at calls) n heads links
-indexed_none row calls n heads links zero no_heads no_links =
-    subst (λ (k : ℕ). IsIndexed (reads_at row calls) (file_at calls) k heads links) (sym zero)
-    (subst (λ (l : List Head). IsIndexed (reads_at row calls) (file_at calls) 0 l links) (sym no_heads)
-    (subst (λ (l : List ℕ). IsIndexed (reads_at row calls) (file_at calls) 0 [] l) (sym no_links) empty))
-  where
-    empty : IsIndexed (reads_at row calls) (file_at calls) 0 [] []
-    empty = record {
-      rising = λ i j d less bound. absurd (omega (arith, bound));
-      long = refl;
-      known = λ file head found. cc found;
-      unknown = λ file _. refl;
-    }
+indexed_none row calls n heads links zero no_heads no_links = rw (zero, no_heads, no_links) (record {
+  rising = λ i j d less bound. absurd (omega (arith, bound));
+  long = refl;
+  known = λ file head found. cc found;
+  unknown = λ file _. refl;
+})

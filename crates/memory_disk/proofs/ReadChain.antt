@@ -1,7 +1,7 @@
 -- What is read along a file's calls.
 use Rattle.memory_disk.proofs.Common.{◌≡◌, ℕ, ◌+◌, ◌<◌, Option, Some, None, List, ◌∷◌, length, take, get_or, refl, sym}
 use Rattle.memory_disk.proofs.Common.{◌∙◌, ap, subst, arith, take_all, is_some, option_map, Files, bytes_of, IsWindow}
-use Rattle.memory_disk.proofs.Common.{step_of, history_of, IsChain, IsHead, IsIndexed, reads_at, file_at, no_call}
+use Rattle.memory_disk.proofs.Common.{step_of, history_of, IsChain, IsIndexed, reads_at, file_at, no_call}
 use Rattle.memory_disk.proofs.Common.{head_of, size_from, Step, reads_of, Call, Head}
 use Rattle.memory_disk.proofs.{CallsLemmas.history_next, Chains.size_is, Chains.absent_is}
 
@@ -52,14 +52,4 @@ absent_read row calls heads links was file none = ap (λ (f : Files). f file) (s
 -- the same of lists that are the same
 pub reads_seen : (row seen_row : List ℕ) (calls seen : List Call) (file f : ℕ) → seen_row ≡ row → seen ≡ calls
     → file ≡ f → reads_of (history_of seen_row seen) file ≡ reads_of (history_of row calls) f
-reads_seen row seen_row calls seen file f same_row same is =
-    ap (λ (l : List ℕ). reads_of (history_of l seen) file) same_row ∙ ap (λ (l : List Call).
-    reads_of (history_of row l) file) same ∙ ap (λ (g : ℕ). reads_of (history_of row calls) g) is
-
-pub head_seen : (row seen_row : List ℕ) (calls seen : List Call) (links seen_links : List ℕ) (head : Head) → seen_row
-    ≡ row → seen ≡ calls → seen_links ≡ links → IsHead (reads_at row calls) (file_at calls) (length calls) links head
-    → IsHead (reads_at seen_row seen) (file_at seen) (length seen) seen_links head
-head_seen row seen_row calls seen links seen_links head same_row same same_links was =
-    subst (λ (l : List ℕ). IsHead (reads_at l seen) (file_at seen) (length seen) seen_links head) (sym same_row)
-    (subst (λ (l : List Call). IsHead (reads_at row l) (file_at l) (length l) seen_links head) (sym same)
-    (subst (λ (l : List ℕ). IsHead (reads_at row calls) (file_at calls) (length calls) l head) (sym same_links) was))
+reads_seen row seen_row calls seen file f same_row same is = rw (same_row, same, is) refl

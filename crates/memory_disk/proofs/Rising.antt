@@ -31,10 +31,9 @@ state_stays choice h a (suc n) none =
 -- a number between two that stand side by side in a rising list is not in it
 rises : (numbers : List ℕ) → IsStrictlyIncreasing numbers → (i n : ℕ) → i + n < length numbers
     → get_or numbers i 0 + n ≤ get_or numbers (i + n) 0
-rises numbers rising i zero lt = omega (arith, ap (λ (k : ℕ). get_or numbers k 0) (plus_none i))
-  where
-    plus_none : (i : ℕ) → i + 0 ≡ i
-    plus_none i = omega arith
+rises numbers rising i zero lt =
+    let same : i + 0 ≡ i = omega arith in
+    omega (arith, ap (λ (k : ℕ). get_or numbers k 0) same)
 rises numbers rising i (suc n) lt =
     let below = rises numbers rising i n (omega arith) in
     let next : get_or numbers (i + n) 0 < get_or numbers (i + n + 1) 0 = rising (i + n) (omega arith) in

@@ -16,6 +16,7 @@ mod index;
 mod listing;
 mod log;
 mod overlay;
+mod parts;
 mod ram;
 mod record;
 mod replay;

@@ -8,6 +8,7 @@ ghost use Rattle.pcm_base.specs.Causes.{HasCause};
 ghost use Rattle.disk_model.specs.Disk.{Files, bytes_of, written, TornFile, SameElsewhere, WriteStep, RemoveStep};
 ghost use Rattle.disk_model.specs.Disk.{StaysStep, Follows};
 ghost use Rattle.disk_model.specs.Faults.{HasListCause};
+ghost use Rattle.disk_model.specs.Parts.{AllThere, AreParts, filled};
 ghost use Rattle.memory_disk.specs.History.{SinceMoment, reads_of};
 ghost use Rattle.memory_disk.specs.Histories.{image_since, reads_is_image, fewer_moment};
 ghost use Rattle.disk_model.specs.Moment.{At};
@@ -18,8 +19,9 @@ ghost use Rattle.disk_model.specs.Room.{raised, met, IsSpent, StaysRoom};
 mod making;
 
 use crate::log::CallLog;
+use crate::parts::read_in_turn;
 use crate::tally::Tally;
-use disk_model::{ListFault, Store};
+use disk_model::{ListFault, Part, Store};
 use pcm_base::Failed;
 use std::marker::Model;
 
@@ -133,6 +135,37 @@ impl Store for RamStore {
             return Err(self.tally.fail_read());
         }
         Ok(self.log.read(file, at, buf))
+    }
+
+    // It is one call, however many parts there are.
+    #[tactic(auto, using(crate::proofs::Following::follows_same))]
+    fn read_parts(&mut self, parts: &[Part], out: &mut [i16]) -> Result<bool, Failed>
+        requires { AreParts 0 (length out.old) parts.now }
+        ensures there { IsTrue true
+            → IfOk result (λ all. (all ≡ true) ↔ AllThere (reads_of self.old.log.history) parts.now) }
+        ensures read { IsTrue true → IfOk result
+            (λ all. all ≡ true → out.new ≡ filled (reads_of self.old.log.history) parts.now out.old) }
+        ensures tells { true ≡ true }
+        ensures reads { reads_of self.new.log.history ≡ reads_of self.old.log.history }
+        ensures model { true ≡ true }
+        ensures calls { self.new.tally.change_calls ≡ self.old.tally.change_calls }
+        ensures bytes { self.new.tally.asked_bytes ≡ self.old.tally.asked_bytes }
+        ensures absent { self.new.tally.absent_writes ≡ self.old.tally.absent_writes }
+        ensures room { room_of self.new ≡ room_of self.old }
+        ensures unfailing { IsSome (room_of self.old) → self.new.tally.read_faults ≡ self.old.tally.read_faults }
+        ensures clock { At (length self.new.log.history) ≡ At (length self.old.log.history) }
+        ensures images { Follows StaysStep (At (length self.old.log.history)) (At (length self.new.log.history))
+            (SinceMoment self.old.log.history) (SinceMoment self.new.log.history) }
+        ensures faults { HasCause self.old.tally.read_faults self.new.tally.read_faults result }
+        ensures changes { self.new.tally.change_faults ≡ self.old.tally.change_faults }
+        ensures due { IsErr result ↔ IsDue self.old.tally }
+        ensures served { OnOk result (self.new ≡ after_read self.old) }
+        ensures failed { OnErr result (self.new ≡ after_failed_read self.old) }
+    {
+        if self.tally.count_read() {
+            return Err(self.tally.fail_read());
+        }
+        Ok(read_in_turn(&self.log, parts, out))
     }
 
     #[tactic(auto, using(crate::proofs::Following::write_same, crate::proofs::Following::write_more))]

@@ -9,6 +9,7 @@
 mod frames;
 mod loads;
 mod passes;
+mod plans;
 mod reader;
 mod stretches;
 mod tracks;

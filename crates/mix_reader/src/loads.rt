@@ -1,6 +1,7 @@
 // Stretches of the tracks of a point that are heard, loaded from any store.
 ghost use Rattle.std.specs.Prelude.{◌≡◌, ◌≤◌, ◌<◌, ◌+◌, ◌-◌, ◌*◌, ◌^◌, ◌++◌, ℕ, List, [], ◌∷◌, length, take, drop, min};
-ghost use Rattle.std.specs.Prelude.{Err, IsTrue, OnOk, IfOk, IfErr, false, if◌then◌else◌};
+ghost use Rattle.std.specs.Prelude.{Err, IsTrue, OnOk, IfOk, IfErr, true, false, if◌then◌else◌, slice_index_or};
+ghost use Rattle.disk_model.specs.declared.parts.Part.{Part as part_of};
 ghost use Rattle.clip_track.specs.Clips.{layout_blocks};
 ghost use Rattle.pcm_base.specs.declared.limits.TheConstants.{MAX_LOADED, MAX_TRACKS};
 ghost use Rattle.pcm_base.specs.Cells.{Project};
@@ -16,14 +17,16 @@ ghost use Rattle.mixdown.specs.Loads.{IsLoaded, Shows};
 ghost use Rattle.mix_reader.specs.declared.loads.LoadFault.TheVariants as fault;
 ghost use Rattle.mix_reader.specs.Heard.{heard_count, heard_gains, heard_sides, refusal_of, disk_part, HasHeard};
 ghost use Rattle.mix_reader.specs.Heard.{IsNoDamage};
+ghost use Rattle.mix_reader.specs.Plans.{ArePut};
 ghost use Rattle.mix_reader.specs.Tracks.{mix_length_of};
 
 use super::passes::{TrackPass, read_track};
+use super::plans::{plan_tracks, read_plan};
 use super::tracks::mix_len;
 use block_cache::BlockReader;
 use block_store::BlockFault;
 use cell_reader::rest_at;
-use disk_model::Store;
+use disk_model::{Part, Store};
 use mixdown::Loaded;
 use pcm_base::{NoMemory, Refusal, Side};
 use project_state::{Point, Track};
@@ -85,23 +88,39 @@ fn read_once<S: Store>(
     read_track(reader, &mut left, track, from, out)
 }
 
-/// Reads a track before those that stand from `end` on, unless it is muted, and answers where the tracks begin then.
+/// Whether what is heard of a track stands in its place already: it has a part of some samples there.
+fn is_put(parts: &[Part], i: usize, at: usize) -> bool
+    ensures { (d : part_of) → result ≡ true
+        → (i < length parts.now) × (0 < (slice_index_or parts.now i d).len) × ((slice_index_or parts.now i d).to ≡ at) }
+{
+    match parts.get(i) {
+        Some(part) => 0 < part.len && part.to == at,
+        None => false,
+    }
+}
+
+/// Reads a track before those that stand from `end` on, unless it is muted or stands there already, and answers where
+/// the tracks begin then.
 fn read_before<S: Store>(
     reader: &mut BlockReader<S>,
     track: &Track,
     from: u64,
     len: usize,
     end: usize,
+    is_there: bool,
     samples: &mut [i16],
 ) -> Result<usize, BlockFault>
     requires named { AllNamed (layout_blocks track.now.layout) }
     requires room { (if track.now.mute then 0 else 1) * len ≤ end }
     requires within { end ≤ length samples.old }
     requires few { from + len < 2 ^ 64 }
+    requires there { IsTrue (S.tells reader.old.store) → track.now.mute ≡ false → is_there ≡ true → IsStretch from len
+        (meant_track (stored_of (S.reads reader.old.store)) track.now) (take len (drop (end - len) samples.old)) }
     ensures reads { Reads (layout_blocks track.now.layout) reader.old reader.new result }
     ensures hit { Hits (track.now.mute ≡ false → HasSeen reader.old.cache from (from + len) track.now.layout)
         reader.old reader.new result }
     ensures place { IfOk result (λ at. at + (if track.now.mute then 0 else 1) * len ≡ end) }
+    ensures before { IfOk result (λ at. take at samples.new ≡ take at samples.old) }
     ensures stored { IsTrue (S.tells reader.old.store) → (ts : Project)
         → AreStretches from len (unmuted ts) (drop end samples.old)
         → IfOk result (λ at. AreStretches from len
@@ -111,11 +130,50 @@ fn read_before<S: Store>(
         return Ok(end);
     }
     let at = end - len;
+    if is_there {
+        return Ok(at);
+    }
     read_once(reader, track, from, &mut samples[at..end])?;
     Ok(at)
 }
 
-/// Reads a stretch of `len` samples of each track that is heard from a place on, one after the other.
+/// Reads a stretch of `len` samples of each track that is heard from a place on, one after the other, but for those that
+/// stand in their place already by a part of some samples.
+fn read_tracks<S: Store>(
+    reader: &mut BlockReader<S>,
+    point: &Point,
+    from: u64,
+    len: usize,
+    parts: &[Part],
+    samples: &mut [i16],
+) -> Result<(), BlockFault>
+    requires named { AllNamed (point_blocks point.now) }
+    requires room { length samples.old ≡ heard_count point.now * len }
+    requires few { from + len < 2 ^ 64 }
+    requires put { IsTrue (S.tells reader.old.store)
+        → ArePut (stored_of (S.reads reader.old.store)) from len point.now parts.now samples.old }
+    ensures reads { Reads (point_blocks point.now) reader.old reader.new result }
+    ensures hit { Hits (HasHeard reader.old.cache from (from + len) point.now) reader.old reader.new result }
+    ensures stored { IsTrue (S.tells reader.old.store) → OnOk result
+        (AreStretches from len (unmuted (meant (stored_of (S.reads reader.old.store)) point.now)) samples.new) }
+{
+    let mut end = samples.len();
+    let mut i = point.len();
+    'rows: while 0 < i {
+        i -= 1;
+        let track = point.track_at(i);
+        let is_there = is_put(parts, i, end.saturating_sub(len));
+        match read_before(reader, track, from, len, end, is_there, samples) {
+            Ok(at) => end = at,
+            Err(fault) => return Err(fault),
+        }
+    }
+    Ok(())
+}
+
+/// Reads a stretch of `len` samples of each track that is heard from a place on. Those that lie within one block each are
+/// read together, in one call of the store, and then the others. Where a file has not all that it is asked for then,
+/// each track is read by itself, which tells what is wrong.
 fn read_heard<S: Store>(
     reader: &mut BlockReader<S>,
     point: &Point,
@@ -131,17 +189,11 @@ fn read_heard<S: Store>(
     ensures stored { IsTrue (S.tells reader.old.store) → OnOk result
         (AreStretches from len (unmuted (meant (stored_of (S.reads reader.old.store)) point.now)) samples.new) }
 {
-    let mut end = samples.len();
-    let mut i = point.len();
-    'rows: while 0 < i {
-        i -= 1;
-        let track = point.track_at(i);
-        match read_before(reader, track, from, len, end, samples) {
-            Ok(at) => end = at,
-            Err(fault) => return Err(fault),
-        }
+    let plan = plan_tracks(reader, point, from, len, samples.len())?;
+    if read_plan(reader, &plan, samples)? {
+        return read_tracks(reader, point, from, len, &plan.parts, samples);
     }
-    Ok(())
+    read_tracks(reader, point, from, len, &[], samples)
 }
 
 /// The same into the first samples of a buffer.

@@ -1,6 +1,7 @@
 // The sums of a piece of the frames.
 ghost use Rattle.std.specs.Prelude.{◌≡◌, ◌≤◌, ◌<◌, ◌+◌, ◌^◌, length, map, replicate, pos};
 ghost use Rattle.std.specs.List.{range_with_len};
+ghost use Rattle.pcm_base.specs.Arithmetic.{clamped as clamped_of};
 ghost use Rattle.pcm_base.specs.Mix.{is_on_left, is_on_right};
 ghost use Rattle.mixdown.specs.Sums.{AreWithin, Grows, IsHeard, limited as limited_of, frame_in};
 
@@ -75,11 +76,21 @@ impl Sums {
     }
 }
 
+/// A sum, limited to what a sample can be. In 32 bits several of them are limited at once.
+fn limit_sum(sum: i32) -> i16
+    ensures { result ≡ clamped_of sum }
+{
+    sum.clamp(-32768, 32767) as i16
+}
+
 /// A frame of what is heard on each side, limited to what a sample can be.
 fn limited(left: i32, right: i32) -> Frame
     ensures { result ≡ limited_of left right }
 {
-    limited_wide(i64::from(left), i64::from(right))
+    Frame {
+        left: limit_sum(left),
+        right: limit_sum(right),
+    }
 }
 
 /// The same of sums of 64 bits.

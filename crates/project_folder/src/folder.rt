@@ -1,6 +1,7 @@
 // The numbered files of a folder, by calls of the system. No fault is counted here.
-ghost use Rattle.std.specs.Prelude.{◌≡◌, ◌≤◌, ◌+◌, true, false, IfOk, OnOk, OnErr, IfSome, IsSome, length};
+ghost use Rattle.std.specs.Prelude.{◌≡◌, ◌≤◌, ◌+◌, ◌*◌, true, false, IfOk, OnOk, OnErr, IfSome, IsSome, length};
 ghost use Rattle.pcm_base.specs.declared.limits.TheConstants.{COUNTER_LIMIT};
+ghost use Rattle.disk_model.specs.Parts.{AreParts};
 ghost use Rattle.project_folder.specs.Entries.{waits_of};
 ghost use Rattle.project_folder.specs.Open.{IsNoneOpen};
 ghost use Rattle.project_folder.specs.Unsynced.{IsSynced};
@@ -9,9 +10,10 @@ use crate::entries::Entries;
 use crate::open_files::{Handle, OpenFiles};
 use crate::paths::Paths;
 use crate::plain::{
-    Opened, absent_is_none, length_at, open_at, plain_length, read_full, write_full,
+    Opened, absent_is_none, length_at, open_at, plain_length, read_full, read_samples, write_full,
 };
 use crate::syncing::SyncFiles;
+use disk_model::Part;
 use pcm_base::Failed;
 use std::alloc::{AllocError, Global};
 use std::fs::{self, OpenFile, OpenOptions};
@@ -178,6 +180,58 @@ where
             Some(handle) => read_full(&handle.inner, at, buf),
             None => Ok(0),
         }
+    }
+
+    // Reads samples of one file, and says whether it has all of them.
+    fn read_samples(&mut self, file: u64, at: u64, out: &mut [i16]) -> Result<bool, Failed>
+        requires { at + 2 * length out.old ≤ COUNTER_LIMIT }
+    {
+        if out.is_empty() {
+            return Ok(true);
+        }
+        self.open_to_read(file)?;
+        match self.open_files.get(file) {
+            Some(handle) => read_samples(&handle.inner, at, out),
+            None => Ok(false),
+        }
+    }
+
+    // Reads parts one after the other, and says whether each file has all of its parts.
+    fn read_in_turn(&mut self, parts: &[Part], out: &mut [i16]) -> Result<bool, Failed>
+        requires { AreParts 0 (length out.old) parts.now }
+    {
+        'parts: for part in parts {
+            let end = part.to + part.len;
+            if !self.read_samples(part.file, part.at, &mut out[part.to..end])? {
+                return Ok(false);
+            }
+        }
+        Ok(true)
+    }
+
+    // Opens the files of parts, as many as are kept open, and says whether all of them are open.
+    fn open_parts(&mut self, parts: &[Part]) -> Result<bool, Failed> {
+        for part in parts {
+            if 0 < part.len {
+                self.open_to_read(part.file)?;
+            }
+        }
+        for part in parts {
+            if 0 < part.len && self.open_files.get(part.file).is_none() {
+                return Ok(false);
+            }
+        }
+        Ok(true)
+    }
+
+    // Reads parts of files at the same time, or one after another where that was not done.
+    pub(crate) fn read_parts(&mut self, parts: &[Part], out: &mut [i16]) -> Result<bool, Failed>
+        requires { AreParts 0 (length out.old) parts.now }
+    {
+        if self.open_parts(parts)? && self.how.read_parts(&self.open_files, parts, out) {
+            return Ok(true);
+        }
+        self.read_in_turn(parts, out)
     }
 
     pub(crate) fn write_at(&mut self, file: u64, at: u64, bytes: &[u8]) -> Result<(), Failed>

@@ -14,6 +14,7 @@ mod folder;
 mod listing;
 mod names;
 mod open_files;
+mod parts;
 mod paths;
 mod plain;
 mod sounds;
@@ -24,7 +25,7 @@ mod vault;
 
 pub use file_sink::FileSink;
 pub use file_source::FileSource;
-pub use open_files::Handle;
+pub use open_files::{Handle, OpenFiles};
 pub use store::FolderStore;
 pub use syncing::{OneByOne, SideBySide, SyncFiles};
 pub use vault::FolderVault;

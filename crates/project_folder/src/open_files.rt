@@ -38,7 +38,7 @@ pub struct Handle<F> {
 /// only to those who had the file open then. The first file that is asked to be synced has all of them synced with it,
 /// and so they are where there are too many. A caller can't tell this from a disk that is quick.
 #[derive(Drop)]
-pub(crate) struct OpenFiles<F> {
+pub struct OpenFiles<F> {
     pub(crate) first: Option<Handle<F>>,
     // Written and not synced since.
     pub(crate) waiting: Vec<Handle<F>>,
@@ -75,12 +75,14 @@ impl<F: OpenFile> Handle<F> {
     }
 }
 
-// Where the file stands among these.
+// Where the file stands among these, the one that came last first: it is the one that is asked again soonest.
 fn place_in<F>(handles: &[Handle<F>], file: u64) -> Option<usize>
     ensures inside { IfSome result (λ place. place < length handles.now) }
     ensures none { IfNone result (All (λ handle. handle.file ≢ file) handles.now) }
 {
-    for place in 0..handles.len() {
+    let mut place = handles.len();
+    'places: while 0 < place {
+        place -= 1;
         if handles[place].file == file {
             return Some(place);
         }

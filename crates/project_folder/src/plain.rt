@@ -1,12 +1,17 @@
 // Plain files by their paths: how they differ from what else may stand there, opened, made, read and written.
-ghost use Rattle.std.specs.Prelude.{◌≡◌, ◌<◌, ◌≤◌, ◌^◌, ◌+◌, IfOk, OnOk, IfSome, IfNone, IsTrue, length};
+ghost use Rattle.std.specs.Prelude.{◌≡◌, ◌<◌, ◌≤◌, ◌^◌, ◌+◌, ◌*◌, IfOk, OnOk, IfSome, IfNone, IsTrue, length};
+ghost use Rattle.pcm_base.specs.declared.limits.TheConstants.{COUNTER_LIMIT};
 ghost use Rattle.std.specs.Fs.{file_type, metadata_len, IsDir, IsFile, IsSymlink};
 
+use byteorder::{ByteOrder, LittleEndian};
 use pcm_base::{COUNTER_LIMIT, Failed};
 use std::fs::{self, Metadata, OpenFile, OpenOptions};
 use std::io::{self, ErrorKind};
 use std::os::unix::fs::FileExt;
 use std::rt::Files;
+
+/// How many samples are read at a time.
+const BUFFER_LEN: usize = 16_384;
 
 /// What the opening of a file, or the making of a new one, has come to.
 #[derive(Drop)]
@@ -130,6 +135,24 @@ pub(crate) fn read_full<F: FileExt>(file: &F, at: u64, buf: &mut [u8]) -> Result
         }
     }
     Ok(count)
+}
+
+// Reads samples of 16 bits, little-endian, from the offset on, and says whether the file has all of them.
+pub(crate) fn read_samples<F: FileExt>(file: &F, at: u64, out: &mut [i16]) -> Result<bool, Failed>
+    requires { at + 2 * length out.old ≤ COUNTER_LIMIT }
+{
+    let mut buf = [0u8; 2 * BUFFER_LEN];
+    let mut done = 0;
+    'buffers: while done < out.len() {
+        let next = done + BUFFER_LEN.min(out.len() - done);
+        let size = 2 * (next - done);
+        if read_full(file, at + 2 * done as u64, &mut buf[..size])? < size {
+            return Ok(false);
+        }
+        LittleEndian::read_i16_into(&buf[..size], &mut out[done..next]);
+        done = next;
+    }
+    Ok(true)
 }
 
 // Writes all bytes at the offset. A write of none makes the file reach to the offset, as any other write does.

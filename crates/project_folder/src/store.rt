@@ -8,7 +8,7 @@ use crate::folder::Folder;
 use crate::listing::list_numbers;
 use crate::open_files::WRITTEN_FILES;
 use crate::syncing::{OneByOne, SideBySide, SyncFiles};
-use disk_model::{ListFault, Store};
+use disk_model::{ListFault, Part, Store};
 use pcm_base::Failed;
 use std::alloc::{AllocError, Global};
 use std::fs::File;
@@ -129,6 +129,13 @@ where
     fn read_at(&mut self, file: u64, at: u64, buf: &mut [u8]) -> Result<usize, Failed> {
         match self.folder.read_at(file, at, buf) {
             Ok(count) => Ok(count),
+            Err(_) => Err(self.counts.fail_read()),
+        }
+    }
+
+    fn read_parts(&mut self, parts: &[Part], out: &mut [i16]) -> Result<bool, Failed> {
+        match self.folder.read_parts(parts, out) {
+            Ok(all) => Ok(all),
             Err(_) => Err(self.counts.fail_read()),
         }
     }

@@ -1,5 +1,7 @@
-// How several files are waited for, and how a folder is locked.
-use crate::open_files::Handle;
+// How several files are waited for and read, and how a folder is locked.
+use crate::open_files::{Handle, OpenFiles};
+use crate::parts::read_side_by_side;
+use disk_model::Part;
 use pcm_base::Failed;
 use std::fs::{File, OpenFile, TryLockError};
 use std::thread::{Threads, join};
@@ -7,7 +9,7 @@ use std::thread::{Threads, join};
 /// How many threads wait at once: with more than these one sync hardly gets quicker for another.
 const THREADS: usize = 16;
 
-/// Waits until what each of several open files holds is on the disk, and locks a folder.
+/// Waits until what each of several open files holds is on the disk, reads them at the same time, and locks a folder.
 ///
 /// A file system mostly puts files on its disk that are waited for at the same time for the price of a few.
 pub trait SyncFiles<F> {
@@ -17,6 +19,10 @@ pub trait SyncFiles<F> {
     /// The system failed to put one of them on the disk. What the others came to isn't told.
     fn sync_files(&self, files: &[Handle<F>]) -> Result<(), Failed>;
 
+    /// Reads parts of open files at the same time, and answers whether all were read. Where not, the buffer may have been
+    /// written in part, and the caller reads them one after another.
+    fn read_parts(&self, files: &OpenFiles<F>, parts: &[Part], out: &mut [i16]) -> bool;
+
     /// Locks an open folder until it is closed. A file system that has no locks is used without.
     ///
     /// # Errors
@@ -24,12 +30,12 @@ pub trait SyncFiles<F> {
     fn lock(&self, folder: &F) -> Result<(), Failed>;
 }
 
-/// Waits for one file after the other, and locks nothing.
+/// Waits for one file after the other, reads none at the same time as another, and locks nothing.
 #[derive(Drop)]
 pub struct OneByOne;
 
-/// Waits for up to 16 files at once, each in a thread of its own. Where no thread can be made they are waited for in
-/// this one.
+/// Waits for up to 16 files at once, each in a thread of its own, and reads in up to 8 threads. Where no thread can be
+/// made they are waited for and read in this one.
 #[derive(Drop)]
 pub struct SideBySide<T> {
     threads: T,
@@ -47,6 +53,10 @@ impl<F: OpenFile> SyncFiles<F> for OneByOne {
         sync_each(files)
     }
 
+    fn read_parts(&self, _files: &OpenFiles<F>, _parts: &[Part], _out: &mut [i16]) -> bool {
+        false
+    }
+
     fn lock(&self, _folder: &F) -> Result<(), Failed> {
         Ok(())
     }
@@ -56,6 +66,10 @@ impl<F: OpenFile> SyncFiles<F> for OneByOne {
 impl<T: Threads> SyncFiles<File> for SideBySide<T> {
     fn sync_files(&self, files: &[Handle<File>]) -> Result<(), Failed> {
         sync_parts(&self.threads, files, files.len().div_ceil(THREADS))
+    }
+
+    fn read_parts(&self, files: &OpenFiles<File>, parts: &[Part], out: &mut [i16]) -> bool {
+        read_side_by_side(&self.threads, files, parts, out)
     }
 
     fn lock(&self, folder: &File) -> Result<(), Failed> {

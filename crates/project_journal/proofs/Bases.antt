@@ -2,7 +2,7 @@
 use Rattle.project_journal.proofs.Common.{◌≡◌, ℕ, ◌≤◌, List, [], ◌∷◌, ◌++◌, length, map, take, drop, refl, sym, ◌∙◌, ap}
 use Rattle.project_journal.proofs.Common.{arith, append_assoc, length-append, length-drop, take-append-drop, take_at}
 use Rattle.project_journal.proofs.Common.{drop_at, length-take-le, flat_map, AllByRecursion, little_number, Log, Row}
-use Rattle.project_journal.proofs.Common.{row, bytes_in, IsRow, IsHeader, points_size, header_end, Form, IsForm}
+use Rattle.project_journal.proofs.Common.{◌<◌, row, bytes_in, IsRow, IsHeader, points_size, header_end, Form, IsForm}
 use Rattle.project_journal.proofs.Common.{no_base, form_1, Base}
 use Rattle.project_journal.proofs.Parses.{form_base}
 
@@ -89,15 +89,29 @@ more_rows one more = record {
   rest = more.rest;
 }
 
--- this many rows, each after its length, stand at the front of some bytes in one way at most
-same_rows : (xs ys : List Row) (x y : List ℕ) → length xs ≡ length ys → AllByRecursion IsRow xs
-    → AllByRecursion IsRow ys → flat_map row xs ++ x ≡ flat_map row ys ++ y → SameRows xs ys x y
-same_rows [] [] x y len p q e = record { points = refl; bytes = refl; rest = e }
-same_rows [] (b ∷ ys) x y len p q e = absurd (omega (arith, len))
-same_rows (a ∷ xs) [] x y len p q e = absurd (omega (arith, len))
-same_rows (a ∷ xs) (b ∷ ys) x y len p q e =
+-- after some rows stands one more
+pub record OneMore (x : List ℕ) : Type 0 where
+  pub next : Row
+  pub whole : IsRow next
+  pub rest : List ℕ
+  pub parts : x ≡ row next ++ rest
+
+one_more : (r : Row) (rows : List Row) (x y : List ℕ) → IsRow r → x ≡ flat_map row (r ∷ rows) ++ y → OneMore x
+one_more r rows x y is e =
+    let rest = flat_map row rows in
+    record { next = r; whole = is; rest = rest ++ y; parts = e ∙ append_assoc (row r) rest y }
+
+-- rows, each after its length, stand at the front of some bytes in one way at most, where no more follow the fewer
+pub same_rows : (xs ys : List Row) (x y : List ℕ) → (length xs < length ys → OneMore x → ⊥)
+    → (length ys < length xs → OneMore y → ⊥) → AllByRecursion IsRow xs → AllByRecursion IsRow ys
+    → flat_map row xs ++ x ≡ flat_map row ys ++ y → SameRows xs ys x y
+same_rows [] [] x y s t p q e = record { points = refl; bytes = refl; rest = e }
+same_rows [] (b ∷ ys) x y s t p q e = absurd (s (omega arith) (one_more b ys x y q.0 e))
+same_rows (a ∷ xs) [] x y s t p q e = absurd (t (omega arith) (one_more a xs y x p.0 (sym e)))
+same_rows (a ∷ xs) (b ∷ ys) x y s t p q e =
     let one = same_row a b xs ys x y p.0 q.0 e in
-    more_rows one (same_rows xs ys x y (omega (arith, len)) p.1 q.1 one.rest)
+    more_rows one (same_rows xs ys x y (λ less. s (omega (arith, less))) (λ less. t (omega (arith, less))) p.1 q.1
+    one.rest)
 
 -- the fields before the rows, where bytes begin with two headers, and what stands after the fields
 pub record SameFields (n : ℕ) (g h v w : List ℕ) : Type 0 where
@@ -142,8 +156,9 @@ pub same_head : (form : Form) (a b : Log) (g h x y : List ℕ) → IsForm form �
 same_head form a b g h x y known p q e =
     let first = same_fields form.header_size g h _ _ x y p.least q.least p.parts q.parts e in
     let base : a.base ≡ b.base = sym p.base ∙ same_base form g h known first.fields ∙ q.base in
-    let rows = same_rows p.rows q.rows x y (p.count ∙ ap (λ (z : Base). z.count) base ∙ sym q.count) p.each q.each
-    first.rest in
+    let count : length p.rows ≡ length q.rows = p.count ∙ ap (λ (z : Base). z.count) base ∙ sym q.count in
+    let rows = same_rows p.rows q.rows x y (λ less. omega (arith, count, less)) (λ less. omega (arith, count, less))
+    p.each q.each first.rest in
     record {
       head = same_front form.header_size g h _ _ first.fields p.parts q.parts rows.bytes;
       base = base;

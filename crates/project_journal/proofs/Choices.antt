@@ -2,9 +2,9 @@
 use Rattle.project_journal.proofs.Common.{◌≡◌, inl, inr, ℕ, zero, suc, ◌^◌, ◌≤◌, min, Option, Some, None, Result, Ok}
 use Rattle.project_journal.proofs.Common.{Err, List, [], ◌∷◌, ◌++◌, length, take, drop, refl, sym, ◌∙◌, ap, subst}
 use Rattle.project_journal.proofs.Common.{arith, Bool, true, false, eq-eqb, get_or-take, length-take, take_at, take_min}
-use Rattle.project_journal.proofs.Common.{◌==◌, Files, bytes_of, Absent, Exists, SpaceSpent, DiskFault, NoMemory}
+use Rattle.project_journal.proofs.Common.{◌==◌, Files, bytes_of, Absent, DiskFault}
 use Rattle.project_journal.proofs.Common.{FailsIn, IsOlder, IsPicked, newer_test, other_file, IsProject, first_failed}
-use Rattle.project_journal.proofs.Common.{form_of, Chooses, Opens, StartsIn, two_files, Reader, field, differ}
+use Rattle.project_journal.proofs.Common.{Chooses, Opens, StartsIn, two_files, Reader, differ}
 use Rattle.std.proofs.Common.{if◌then◌else◌}
 use Rattle.project_journal.specs.declared.fault.JournalFault.TheVariants.{Damaged}
 use Rattle.project_journal.specs.Choice.{choice_tests, generation_at}
@@ -18,15 +18,15 @@ front_read bytes buf n is =
     take_at (take n bytes) (drop n buf) n (length-take n bytes ∙ omega (arith, is))
     ∙ ap (λ (k : ℕ). take k bytes) is ∙ take_min 33 bytes
 
-project_front : (bytes : List ℕ) → IsProject (take 33 bytes) → IsProject bytes
-project_front bytes p =
-    let long : 33 ≤ length bytes = omega (arith, p.0, length-take 33 bytes) in
-    (long, λ shut. p.1 (get_or-take 33 bytes 0 0 (omega arith) ∙ shut))
+pub take_project : (n : ℕ) (bytes : List ℕ) → IsProject (take n bytes) → IsProject bytes
+take_project n bytes p =
+    let long : 33 ≤ min n (length bytes) = omega (arith, p.0, length-take n bytes) in
+    (omega (arith, long), λ shut. p.1 (get_or-take n bytes 0 0 (omega (arith, long)) ∙ shut))
 
-front_project : (bytes : List ℕ) → IsProject bytes → IsProject (take 33 bytes)
-front_project bytes p = (
-  omega (arith, p.0, length-take 33 bytes),
-  λ shut. p.1 (sym (get_or-take 33 bytes 0 0 (omega arith)) ∙ shut),
+pub project_take : (n : ℕ) (bytes : List ℕ) → 33 ≤ n → IsProject bytes → IsProject (take n bytes)
+project_take n bytes fits p = (
+  omega (arith, p.0, fits, length-take n bytes),
+  λ shut. p.1 (sym (get_or-take n bytes 0 0 (omega (arith, fits))) ∙ shut),
 )
 
 generation_front : (bytes : List ℕ) → generation_at (take 33 bytes) ≡ generation_at bytes
@@ -59,17 +59,14 @@ picked_front file c d fronts is =
     let mine = fronts file is.few in
     let other = fronts (other_file file) (omega arith) in
     let there : IsProject (bytes_of (d (other_file file))) → IsProject (bytes_of (c (other_file file))) =
-    λ p. subst IsProject (sym other) (front_project (bytes_of (d (other_file file))) p) in
+    λ p. subst IsProject (sym other) (project_take 33 (bytes_of (d (other_file file))) (omega arith) p) in
     record {
       few = is.few;
-      project = project_front (bytes_of (d file)) (subst IsProject mine is.project);
+      project = take_project 33 (bytes_of (d file)) (subst IsProject mine is.project);
       valid = λ p. ap first_failed (sym (choice_front (bytes_of (d file))))
           ∙ ap (λ (b : List ℕ). first_failed (choice_tests b)) (sym mine) ∙ is.valid (there p);
-      newest = λ p.
-          older_front (generation_at (bytes_of (d file))) (bytes_of (d (other_file file)))
-          (subst (λ (g : ℕ). IsOlder g (take 33 (bytes_of (d (other_file file)))))
-          (ap generation_at mine ∙ generation_front (bytes_of (d file)))
-          (subst (IsOlder (generation_at (bytes_of (c file)))) other (is.newest (there p))));
+      newest = λ p. older_front (generation_at (bytes_of (d file))) (bytes_of (d (other_file file)))
+          (rw (mine, generation_front (bytes_of (d file)), other) at (is.newest (there p)));
     }
 
 fails_front : (a b : List ℕ) (file : ℕ) (fault : Fault) → FailsIn (take 33 a) (take 33 b) file fault
@@ -85,24 +82,17 @@ fails_front a b file fault (inr there) = inr (
 
 pub chooses_front : (c d : Files) (r : Result (Option ℕ) JournalFault) → AreFronts c d → Chooses c r → Chooses d r
 chooses_front c d (Ok None) fronts is = (
-  λ p. is.0 (subst IsProject (sym (fronts 0 (omega arith))) (front_project (bytes_of (d 0)) p)),
-  λ p. is.1 (subst IsProject (sym (fronts 1 (omega arith))) (front_project (bytes_of (d 1)) p)),
+  λ p. is.0 (subst IsProject (sym (fronts 0 (omega arith))) (project_take 33 (bytes_of (d 0)) (omega arith) p)),
+  λ p. is.1 (subst IsProject (sym (fronts 1 (omega arith))) (project_take 33 (bytes_of (d 1)) (omega arith) p)),
 )
 chooses_front c d (Ok (Some file)) fronts is = picked_front file c d fronts is
 chooses_front c d (Err (Damaged file at want have)) fronts is = record {
-  first = project_front (bytes_of (d 0)) (subst IsProject (fronts 0 (omega arith)) is.first);
-  second = project_front (bytes_of (d 1)) (subst IsProject (fronts 1 (omega arith)) is.second);
+  first = take_project 33 (bytes_of (d 0)) (subst IsProject (fronts 0 (omega arith)) is.first);
+  second = take_project 33 (bytes_of (d 1)) (subst IsProject (fronts 1 (omega arith)) is.second);
   fails = fails_front (bytes_of (d 0)) (bytes_of (d 1)) file (record { at = at; want = want; have = have })
-      (subst (λ (b : List ℕ). FailsIn (take 33 (bytes_of (d 0))) b file (record { at = at; want = want; have = have }))
-      (fronts 1 (omega arith))
-      (subst (λ (a : List ℕ). FailsIn a (bytes_of (c 1)) file (record { at = at; want = want; have = have }))
-      (fronts 0 (omega arith)) is.fails));
+      (rw (fronts 0 (omega arith), fronts 1 (omega arith)) at is.fails);
 }
-chooses_front c d (Err DiskFault) fronts is = tt
-chooses_front c d (Err Absent) fronts is = is
-chooses_front c d (Err Exists) fronts is = is
-chooses_front c d (Err NoMemory) fronts is = is
-chooses_front c d (Err (SpaceSpent have need)) fronts is = is
+chooses_front c d (Err _) fronts is = is
 
 -- the fronts of files 0 and 1
 pub two_fronts : (a b : List ℕ) (d : Files) → a ≡ take 33 (bytes_of (d 0)) → b ≡ take 33 (bytes_of (d 1))
@@ -120,24 +110,12 @@ two_few a b first second (suc (suc n)) = omega arith
 -- a reader of the chosen file
 pub opens_from : (file : ℕ) (files : Files) (r : Result Reader JournalFault) → IsPicked file files
     → StartsIn file (bytes_of (files file)) r → Opens files r
-opens_from file files (Ok r) picked s = record {
-  picked = subst (λ (n : ℕ). IsPicked n files) (sym s.same) picked;
-  version = s.version ∙ ap (λ (n : ℕ). field 5 4 (bytes_of (files n))) (sym s.same);
-  valid = ap (λ (v : ℕ). first_failed ((form_of v r.window.file).tests (bytes_of (files r.window.file)))) (s.version
-      ∙ ap (λ (n : ℕ). field 5 4 (bytes_of (files n))) (sym s.same))
-      ∙ ap (λ (n : ℕ). first_failed ((form_of (field 5 4 (bytes_of (files n))) n).tests (bytes_of (files n)))) s.same
-      ∙ s.valid;
-}
+opens_from file files (Ok r) picked s =
+    record { picked = rw s.same picked; version = rw s.same s.version; valid = rw (s.version, s.same) s.valid }
 opens_from file files (Err Absent) picked s = absurd (s picked.project)
-opens_from file files (Err (Damaged told at want have)) picked s = inr (record {
-  picked = subst (λ (n : ℕ). IsPicked n files) (sym s.same) picked;
-  fails = ap (λ (n : ℕ). first_failed ((form_of (field 5 4 (bytes_of (files n))) n).tests (bytes_of (files n)))) s.same
-      ∙ s.fails;
-})
-opens_from file files (Err DiskFault) picked s = tt
-opens_from file files (Err NoMemory) picked s = tt
-opens_from file files (Err Exists) picked s = s
-opens_from file files (Err (SpaceSpent have need)) picked s = s
+opens_from file files (Err (Damaged told at want have)) picked s =
+    inr (record { picked = rw s.same picked; fails = rw s.same s.fails })
+opens_from file files (Err _) picked s = s
 
 abbrev no_files : Files
 no_files = λ n. None
@@ -171,33 +149,25 @@ picked_alone file bytes few project =
       newest = λ p. absurd (none p);
     }
 
-starts_alone : (file : ℕ) (bytes : List ℕ) (r : Result Reader JournalFault) → StartsIn file bytes r
-    → StartsIn file (bytes_of (one_file file bytes file)) r
-starts_alone file bytes r = subst (λ (b : List ℕ). StartsIn file b r) (sym (alone_here file bytes))
-
-pub opens_some : (file : ℕ) (r : Result Reader JournalFault) → file ≤ 1 → StartsSome file r → OpensSome r
-opens_some file (Ok r) few s = record {
+opens_alone : (file : ℕ) (r : Result Reader JournalFault) → file ≤ 1 → (s : StartsSome file r) → IsProject s.bytes
+    → OpensSome r
+opens_alone file r few s project = record {
   files = one_file file s.bytes;
   few = alone_few file s.bytes s.few;
-  opens = opens_from file (one_file file s.bytes) (Ok r) (picked_alone file s.bytes few s.starts.project)
-      (starts_alone file s.bytes (Ok r) s.starts);
+  opens = opens_from file (one_file file s.bytes) r (picked_alone file s.bytes few project)
+      (subst (λ (b : List ℕ). StartsIn file b r) (sym (alone_here file s.bytes)) s.starts);
 }
+
+pub opens_some : (file : ℕ) (r : Result Reader JournalFault) → file ≤ 1 → StartsSome file r → OpensSome r
+opens_some file (Ok r) few s = opens_alone file (Ok r) few s s.starts.project
+opens_some file (Err (Damaged told at want have)) few s =
+    opens_alone file (Err (Damaged told at want have)) few s s.starts.project
 opens_some file (Err Absent) few s = record {
   files = no_files;
   few = λ n. omega arith;
   opens = (λ p. omega (arith, p.0), λ p. omega (arith, p.0));
 }
-opens_some file (Err (Damaged told at want have)) few s = record {
-  files = one_file file s.bytes;
-  few = alone_few file s.bytes s.few;
-  opens = opens_from file (one_file file s.bytes) (Err (Damaged told at want have))
-      (picked_alone file s.bytes few s.starts.project)
-      (starts_alone file s.bytes (Err (Damaged told at want have)) s.starts);
-}
-opens_some file (Err DiskFault) few s = record { files = no_files; few = λ n. omega arith; opens = tt }
-opens_some file (Err NoMemory) few s = record { files = no_files; few = λ n. omega arith; opens = tt }
-opens_some file (Err Exists) few s = absurd s.starts
-opens_some file (Err (SpaceSpent have need)) few s = absurd s.starts
+opens_some file (Err _) few s = record { files = no_files; few = λ n. omega arith; opens = s.starts }
 
 -- a fault of the disk comes of any files
 pub chooses_fault : ChoosesSome (Err DiskFault)

@@ -2,28 +2,21 @@
 use Rattle.project_journal.proofs.Common.{◌≡◌, ℕ, zero, suc, ltb, ◌+◌, ◌-◌, ◌<◌, ◌≤◌, inl, inr, Option, Some, List, []}
 use Rattle.project_journal.proofs.Common.{◌∷◌, ◌++◌, length, map, take, drop, refl, sym, ◌∙◌, ap, subst, arith}
 use Rattle.project_journal.proofs.Common.{append_assoc, length-append, length-drop, append-nil, map-append}
-use Rattle.project_journal.proofs.Common.{get_or_append_left, length-map, flat_map, AllByRecursion, little_number}
+use Rattle.project_journal.proofs.Common.{get_or_append_left, length-map, little_number}
 use Rattle.project_journal.proofs.Common.{Whole, Shut, Early, Form, IsForm, IsFormat, first_failed, Contents, Row, row}
 use Rattle.project_journal.proofs.Common.{bytes_in, IsRow, IsHeaded, IsCut, IsRead, body_at, next_point, header_end}
 use Rattle.project_journal.proofs.Common.{placed, points_size, Damaged, Next, field, Base, IsBegun}
 use Rattle.std.proofs.lemmas.List.{drop-append-le}
 use Rattle.project_journal.proofs.AnyFormats.{HasBase, HasCounts, base_valid, counts_valid, format_as, numbers_valid}
 use Rattle.project_journal.proofs.Parses.{form_least, not_shut, tests_front, base_front}
-use Rattle.project_journal.proofs.{Bases.length-rows, Begun.HasNumbers, Begun.continued, Seen.field_front}
+use Rattle.project_journal.proofs.{Bases.length-rows, Begun.HasNumbers, Begun.continued, Logs.each_more}
+use Rattle.project_journal.proofs.{Logs.flat_more, Seen.field_front}
 use Rattle.project_journal.proofs.{Splits.front_of}
 
 -- one point more
 unfoldable pub point_more_of : Contents → ℕ → List ℕ → Contents
 point_more_of j len rest =
     record j { points = j.points ++ take len (drop 4 rest) ∷ []; end = j.end + (4 + len) }
-
-each_more : (rows : List Row) (r : Row) → AllByRecursion IsRow rows → IsRow r → AllByRecursion IsRow (rows ++ r ∷ [])
-each_more [] r all one = (one, tt)
-each_more (x ∷ rows) r all one = (all.0, each_more rows r all.1 one)
-
-flat-more : (rows : List Row) (r : Row) → flat_map row (rows ++ r ∷ []) ≡ flat_map row rows ++ row r
-flat-more [] r = append-nil (row r)
-flat-more (x ∷ rows) r = ap (λ (l : List ℕ). row x ++ l) (flat-more rows r) ∙ sym (append_assoc (row x) (flat_map row rows) (row r))
 
 pub headed_more : (form : Form) (bytes : List ℕ) (j : Contents) (len : ℕ) → IsForm form → (is : IsHeaded form bytes j)
     → next_point j.end is.rest ≡ Whole len → IsHeaded form bytes (point_more_of j len is.rest)
@@ -45,8 +38,8 @@ headed_more form bytes j len known is next =
       rows = is.rows ++ r ∷ [];
       least = omega (arith, is.least, length-append is.front (row r));
       fields = drop-append-le form.header_size is.front (row r) is.least
-          ∙ ap (λ (l : List ℕ). l ++ row r) is.fields ∙ sym (flat-more is.rows r);
-      each = each_more is.rows r is.each (record { size = here.whole.size; bytes = here.whole.body });
+          ∙ ap (λ (l : List ℕ). l ++ row r) is.fields ∙ sym (flat_more row is.rows r);
+      each = each_more IsRow is.rows r is.each (record { size = here.whole.size; bytes = here.whole.body });
       points = map-append bytes_in is.rows (r ∷ []) ∙ ap (λ (l : List (List ℕ)). l ++ e.body ∷ []) is.points
           ∙ ap (λ (b : List ℕ). j.points ++ b ∷ []) here.body;
       base = base_front form is.front (row r) known is.least ∙ is.base;

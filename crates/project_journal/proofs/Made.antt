@@ -9,17 +9,7 @@ module _ (rate block_size depth : ℕ) (row : List ℕ) (fits : IsFormat rate bl
     (is : row ≡ header_row (fresh rate block_size depth) ++ 0 ∷ []) where
   fresh_text : IsText row (fresh rate block_size depth)
   fresh_text = text_is (fresh rate block_size depth) row is refl fits below
-      (record {
-        generation = omega arith;
-        commit = omega arith;
-        block_least = omega arith;
-        block_most = omega arith;
-        track_least = omega arith;
-        track_most = omega arith;
-        some = omega arith;
-        few = fits.depth_least;
-        current = omega arith;
-      })
+      (omega (arith, fits))
       refl (omega arith, tt)
 
   pub none_or_new : (c : Files) → NoProject 1 c → IsShutOrOpen 0 [] row c

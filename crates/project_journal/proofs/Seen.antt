@@ -1,13 +1,14 @@
 -- What the choice of a file sees of a journal.
-use Rattle.project_journal.proofs.Common.{◌≡◌, ◌⊎◌, inl, inr, ⊎_elim, ℕ, ◌+◌, ◌^◌, ◌<◌, ◌≤◌, min, max, None, List, []}
-use Rattle.project_journal.proofs.Common.{◌∷◌, ◌++◌, length, eqb, refl, sym, ◌∙◌, ap, subst, arith, append_assoc}
-use Rattle.project_journal.proofs.Common.{eq-eqb, eqb-true, flat_map, Files, bytes_of, IsOlder, Form, IsForm}
+use Rattle.project_journal.proofs.Common.{◌≡◌, ◌⊎◌, inl, inr, ℕ, ◌+◌, ◌^◌, ◌<◌, ◌≤◌, min, max, None, List}
+use Rattle.project_journal.proofs.Common.{◌∷◌, ◌++◌, length, eqb, false, refl, sym, ◌∙◌, ap, subst, arith, append_assoc}
+use Rattle.project_journal.proofs.Common.{flat_map, Files, bytes_of, IsOlder, Form, IsForm}
 use Rattle.project_journal.proofs.Common.{first_failed, form_of, base_fields, base_tests, last_tests, wide_tests, Log}
 use Rattle.project_journal.proofs.Common.{entry, IsHeader, IsLog, field, IsShut, Base, Damaged}
 use Rattle.std.proofs.{lemmas.List.take-append-le}
 use Rattle.project_journal.specs.Choice.{generation_at, choice_tests}
 use Rattle.project_journal.specs.Header.{number_tests, base_tests_in, the_zeros}
-use Rattle.project_journal.proofs.{Formats.passed, Parses.by_form, Parses.field_take, Parses.form_least}
+use Rattle.project_journal.proofs.Formats.{all_pass, pass_all, Pass}
+use Rattle.project_journal.proofs.{Parses.by_form, Parses.field_take, Parses.form_least}
 
 -- a field of the first 32 bytes
 pub field_front : (at n : ℕ) (head rest : List ℕ) → at + n ≤ 32 → 32 ≤ length head
@@ -25,99 +26,70 @@ pub record Chosen (head : List ℕ) (generation : ℕ) : Type 0 where
   pub bound : generation ≤ 2 ^ 62
   pub is : generation_at head ≡ generation
 
-first_version : (bytes : List ℕ) → field 5 4 bytes ≡ 1 → generation_at bytes ≡ 0
-unfolding generation_at
-first_version bytes is = rw (eq-eqb (field 5 4 bytes) 1 is) refl
-
-second_version : (bytes : List ℕ) → field 5 4 bytes ≡ 2 → generation_at bytes ≡ field 21 8 bytes
-unfolding generation_at
-second_version bytes is = rw is refl
-
-third_version : (bytes : List ℕ) → field 5 4 bytes ≡ 3 → generation_at bytes ≡ field 21 8 bytes
-unfolding generation_at
-third_version bytes is = rw is refl
-
--- a list of tests passes where both its parts do
-pub both_pass : (xs ys : List Damaged) → first_failed (xs ++ ys) ≡ None
-    → (first_failed xs ≡ None) × (first_failed ys ≡ None)
-both_pass [] ys e = (refl, e)
-both_pass (x ∷ xs) ys e =
-    let here = passed (eqb x.want x.have) (first_failed (xs ++ ys)) x e in
-    let more = both_pass xs ys here.1 in
-    (rw here.0 more.0, more.1)
-
 pub record Numbers (version : ℕ) (bytes : List ℕ) : Type 0 where
   pub magic : field 1 4 bytes ≡ 827214401
   pub version_is : field 5 4 bytes ≡ version
 
-pub numbers_pass : (version : ℕ) (bytes : List ℕ) → first_failed (number_tests version bytes) ≡ None
-    → Numbers version bytes
+numbers_pass : (version : ℕ) (bytes : List ℕ) (more : List Damaged)
+    → first_failed (number_tests version bytes ++ more) ≡ None → Numbers version bytes
 unfolding number_tests
-numbers_pass version bytes e =
-    let magic = passed _ _ _ e in
-    let is = passed _ _ _ magic.1 in
-    record { magic = sym (eqb-true _ _ magic.0); version_is = sym (eqb-true _ _ is.0) }
-
-bound_passes : (bytes : List ℕ) → first_failed (base_tests bytes) ≡ None → field 21 8 bytes ≤ 2 ^ 62
-unfolding base_tests_in
-bound_passes bytes e =
-    let first = passed _ _ _ e in
-    let most : min (2 ^ 62) (field 21 8 bytes) ≡ field 21 8 bytes = eqb-true _ _ first.0 in
-    omega (arith, most)
+numbers_pass version bytes more e =
+    let pass = all_pass (number_tests version bytes ++ more) e in
+    record { magic = sym pass.0; version_is = sym pass.1.0 }
 
 -- of each version, its numbers are there
 pub numbers_of : (form : Form) (head : List ℕ) → IsForm form → first_failed (form.tests head) ≡ None
     → Numbers form.version head
 numbers_of form head known =
     by_form (λ (f : Form). first_failed (f.tests head) ≡ None → Numbers f.version head) form known
-    (λ is. numbers_pass 1 head (both_pass (number_tests 1 head) (the_zeros head) is).0)
-    (λ is. numbers_pass 2 head (both_pass (number_tests 2 head) (base_tests head ++ last_tests head) is).0)
-    (λ is. numbers_pass 3 head (both_pass (number_tests 3 head) (base_tests head ++ wide_tests head) is).0)
+    (numbers_pass 1 head (the_zeros head)) (numbers_pass 2 head (base_tests head ++ last_tests head))
+    (numbers_pass 3 head (base_tests head ++ wide_tests head))
 
--- and where it has a base, the tests of that pass
-pub base_passes : (version : ℕ) (head : List ℕ) (more : List Damaged)
-    → first_failed (number_tests version head ++ (base_tests head ++ more)) ≡ None
-    → first_failed (base_tests head) ≡ None
-base_passes version head more is =
-    (both_pass (base_tests head) more (both_pass (number_tests version head) (base_tests head ++ more) is).1).0
+-- and what is tested after the fields of a base
+pub last_pass : (version : ℕ) (head : List ℕ) (more : List Damaged)
+    → first_failed (number_tests version head ++ (base_tests head ++ more)) ≡ None → Pass more
+unfolding number_tests base_tests_in
+last_pass version head more valid =
+    (all_pass (number_tests version head ++ (base_tests head ++ more)) valid).1.1.1.1.1.1.1.1.1.1.1.1.1.1.1.1
 
 chosen_base : (version : ℕ) (head : List ℕ) (more : List Damaged) (base : Base) → IsVersion version
-    → (field 5 4 head ≡ version → generation_at head ≡ field 21 8 head)
-    → first_failed (number_tests version head ++ (base_tests head ++ more)) ≡ None → base_fields head ≡ base
-    → Numbers version head → Chosen head base.generation
-chosen_base version head more base among at valid is numbers =
+    → eqb version 1 ≡ false → first_failed (number_tests version head ++ (base_tests head ++ more)) ≡ None
+    → base_fields head ≡ base → Chosen head base.generation
+unfolding number_tests base_tests_in generation_at
+chosen_base version head more base among later valid is =
+    let pass = all_pass (number_tests version head ++ (base_tests head ++ more)) valid in
     let same : field 21 8 head ≡ base.generation = ap (λ (b : Base). b.generation) is in
     record {
-      magic = numbers.magic;
-      version = subst IsVersion (sym numbers.version_is) among;
-      bound = omega (arith, same, bound_passes head (base_passes version head more valid));
-      is = at numbers.version_is ∙ same;
+      magic = sym pass.0;
+      version = subst IsVersion pass.1.0 among;
+      bound = omega (arith, same, pass.1.1.1.1.1.0);
+      is = rw (← pass.1.0, later) same;
     }
 
 pub chosen : (form : Form) (head : List ℕ) (log : Log) → IsForm form → IsHeader form head log
     → Chosen head log.base.generation
+unfolding generation_at
 chosen form head log known is =
-    by_form (λ (f : Form). first_failed (f.tests head) ≡ None → f.base_at head ≡ log.base → Numbers f.version head
+    by_form (λ (f : Form). first_failed (f.tests head) ≡ None → f.base_at head ≡ log.base
     → Chosen head log.base.generation) form known
-    (λ valid base numbers.
+    (λ valid base.
+    let numbers = numbers_pass 1 head (the_zeros head) valid in
     let none : 0 ≡ log.base.generation = ap (λ (b : Base). b.generation) base in
     record {
       magic = numbers.magic;
       version = inl numbers.version_is;
       bound = omega (arith, none);
-      is = first_version head numbers.version_is ∙ none;
+      is = rw numbers.version_is none;
     })
-    (chosen_base 2 head (last_tests head) log.base (inr (inl refl)) (second_version head))
-    (chosen_base 3 head (wide_tests head) log.base (inr (inr refl)) (third_version head))
-    is.valid is.base (numbers_of form head known is.valid)
+    (chosen_base 2 head (last_tests head) log.base (inr (inl refl)) refl)
+    (chosen_base 3 head (wide_tests head) log.base (inr (inr refl)) refl) is.valid is.base
 
 -- the version that a header says is that of its form
 pub form_valid : (form : Form) (head : List ℕ) → IsForm form → first_failed (form.tests head) ≡ None
     → form_of (field 5 4 head) form.file ≡ form
 form_valid form head known valid =
-    by_form (λ (f : Form). field 5 4 head ≡ f.version → form_of (field 5 4 head) f.file ≡ f) form known
-    (λ one. ap (λ (v : ℕ). form_of v form.file) one) (λ two. ap (λ (v : ℕ). form_of v form.file) two)
-    (λ three. ap (λ (v : ℕ). form_of v form.file) three) (numbers_of form head known valid).version_is
+    ap (λ (v : ℕ). form_of v form.file) (numbers_of form head known valid).version_is
+    ∙ by_form (λ (f : Form). form_of f.version f.file ≡ f) form known refl refl refl
 
 pub form_by : (form : Form) (head : List ℕ) (log : Log) → IsForm form → IsHeader form head log
     → form_of (field 5 4 head) form.file ≡ form
@@ -129,15 +101,8 @@ least_head form head log known is = omega (arith, form_least form known, is.leas
 pub choice_passes : (bytes : List ℕ) (g : ℕ) → Chosen bytes g → first_failed (choice_tests bytes) ≡ None
 unfolding choice_tests
 choice_passes bytes g is =
-    let version : min 3 (max 1 (field 5 4 bytes)) ≡ field 5 4 bytes = ⊎_elim
-    (λ one. omega (arith, one))
-    (λ later. ⊎_elim (λ two. omega (arith, two)) (λ three. omega (arith, three)) later) is.version in
-    let bound : min (2 ^ 62) (generation_at bytes) ≡ generation_at bytes = omega (arith, is.bound, is.is) in
-    rw (
-      eq-eqb 827214401 (field 1 4 bytes) (sym is.magic),
-      eq-eqb (min 3 (max 1 (field 5 4 bytes))) (field 5 4 bytes) version,
-      eq-eqb (min (2 ^ 62) (generation_at bytes)) (generation_at bytes) bound,
-    ) refl
+    let version : min 3 (max 1 (field 5 4 bytes)) ≡ field 5 4 bytes = grind arith in
+    pass_all (choice_tests bytes) (sym is.magic, (version, (omega (arith, is.bound, is.is), tt)))
 
 pub generation_front : (head rest : List ℕ) → 32 ≤ length head → generation_at (head ++ rest) ≡ generation_at head
 unfolding generation_at

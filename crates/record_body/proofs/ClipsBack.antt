@@ -1,9 +1,9 @@
 -- Blocks and clips that meet their bounds pass their tests and are read back.
 use Rattle.record_body.proofs.Common.{◌≡◌, ℕ, ◌+◌, ◌^◌, ◌≤◌, ◌<◌, Bool, List, [], ◌∷◌, ◌++◌, length, drop, nat_lt, refl}
-use Rattle.record_body.proofs.Common.{sym, ap, ap₂, subst, ◌∙◌, arith, append_assoc, length-append, flat_map}
+use Rattle.record_body.proofs.Common.{arith, append_assoc, length-append, flat_map}
 use Rattle.record_body.proofs.Common.{little_bytes, BlockRef, blocks_len, Clip, clip_end, field, blocks_at, lens_at}
 use Rattle.record_body.proofs.Common.{block_count, clip_at, clip_end_at, clip_size, clips_at, clips_size, least_len}
-use Rattle.record_body.proofs.Common.{block_tests, blocks_tests, clip_head_tests, clip_tests, clips_tests, Limits}
+use Rattle.record_body.proofs.Common.{block_tests, blocks_tests, clip_tests, clips_tests, Limits}
 use Rattle.record_body.proofs.Common.{block_bytes, clip_bytes}
 use Rattle.record_body.proofs.Parts.{length_clip}
 use Rattle.record_body.proofs.FieldsBack.{NoneFails, both_pass, least_passes, most_passes, no_test, number_there, past}
@@ -29,22 +29,17 @@ record HasBlock (b : BlockRef) (at : ℕ) (bytes rest : List ℕ) : Type 0 where
 has_block : (b : BlockRef) (at : ℕ) (bytes rest : List ℕ) → b.id < 2 ^ 64 → b.len < 2 ^ 32
     → drop at bytes ≡ block_bytes b ++ rest → HasBlock b at bytes rest
 has_block b at bytes rest i n e =
-    let behind = past at (at + 8) bytes (little_bytes 8 b.id) (little_bytes 4 b.len ++ rest) e refl in
-    record {
-      id = number_there 8 b.id at bytes (little_bytes 4 b.len ++ rest) e i;
-      len = number_there 4 b.len (at + 8) bytes rest behind n;
-      left = past (at + 8) (at + 12) bytes (little_bytes 4 b.len) rest behind (omega arith);
-    }
+    search (
+      arith,
+      past at (at + 8) bytes (little_bytes 8 b.id) (little_bytes 4 b.len ++ rest) e refl,
+      past (at + 8) (at + 12) bytes (little_bytes 4 b.len) rest,
+      number_there 8 b.id at bytes (little_bytes 4 b.len ++ rest) e i,
+      number_there 4 b.len (at + 8) bytes rest,
+    )
 
 block_passes : (l : Limits) (several : Bool) (before : ℕ) (b : BlockRef) (at : ℕ) (bytes rest : List ℕ)
     → IsGoodBlock l several before b → HasBlock b at bytes rest → NoneFails (block_tests l several before at bytes)
-block_passes l several before b at bytes rest good has =
-    least_passes _ _ _ _ _ has.id good.valid
-    (most_passes _ _ _ _ _ has.id (omega (arith, good.given))
-    (most_passes _ _ _ _ _ has.len (omega (arith, good.short))
-    (least_passes _ _ _ _ _ has.len good.some
-    (most_passes _ _ _ _ _ has.len good.fits
-    (least_passes _ _ _ _ _ has.len good.enough no_test)))))
+block_passes l several before b at bytes rest good has = search (arith, least_passes, most_passes, no_test)
 
 -- blocks where their bytes stand, which pass
 pub record HasBlocks (l : Limits) (several : Bool) (before : ℕ) (bs : List BlockRef) (at : ℕ) (bytes : List ℕ)
@@ -64,17 +59,14 @@ pub has_blocks : (l : Limits) (several : Bool) (before : ℕ) (bs : List BlockRe
     → HasBlocks l several before bs at bytes
 has_blocks l several before [] at bytes rest narrow good e = record { blocks = refl; lens = refl; passes = no_test }
 has_blocks l several before (b ∷ bs) at bytes rest narrow good e =
-    let one = has_block b at bytes (flat_map block_bytes bs ++ rest) (omega (arith, narrow.ids, good.0.given))
-    (omega (arith, narrow.lens, good.0.fits)) (e ∙ append_assoc (block_bytes b) (flat_map block_bytes bs) rest) in
-    let more = has_blocks l several (before + b.len) bs (at + 12) bytes rest narrow good.1 one.left in
-    record {
-      blocks = ap₂ (λ (id len : ℕ). record { id = id; len = len } ∷ blocks_at (length bs) (at + 12) bytes) one.id
-          one.len ∙ ap (λ (r : List BlockRef). b ∷ r) more.blocks;
-      lens = ap₂ (λ (n k : ℕ). n + k) one.len more.lens;
-      passes = both_pass (block_tests l several before at bytes) _
-          (block_passes l several before b at bytes _ good.0 one) (subst (λ (n : ℕ). NoneFails (blocks_tests l several (length bs) (before + n) (at + 12) bytes)) (sym one.len)
-          more.passes);
-    }
+    search (
+      arith,
+      has_blocks l several (before + b.len) bs (at + 12) bytes rest narrow good.1,
+      has_block b at bytes (flat_map block_bytes bs ++ rest),
+      append_assoc (block_bytes b) (flat_map block_bytes bs) rest,
+      both_pass (block_tests l several before at bytes),
+      block_passes l several before b at bytes,
+    )
 
 -- a clip that meets its bounds, from a cell on
 pub record IsGoodClip (l : Limits) (from : ℕ) (c : Clip) : Type 0 where
@@ -101,39 +93,22 @@ has_clip : (l : Limits) (from : ℕ) (c : Clip) (at : ℕ) (bytes rest : List �
     → drop at bytes ≡ clip_bytes c ++ rest → HasClip c at bytes rest
 has_clip l from c at bytes rest narrow good e =
     let all = flat_map block_bytes c.blocks ++ rest in
-    let counted = past at (at + 8) bytes (little_bytes 8 c.start) (little_bytes 4 (length c.blocks) ++ all) e refl in
-    let blocks = past (at + 8) (at + 12) bytes (little_bytes 4 (length c.blocks)) all counted (omega arith) in
-    let start =
-    number_there 8 c.start at bytes (little_bytes 4 (length c.blocks) ++ all) e (omega (arith, good.reached)) in
-    let count = number_there 4 (length c.blocks) (at + 8) bytes all counted good.few in
-    let size : clip_size at bytes ≡ length (clip_bytes c) = omega (arith, count, length_clip c) in
-    let has =
-    has_blocks l (nat_lt 1 (length c.blocks)) c.start c.blocks (at + 12) bytes rest narrow good.blocks blocks in
-    record {
-      start = start;
-      count = count;
-      clip = ap₂ (λ (s : ℕ) (bs : List BlockRef). record { start = s; blocks = bs }) start
-          (ap (λ (n : ℕ). blocks_at n (at + 12) bytes) count ∙ has.blocks);
-      end = ap₂ (λ (n k : ℕ). n + k) start (ap (λ (n : ℕ). lens_at n (at + 12) bytes) count ∙ has.lens);
-      size = size;
-      left = past at (at + clip_size at bytes) bytes (clip_bytes c) rest e (omega (arith, size));
-      blocks = blocks;
-    }
+    let counted = little_bytes 4 (length c.blocks) ++ all in
+    search (
+      arith,
+      past at (at + 8) bytes (little_bytes 8 c.start) counted e refl,
+      past (at + 8) (at + 12) bytes (little_bytes 4 (length c.blocks)) all,
+      past at (at + clip_size at bytes) bytes (clip_bytes c) rest e,
+      number_there 8 c.start at bytes counted e,
+      number_there 4 (length c.blocks) (at + 8) bytes all,
+      length_clip c,
+      has_blocks l (nat_lt 1 (length c.blocks)) c.start c.blocks (at + 12) bytes rest narrow good.blocks,
+    )
 
 clip_passes : (l : Limits) (from : ℕ) (c : Clip) (at : ℕ) (bytes rest : List ℕ) → AreNarrow l → IsGoodClip l from c
     → HasClip c at bytes rest → NoneFails (clip_tests l from at bytes)
 clip_passes l from c at bytes rest narrow good has =
-    let head : NoneFails (clip_head_tests l from at bytes) =
-    least_passes _ _ _ _ _ has.start good.behind
-    (most_passes _ _ _ _ _ has.start good.reached
-    (least_passes _ _ _ _ _ has.count good.some no_test)) in
-    let all = has_blocks l (nat_lt 1 (length c.blocks)) c.start c.blocks
-    (at + 12) bytes rest narrow good.blocks has.blocks in
-    let counted =
-    subst (λ (n : ℕ). NoneFails (blocks_tests l (nat_lt 1 n) n c.start (at + 12) bytes)) (sym has.count) all.passes in
-    both_pass (clip_head_tests l from at bytes) _ head
-    (subst (λ (n : ℕ). NoneFails (blocks_tests l (nat_lt 1 (block_count at bytes)) (block_count at bytes) n
-    (at + 12) bytes)) (sym has.start) counted)
+    search (arith, least_passes, most_passes, no_test, has_blocks, both_pass)
 
 -- clips where their bytes stand, which pass
 pub record HasClips (l : Limits) (from : ℕ) (cs : List Clip) (at : ℕ) (bytes : List ℕ) : Type 0 where
@@ -145,13 +120,12 @@ pub has_clips : (l : Limits) (from : ℕ) (cs : List Clip) (at : ℕ) (bytes res
     → AreGoodClips l from cs → drop at bytes ≡ flat_map clip_bytes cs ++ rest → HasClips l from cs at bytes
 has_clips l from [] at bytes rest narrow good e = record { clips = refl; size = refl; passes = no_test }
 has_clips l from (c ∷ cs) at bytes rest narrow good e =
-    let one = has_clip l from c at bytes (flat_map clip_bytes cs ++ rest) narrow good.0
-    (e ∙ append_assoc (clip_bytes c) (flat_map clip_bytes cs) rest) in
-    let more = has_clips l (clip_end c + 1) cs (at + clip_size at bytes) bytes rest narrow good.1 one.left in
-    record {
-      clips = ap₂ (λ (d : Clip) (ds : List Clip). d ∷ ds) one.clip more.clips;
-      size = omega (arith, one.size, more.size, length-append (clip_bytes c) (flat_map clip_bytes cs));
-      passes = both_pass (clip_tests l from at bytes) _ (clip_passes l from c at bytes _ narrow good.0 one)
-          (subst (λ (n : ℕ). NoneFails (clips_tests l (length cs) (n + 1) (at + clip_size at bytes) bytes))
-          (sym one.end) more.passes);
-    }
+    search (
+      arith,
+      has_clips l (clip_end c + 1) cs (at + clip_size at bytes) bytes rest narrow good.1,
+      has_clip l from c at bytes (flat_map clip_bytes cs ++ rest) narrow good.0,
+      append_assoc (clip_bytes c) (flat_map clip_bytes cs) rest,
+      length-append (clip_bytes c) (flat_map clip_bytes cs),
+      both_pass (clip_tests l from at bytes),
+      clip_passes l from c at bytes,
+    )

@@ -1,7 +1,7 @@
 -- What two lists of blocks, or of clips, have in common.
 use Rattle.record_body.proofs.Common.{◌≡◌, ℕ, suc, ◌-◌, ◌<◌, ◌≤◌, get_or, min, Bool, true, false, inl, inr, ◌⊎◌, List}
-use Rattle.record_body.proofs.Common.{[], ◌∷◌, length, drop, refl, sym, ◌∙◌, ap, arith, ◌&&◌, cases_Bool, cases_lt}
-use Rattle.record_body.proofs.Common.{drop_all, BlockRef, Clip, is_block, common, same_clip, same_clips, last_blocks}
+use Rattle.record_body.proofs.Common.{[], ◌∷◌, length, drop, refl, ◌∙◌, ap, arith, ◌&&◌, cases_lt}
+use Rattle.record_body.proofs.Common.{drop_all, BlockRef, Clip, common, same_clip, same_clips, last_blocks}
 use Rattle.record_body.proofs.Common.{last_start}
 
 common_nil : (xs : List BlockRef) → common xs [] ≡ 0
@@ -27,12 +27,7 @@ common_ends xs ys i past = by_case (drop i xs) (drop i ys) (ends xs ys i past)
 pub common_within : (xs ys : List BlockRef) → (common xs ys ≤ length xs) × (common xs ys ≤ length ys)
 common_within [] ys = (omega arith, omega arith)
 common_within (x ∷ xs) [] = (omega arith, omega arith)
-common_within (x ∷ xs) (y ∷ ys) =
-    let more = common_within xs ys in
-    elim (cases_Bool (is_block x y)) [
-      | inl same ↦ rw same (omega (arith, more.0), omega (arith, more.1))
-      | inr differ ↦ rw differ (omega arith, omega arith)
-    ]
+common_within (x ∷ xs) (y ∷ ys) = search (arith, common_within xs ys)
 
 pub clips_unlike : (xs ys : List Clip) → (length xs ≡ length ys → ⊥) → same_clips xs ys ≡ false
 clips_unlike [] [] differ = absurd (differ refl)
@@ -52,8 +47,7 @@ pub record IsLast (c : Clip) (cs : List Clip) : Type 0 where
 
 pub last_at : (cs : List Clip) (c : Clip) → 0 < length cs → c ≡ get_or cs (length cs - 1) c → IsLast c cs
 last_at [] c some is = absurd (omega (arith, some))
-last_at (x ∷ []) c some is =
-    record { blocks = ap (λ (k : Clip). k.blocks) (sym is); start = ap (λ (k : Clip). k.start) (sym is) }
+last_at (x ∷ []) c some is = search arith
 last_at (x ∷ y ∷ cs) c some is =
     let less : length (x ∷ y ∷ cs) - 1 ≡ suc (length (y ∷ cs) - 1) = omega arith in
     let more = last_at (y ∷ cs) c (omega arith) (is ∙ ap (λ n. get_or (x ∷ y ∷ cs) n c) less) in

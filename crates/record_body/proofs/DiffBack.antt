@@ -30,8 +30,7 @@ are_short current short = λ id. is_short (track_of id current) (short id)
 back_choice : (l : Limits) (from : ℕ) (old : Option Track) (t : Track) (at : ℕ) (bytes rest : List ℕ) → AreNarrow l
     → IsShort old → IsGoodTrack l from t → field at 8 bytes ≡ t.id
     → drop (at + 8) bytes ≡ change_bytes (change_of old t) ++ rest → IsBack l old (change_of old t) at bytes rest
-back_choice l from None t at bytes rest narrow small good id e =
-    back_whole l from None t at bytes rest narrow good id e
+back_choice l from None t at bytes rest narrow small good id e = search (arith, back_whole)
 back_choice l from (Some o) t at bytes rest narrow small good id e =
     elim (cases_Bool (same_settings o t && same_clips o.layout t.layout)) [
       | inl whole ↦ rw whole (back_same l o at bytes rest (rw whole at e))
@@ -97,22 +96,16 @@ pub are_diff : (l : Limits) (current : List Track) (from : ℕ) (ts : List Track
 are_diff l current from [] at bytes rest narrow short good e = record { told = refl; width = refl; tests = no_test }
 are_diff l current from (t ∷ ts) at bytes rest narrow short good e =
     let told = diff_bytes current in
-    let one = is_diff l current from t at bytes (flat_map told ts ++ rest) narrow short good.0
-    (e ∙ append_assoc (told t) (flat_map told ts) rest) in
-    let more = are_diff l current (t.id + 1) ts (at + diff_size at bytes) bytes rest narrow short good.1 one.left in
-    let known = known_mark l current from at bytes (all_pass (diff_tests l current from at bytes) one.tests.none) in
-    record {
-      told = ap₂ (λ (x : Option Track) (xs : List (Option Track)). x ∷ xs) one.told more.told;
-      width = ap total_width (rest_known (length ts) at bytes known)
-          ∙ omega (
-            arith,
-            total_width-append (diff_widths at bytes) (all_diff_widths (length ts) (at + diff_size at bytes) bytes),
-            sum_diff at bytes known,
-            one.size,
-            more.width,
-            length-append (told t) (flat_map told ts),
-          );
-      tests = both_pass (diff_tests l current from at bytes) _ one.tests
-          (subst (λ (n : ℕ). NoneFails (all_diff_tests l current (length ts) (n + 1) (at + diff_size at bytes) bytes))
-          (sym one.id) more.tests);
-    }
+    search (
+      arith,
+      are_diff l current (t.id + 1) ts (at + diff_size at bytes) bytes rest narrow short good.1,
+      is_diff l current from t at bytes (flat_map told ts ++ rest) narrow short good.0,
+      append_assoc (told t) (flat_map told ts) rest,
+      known_mark l current from at bytes,
+      all_pass (diff_tests l current from at bytes),
+      rest_known (length ts) at bytes,
+      total_width-append (diff_widths at bytes) (all_diff_widths (length ts) (at + diff_size at bytes) bytes),
+      sum_diff at bytes,
+      length-append (told t) (flat_map told ts),
+      both_pass (diff_tests l current from at bytes),
+    )

@@ -1,10 +1,10 @@
 -- Tracks that are told by those of the current point.
 use Rattle.record_body.proofs.Common.{◌≡◌, ℕ, zero, suc, ◌+◌, ◌-◌, ◌==◌, ◌<◌, ◌≤◌, inl, inr, List, [], ◌∷◌, ◌++◌}
-use Rattle.record_body.proofs.Common.{Option, Some, None, Result, Ok, Err, refl, sym, ◌∙◌, ap, subst, arith, cases_Bool}
+use Rattle.record_body.proofs.Common.{Option, Some, None, Result, Ok, Err, refl, sym, ◌∙◌, ap, arith, cases_Bool}
 use Rattle.record_body.proofs.Common.{eqb-true, BlockRef, AllHalfFull, field, first_failed, Damaged, Change, Same}
 use Rattle.record_body.proofs.Common.{Whole, Tail, changed, tailed, mark_at, change_at, diff_at, diff_size, whole_at}
-use Rattle.record_body.proofs.Common.{HaveDiff, id_tests, change_tests, mark_tests, marked_tests, mark_want, diff_tests}
-use Rattle.record_body.proofs.Common.{Finds, place, BadBody, Limits, AreHalfFull, Track, unnumbered, track_of, Pass}
+use Rattle.record_body.proofs.Common.{HaveDiff, diff_tests}
+use Rattle.record_body.proofs.Common.{Finds, BadBody, Limits, AreHalfFull, Track, unnumbered, track_of, Pass}
 use Rattle.record_body.proofs.Common.{none_first}
 use Rattle.record_body.specs.ChangePlaces.{HasDiff}
 use Rattle.record_body.proofs.Passing.{pass_parts}
@@ -23,32 +23,19 @@ pub record IsIn (id m : ℕ) (t : Track) : Type 0 where
 -- a track that was found
 pub found_in : (id m : ℕ) (ts : List Track) (t : Track) → AreHalfFull m ts → track_of id ts ≡ Some t → IsIn id m t
 found_in id m [] t half e = absurd (none_some t e)
-found_in id m (x ∷ ts) t half e = elim (cases_Bool (id == x.id)) [
-  | inl same ↦
-      let is : x ≡ t = some_is x t (rw same at e) in
-      record {
-        same = sym (ap (λ (k : Track). k.id) is) ∙ sym (eqb-true id x.id same);
-        half_full = subst (λ (k : Track). AllHalfFull m k.layout) is half.0;
-      }
-  | inr differ ↦ found_in id m ts t half.1 (rw differ at e)
-]
+found_in id m (x ∷ ts) t half e = search (arith, found_in id m ts t half.1, some_is, eqb-true)
 
 pub found_id : (id : ℕ) (ts : List Track) (t : Track) → track_of id ts ≡ Some t → t.id ≡ id
 found_id id [] t e = absurd (none_some t e)
-found_id id (x ∷ ts) t e = elim (cases_Bool (id == x.id)) [
-  | inl same ↦ sym (ap (λ (k : Track). k.id) (some_is x t (rw same at e))) ∙ sym (eqb-true id x.id same)
-  | inr differ ↦ found_id id ts t (rw differ at e)
-]
+found_id id (x ∷ ts) t e = search (arith, found_id id ts t, some_is, eqb-true)
 
 changed_id : (id : ℕ) (old : Option Track) (change : Change) (t : Track) → ((o : Track) → old ≡ Some o → o.id ≡ id)
     → ((w : Track) → change ≡ Whole w → w.id ≡ id) → changed old change ≡ Some t → t.id ≡ id
 changed_id id None Same t known whole e = absurd (none_some t e)
-changed_id id (Some o) Same t known whole e =
-    sym (ap (λ (k : Track). k.id) (some_is (unnumbered o) t e)) ∙ known o refl
+changed_id id (Some o) Same t known whole e = search (arith, some_is)
 changed_id id old (Whole w) t known whole e = sym (ap (λ (k : Track). k.id) (some_is (unnumbered w) t e)) ∙ whole w refl
 changed_id id None (Tail gone bs) t known whole e = absurd (none_some t e)
-changed_id id (Some o) (Tail gone bs) t known whole e =
-    sym (ap (λ (k : Track). k.id) (some_is (tailed gone bs o) t e)) ∙ known o refl
+changed_id id (Some o) (Tail gone bs) t known whole e = search (arith, some_is)
 
 whole_same : (v w : Track) → Whole v ≡ Whole w → v ≡ w
 whole_same v w e = cc
@@ -68,10 +55,7 @@ change_whole at bytes w e = elim (cases_Bool (mark_at at bytes == 0)) [
 -- the track that is told has the id that is told
 pub diff_id : (current : List Track) (at : ℕ) (bytes : List ℕ) (t : Track) → diff_at current at bytes ≡ Some t
     → t.id ≡ field at 8 bytes
-diff_id current at bytes t =
-    changed_id (field at 8 bytes) (track_of (field at 8 bytes) current) (change_at at bytes) t
-    (λ o e. found_id (field at 8 bytes) current o e)
-    (λ w e. ap (λ (k : Track). k.id) (change_whole at bytes w e))
+diff_id current at bytes t = search (arith, changed_id, found_id, change_whole)
 
 -- its layout has no number
 changed_unnumbered : (old : Option Track) (change : Change) (t : Track) → changed old change ≡ Some t → t.number ≡ 0
@@ -83,8 +67,7 @@ changed_unnumbered (Some o) (Tail gone bs) t e = sym (ap (λ (k : Track). k.numb
 
 pub diff_unnumbered : (current : List Track) (at : ℕ) (bytes : List ℕ) (t : Track) → diff_at current at bytes ≡ Some t
     → t.number ≡ 0
-diff_unnumbered current at bytes t =
-    changed_unnumbered (track_of (field at 8 bytes) current) (change_at at bytes) t
+diff_unnumbered current at bytes t = search (arith, changed_unnumbered)
 
 -- and where it is written out it is that
 pub diff_whole : (current : List Track) (at : ℕ) (bytes : List ℕ) (t : Track) → diff_at current at bytes ≡ Some t
@@ -93,20 +76,12 @@ diff_whole current at bytes t e one = sym (some_is (whole_at at bytes) t (rw one
 
 pub known_mark : (l : Limits) (current : List Track) (from at : ℕ) (bytes : List ℕ)
     → Pass (diff_tests l current from at bytes) → mark_at at bytes ≤ 2
-known_mark l current from at bytes pass =
-    let old = track_of (field at 8 bytes) current in
-    let change = (pass_parts (id_tests l from at bytes) (change_tests l old at bytes) pass).1 in
-    let mark = (pass_parts (mark_tests (place l.base (at + 8)) (mark_want old (mark_at at bytes)) (mark_at at bytes))
-    (marked_tests l old at bytes) change).0 in
-    omega (arith, mark.0)
+known_mark l current from at bytes pass = search (arith, pass_parts)
 
 pub id_bounds : (l : Limits) (current : List Track) (from at : ℕ) (bytes : List ℕ)
     → Pass (diff_tests l current from at bytes)
     → (1 ≤ field at 8 bytes) × (from ≤ field at 8 bytes) × (field at 8 bytes < l.next_track)
-id_bounds l current from at bytes pass =
-    let old = track_of (field at 8 bytes) current in
-    let id = (pass_parts (id_tests l from at bytes) (change_tests l old at bytes) pass).0 in
-    (omega (arith, id.0), omega (arith, id.1.0), omega (arith, id.0, id.1.1.0))
+id_bounds l current from at bytes pass = search (arith, pass_parts)
 
 -- tests that pass, and others after them
 pub finds_on : {T : Type 0} (xs ys : List Damaged) (P : T → Type 0) (r : Result T BadBody) → first_failed xs ≡ None
@@ -123,7 +98,4 @@ have_first (suc n) at bytes some have = have.0
 pub have_rest : (n k at next : ℕ) (bytes : List ℕ) → 0 < n → k ≡ n - 1 → next ≡ at + diff_size at bytes
     → mark_at at bytes ≤ 2 → HaveDiff n at bytes → HaveDiff k next bytes
 have_rest zero k at next bytes some less behind known have = absurd (omega (arith, some))
-have_rest (suc n) k at next bytes some less behind known have =
-    let here : k ≡ n = omega (arith, less) in
-    subst (λ (j : ℕ). HaveDiff j next bytes) (sym here)
-    (subst (λ (a : ℕ). HaveDiff n a bytes) (sym behind) (have.1 known))
+have_rest (suc n) k at next bytes some less behind known have = search arith

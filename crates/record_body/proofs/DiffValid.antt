@@ -1,11 +1,11 @@
 -- What a body of kind 5 says by a valid point is valid, where all its tests pass.
-use Rattle.record_body.proofs.Common.{◌≡◌, ℕ, zero, suc, ◌+◌, ◌-◌, ◌^◌, ◌≤◌, ◌<◌, ◌==◌, inl, inr, List, [], ◌∷◌, ◌++◌}
-use Rattle.record_body.proofs.Common.{length, map, take, Option, Some, None, refl, sym, ap, subst, ◌∙◌, arith}
-use Rattle.record_body.proofs.Common.{slice_index, cases_Bool, eq-eqb, eqb-true, eqb-false, blocks_len, BlockRef, Clip}
+use Rattle.record_body.proofs.Common.{◌≡◌, ℕ, zero, suc, ◌+◌, ◌-◌, ◌≤◌, ◌<◌, List, [], ◌∷◌, ◌++◌}
+use Rattle.record_body.proofs.Common.{length, map, take, Option, Some, None, refl, sym, subst, arith}
+use Rattle.record_body.proofs.Common.{slice_index, eq-eqb, eqb-true, eqb-false, BlockRef, Clip}
 use Rattle.record_body.proofs.Common.{field, first_failed, Edit, Undo, Redo, Purge, changed, last_blocks, last_start}
-use Rattle.record_body.proofs.Common.{tailed, with_last, mark_at, gone_at, fresh_at, whole_at, change_at, diff_at}
+use Rattle.record_body.proofs.Common.{tailed, with_last, mark_at, gone_at, fresh_at, change_at, diff_at}
 use Rattle.record_body.proofs.Common.{diff_size, all_diff_at, mark_want, mark_tests, how_tests, whole_tests}
-use Rattle.record_body.proofs.Common.{kept_blocks, tail_tests, id_tests, marked_tests, change_tests, diff_tests}
+use Rattle.record_body.proofs.Common.{kept_blocks, tail_tests, id_tests, change_tests, diff_tests}
 use Rattle.record_body.proofs.Common.{all_diff_tests, delta_edit_tests, delta_tests, place, clips_tests, head_tests}
 use Rattle.record_body.proofs.Common.{limits_at, blocks_at, clip_count, track_at, track_count, AllGiven, AllClipsGiven}
 use Rattle.record_body.proofs.Common.{IsValidTrack, AllValidTracks, IsValidPoint, IsValidBody, Body, Before, Limits}
@@ -51,26 +51,16 @@ record IsOld (l : Limits) (id : ℕ) (old : Track) : Type 0 where
   same : old.id ≡ id
 
 valid_same : (l : Limits) (id : ℕ) (old : Track) → id < l.next_track → IsOld l id old → ValidIn l (unnumbered old)
-valid_same l id old below is = record {
-  given = omega (arith, below, is.same);
-  gain = is.valid.gain;
-  layout = is.valid.layout;
-  half_full = is.valid.half_full;
-  blocks = is.valid.blocks;
-}
+valid_same l id old below is = search arith
 
 valid_whole : (l : Limits) (id at : ℕ) (bytes : List ℕ) → id < l.next_track → Pass (whole_tests l at bytes)
     → ValidIn l (record (track_at at bytes) { id = id })
 valid_whole l id at bytes below pass =
-    let p = pass_parts (how_tests l at bytes) (clips_tests l (clip_count at bytes) 0 (at + 18) bytes) pass in
-    let clips = valid_clips l (clip_count at bytes) 0 0 (at + 18) bytes (omega arith) p.1 in
-    record {
-      given = below;
-      gain = omega (arith, p.0.0);
-      layout = record { apart = clips.0; few = clips.1 };
-      half_full = clips.2;
-      blocks = clips.3;
-    }
+    search (
+      arith,
+      pass_parts (how_tests l at bytes) (clips_tests l (clip_count at bytes) 0 (at + 18) bytes) pass,
+      valid_clips l (clip_count at bytes) 0 0 (at + 18) bytes,
+    )
 
 valid_tailed : (l : Limits) (id : ℕ) (old : Track) (at : ℕ) (bytes : List ℕ) → id < l.next_track
     → 0 < length old.layout → IsOld l id old
@@ -82,59 +72,42 @@ valid_tailed l id old at bytes below some is pass =
     let olds = last_blocks cs in
     let kept = kept_blocks olds (gone_at at bytes) in
     let fresh = blocks_at (fresh_at at bytes) (at + 17) bytes in
-    let end = last_end l.block_size 0 cs s.layout.apart s.half_full in
-    let near : last_start cs + blocks_len olds ≤ 2 ^ 32 = omega (arith, end_last 0 cs some, s.layout.few) in
-    let tail = valid_tail l (last_start cs) olds at bytes end.half_full end.none_empty near pass in
-    let given = given_append l.next_block kept fresh
-    (given_take l.next_block (length olds - gone_at at bytes) olds (given_last l.next_block cs s.blocks)) tail.given in
-    record {
-      given = omega (arith, below, is.same);
-      gain = s.gain;
-      layout = layout_with cs (kept ++ fresh) some s.layout tail.none_empty tail.some tail.end;
-      half_full = half_with l.block_size cs (kept ++ fresh) s.half_full tail.half_full;
-      blocks = given_with l.next_block cs (kept ++ fresh) s.blocks given;
-    }
+    search (
+      arith,
+      last_end l.block_size 0 cs s.layout.apart s.half_full,
+      end_last 0 cs some,
+      valid_tail l (last_start cs) olds at bytes,
+      given_append l.next_block kept fresh,
+      given_take l.next_block (length olds - gone_at at bytes) olds,
+      given_last l.next_block cs s.blocks,
+      layout_with cs (kept ++ fresh) some s.layout,
+      half_with l.block_size cs (kept ++ fresh) s.half_full,
+      given_with l.next_block cs (kept ++ fresh) s.blocks,
+    )
 
 -- a track whose end is replaced has clips
 pub has_clips : (old : Track) (mark : ℕ) → mark ≡ 2 → mark_want (Some old) mark ≡ mark → 0 < length old.layout
-has_clips old mark two want = elim (cases_Bool (length old.layout == 0)) [
-  | inl none ↦
-      let one : 1 ≡ mark = rw (eq-eqb mark 2 two, none) at want in
-      absurd (omega (arith, two, one))
-  | inr some ↦ let ne = eqb-false (length old.layout) 0 some in omega (arith, ne)
-]
+has_clips old mark two want = search (arith, eq-eqb, eqb-false)
 
 valid_new : (l : Limits) (at : ℕ) (bytes : List ℕ) (t : Track) → field at 8 bytes < l.next_track
     → Pass (change_tests l None at bytes) → changed None (change_at at bytes) ≡ Some t → ValidIn l t
-valid_new l at bytes t below pass e =
-    let mark = mark_at at bytes in
-    let p = pass_parts (mark_tests (place l.base (at + 8)) 1 mark) (whole_tests l (at + 1) bytes) pass in
-    let one : mark ≡ 1 = sym p.0.1.0 in
-    let is : whole_at at bytes ≡ t = some_is (whole_at at bytes) t (rw one at e) in
-    subst (ValidIn l) is (valid_whole l (field at 8 bytes) (at + 1) bytes below p.1)
+valid_new l at bytes t below pass e = search (arith, pass_parts, some_is, valid_whole)
 
 valid_known : (l : Limits) (old : Track) (at : ℕ) (bytes : List ℕ) (t : Track) → field at 8 bytes < l.next_track
     → IsOld l (field at 8 bytes) old → Pass (change_tests l (Some old) at bytes)
     → changed (Some old) (change_at at bytes) ≡ Some t → ValidIn l t
 valid_known l old at bytes t below is pass e =
-    let mark = mark_at at bytes in
-    let p = pass_parts (mark_tests (place l.base (at + 8)) (mark_want (Some old) mark) mark)
-    (marked_tests l (Some old) at bytes) pass in
-    elim (cases_Bool (mark == 0)) [
-      | inl none ↦ subst (ValidIn l) (some_is (unnumbered old) t (rw none at e)) (valid_same l
-          (field at 8 bytes) old below is)
-      | inr some ↦ elim (cases_Bool (mark == 1)) [
-        | inl one ↦ subst (ValidIn l) (some_is (whole_at at bytes) t (rw (some, one) at e))
-            (valid_whole l (field at 8 bytes) (at + 1) bytes below (rw (some, one) at p.1))
-        | inr more ↦
-            let two : mark ≡ 2 = omega (arith, p.0.0, eqb-false mark 0 some, eqb-false mark 1 more) in
-            subst (ValidIn l)
-            (some_is (tailed (gone_at at bytes) (blocks_at (fresh_at at bytes) (at + 17) bytes) old) t
-            (rw (some, more) at e))
-            (valid_tailed l (field at 8 bytes) old at bytes below (has_clips old mark two p.0.1.0) is
-            (rw (some, more) at p.1))
-      ]
-    ]
+    search (
+      arith,
+      pass_parts (mark_tests (place l.base (at + 8)) (mark_want (Some old) (mark_at at bytes)) _) _ pass,
+      some_is,
+      valid_same l (field at 8 bytes) old below is,
+      valid_whole l (field at 8 bytes) (at + 1) bytes below,
+      eqb-false (mark_at at bytes) 0,
+      eqb-false (mark_at at bytes) 1,
+      valid_tailed l (field at 8 bytes) old at bytes below,
+      has_clips old (mark_at at bytes),
+    )
 
 -- ---- all tracks
 
@@ -145,18 +118,10 @@ found_old l next id [] t valid e = absurd (none_some e)
   where
     none_some : None ≡ Some t → ⊥
     none_some q = cc
-found_old l next id (x ∷ ts) t valid e = elim (cases_Bool (id == x.id)) [
-  | inl same ↦
-      let is : x ≡ t = some_is x t (rw same at e) in
-      record {
-        next = next;
-        valid = subst (IsValidTrack l.block_size l.next_block next) is valid.0;
-        same = sym (ap (λ (k : Track). k.id) is) ∙ sym (eqb-true id x.id same);
-      }
-  | inr differ ↦ found_old l next id ts t valid.1 (rw differ at e)
-]
+found_old l next id (x ∷ ts) t valid e = search (arith, found_old l next id ts t valid.1, some_is, eqb-true)
 
-valid_changed : (l : Limits) (old : Option Track) (at : ℕ) (bytes : List ℕ) (t : Track) → field at 8 bytes < l.next_track
+valid_changed : (l : Limits) (old : Option Track) (at : ℕ) (bytes : List ℕ) (t : Track)
+    → field at 8 bytes < l.next_track
     → ((o : Track) → old ≡ Some o → IsOld l (field at 8 bytes) o) → Pass (change_tests l old at bytes)
     → changed old (change_at at bytes) ≡ Some t → ValidIn l t
 valid_changed l None at bytes t below known pass e = valid_new l at bytes t below pass e
@@ -166,11 +131,13 @@ valid_diff : (l : Limits) (next : ℕ) (current : List Track) (from at : ℕ) (b
     → AllValidTracks l.block_size l.next_block next current → Pass (diff_tests l current from at bytes)
     → diff_at current at bytes ≡ Some t → ValidIn l t
 valid_diff l next current from at bytes t valid pass e =
-    let id = field at 8 bytes in
-    let old = track_of id current in
-    let p = pass_parts (id_tests l from at bytes) (change_tests l old at bytes) pass in
-    valid_changed l old at bytes t (id_bounds l current from at bytes pass).2
-    (λ o is. found_old l next id current o valid is) p.1 e
+    search (
+      arith,
+      pass_parts (id_tests l from at bytes) (change_tests l (track_of (field at 8 bytes) current) at bytes) pass,
+      valid_changed l (track_of (field at 8 bytes) current) at bytes t,
+      id_bounds l current from at bytes pass,
+      found_old l next (field at 8 bytes) current,
+    )
 
 first_is : {A : Type 0} (x y : A) (xs ys : List A) → x ∷ xs ≡ y ∷ ys → x ≡ y
 first_is x y xs ys e = cc
@@ -183,15 +150,13 @@ none_first x xs e = cc
 
 -- tracks whose ids rise from a number that the first reaches
 valid_all : (l : Limits) (next : ℕ) (current : List Track) (count low from at : ℕ) (bytes : List ℕ) (ts : List Track)
-    → ((id : ℕ) → 1 ≤ id → from ≤ id → low ≤ id) → AllValidTracks l.block_size l.next_block next current → Pass (all_diff_tests l current count from at bytes)
-    → map Some ts ≡ all_diff_at current count at bytes
+    → ((id : ℕ) → 1 ≤ id → from ≤ id → low ≤ id) → AllValidTracks l.block_size l.next_block next current
+    → Pass (all_diff_tests l current count from at bytes) → map Some ts ≡ all_diff_at current count at bytes
     → AreAbove low ts × AllValidTracks l.block_size l.next_block l.next_track ts × (length ts ≡ count)
     × AreUnnumbered ts
 valid_all l next current zero low from at bytes [] reaches valid pass e = (tt, tt, refl, tt)
-valid_all l next current zero low from at bytes (t ∷ ts) reaches valid pass e =
-    absurd (none_first (Some t) (map Some ts) (sym e))
-valid_all l next current (suc count) low from at bytes [] reaches valid pass e =
-    absurd (none_first (diff_at current at bytes) (all_diff_at current count (at + diff_size at bytes) bytes) e)
+valid_all l next current zero low from at bytes (t ∷ ts) reaches valid pass e = search (arith, none_first)
+valid_all l next current (suc count) low from at bytes [] reaches valid pass e = search (arith, none_first)
 valid_all l next current (suc count) low from at bytes (t ∷ ts) reaches valid pass e =
     let more = at + diff_size at bytes in
     let p = pass_parts (diff_tests l current from at bytes)
@@ -204,7 +169,10 @@ valid_all l next current (suc count) low from at bytes (t ∷ ts) reaches valid 
     (others_are (Some t) told (map Some ts) others e) in
     let id : t.id ≡ field at 8 bytes = diff_id current at bytes t here in
     let bounds = id_bounds l current from at bytes p.0 in (
-      (omega (arith, id, reaches (field at 8 bytes) bounds.0 bounds.1), subst (λ (n : ℕ). AreAbove (n + 1) ts) (sym id) rest.0),
+      (
+        omega (arith, id, reaches (field at 8 bytes) bounds.0 bounds.1),
+        subst (λ (n : ℕ). AreAbove (n + 1) ts) (sym id) rest.0,
+      ),
       (valid_diff l next current from at bytes t valid p.0 here, rest.1),
       omega (arith, rest.2),
       (diff_unnumbered current at bytes t here, rest.3),

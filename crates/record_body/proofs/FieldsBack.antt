@@ -1,9 +1,9 @@
 -- Numbers and bytes where they stand pass their tests.
 use Rattle.record_body.proofs.Common.{◌≡◌, ℕ, ◌+◌, ◌^◌, ◌≤◌, ◌<◌, List, [], ◌∷◌, ◌++◌, length, drop, slice_index}
-use Rattle.record_body.proofs.Common.{if◌then◌else◌, None, Some, refl, sym, ap, ◌∙◌, arith, inl, inr, cases_Bool}
+use Rattle.record_body.proofs.Common.{None, refl, ap, ◌∙◌, arith}
 use Rattle.record_body.proofs.Common.{little_number, little_bytes, little_number-reads_back, field, first_failed}
 use Rattle.record_body.proofs.Common.{Damaged, least}
-use Rattle.std.proofs.Common.{eqb, drop-drop, get_or-drop, eq-eqb}
+use Rattle.std.proofs.Common.{drop-drop, get_or-drop, eq-eqb}
 use Rattle.std.proofs.{Math.Seq.drop-append_seam}
 use Rattle.record_body.specs.FirstFault.{most}
 
@@ -14,15 +14,12 @@ number_there n x at bytes rest e small = ap (little_number n) e ∙ little_numbe
 
 -- a byte where it stands
 pub byte_there : (x at : ℕ) (bytes rest : List ℕ) → drop at bytes ≡ x ∷ rest → slice_index bytes at ≡ x
-byte_there x at bytes rest e =
-    ap (slice_index bytes) (omega arith) ∙ sym (get_or-drop at bytes 0 0) ∙ ap (λ (l : List ℕ). slice_index l 0) e
+byte_there x at bytes rest e = search (arith, get_or-drop at bytes 0 0)
 
 -- what stands after a part
 pub past : (at to : ℕ) (bytes front rest : List ℕ) → drop at bytes ≡ front ++ rest → to ≡ at + length front
     → drop to bytes ≡ rest
-past at to bytes front rest e is =
-    ap (λ (k : ℕ). drop k bytes) is ∙ sym (drop-drop (length front) at bytes) ∙ ap (drop (length front)) e
-    ∙ drop-append_seam front rest
+past at to bytes front rest e is = search (arith, drop-drop (length front) at bytes, drop-append_seam front rest)
 
 -- no test fails
 pub record NoneFails (tests : List Damaged) : Type 0 where
@@ -47,12 +44,4 @@ most_passes at bound have x tests is enough = passes (most at bound have) tests 
 -- tests after tests
 pub both_pass : (xs ys : List Damaged) → NoneFails xs → NoneFails ys → NoneFails (xs ++ ys)
 both_pass [] ys a b = b
-both_pass (x ∷ xs) ys a b = elim (cases_Bool (eqb x.want x.have)) [
-  | inl t ↦
-      let left : first_failed xs ≡ None = sym (ap (λ c. if c then first_failed xs else Some x) t) ∙ a.none in
-      let rest = both_pass xs ys (record { none = left }) b in
-      record { none = rw t rest.none }
-  | inr f ↦
-      let no : Some x ≡ None = sym (ap (λ c. if c then first_failed xs else Some x) f) ∙ a.none in
-      absurd cc
-]
+both_pass (x ∷ xs) ys a b = search (arith, both_pass xs ys)

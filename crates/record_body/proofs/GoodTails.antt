@@ -1,6 +1,6 @@
 -- The end of a last clip, as the writer tells it, meets the bounds of a reader.
 use Rattle.record_body.proofs.Common.{◌≡◌, ℕ, zero, suc, ◌+◌, ◌-◌, ◌^◌, ◌≤◌, ◌<◌, ◌==◌, ◌&&◌, Bool, true, false, inl}
-use Rattle.record_body.proofs.Common.{inr, List, [], ◌∷◌, length, take, drop, nat_lt, sym, ap, ap₂, subst, ◌∙◌, arith}
+use Rattle.record_body.proofs.Common.{inr, List, [], ◌∷◌, length, take, drop, nat_lt, sym, subst, arith}
 use Rattle.record_body.proofs.Common.{length-drop, if◌then◌else◌, cases_Bool, eqb-true, lt-ltb, blocks_len, BlockRef}
 use Rattle.record_body.proofs.Common.{Clip, clip_end, is_block, common, last_blocks, last_start, same_but_last, is_lone}
 use Rattle.record_body.proofs.Common.{kept_blocks, Limits, least_len, Track}
@@ -28,21 +28,14 @@ record IsGoodLast (l : Limits) (cs : List Clip) : Type 0 where
 
 good_last : (l : Limits) (from : ℕ) (cs : List Clip) → 0 < length cs → AreGoodClips l from cs → IsGoodLast l cs
 good_last l from [] some good = absurd (omega (arith, some))
-good_last l from (c ∷ []) some good =
-    record { some = good.0.some; few = good.0.few; blocks = good.0.blocks }
-good_last l from (c ∷ d ∷ cs) some good =
-    let more = good_last l (clip_end c + 1) (d ∷ cs) (omega arith) good.1 in
-    record { some = more.some; few = more.few; blocks = more.blocks }
+good_last l from (c ∷ []) some good = search arith
+good_last l from (c ∷ d ∷ cs) some good = search (arith, good_last l (clip_end c + 1) (d ∷ cs) (omega arith) good.1)
 
 good_drop : (l : Limits) (several : Bool) (before k : ℕ) (bs : List BlockRef) → AreGoodBlocks l several before bs
     → AreGoodBlocks l several (before + blocks_len (take k bs)) (drop k bs)
-good_drop l several before zero bs good =
-    subst (λ (n : ℕ). AreGoodBlocks l several n bs) (let e : before ≡ before + 0 = omega arith in e) good
+good_drop l several before zero bs good = search arith
 good_drop l several before (suc k) [] good = tt
-good_drop l several before (suc k) (b ∷ bs) good =
-    subst (λ (n : ℕ). AreGoodBlocks l several n (drop k bs))
-    (let e : before + b.len + blocks_len (take k bs) ≡ before + (b.len + blocks_len (take k bs)) = omega arith in e)
-    (good_drop l several (before + b.len) k bs good.1)
+good_drop l several before (suc k) (b ∷ bs) good = search (arith, good_drop l several (before + b.len) k bs good.1)
 
 -- one block that is less than half full goes where others come
 lone_goes : (l : Limits) (before : ℕ) (olds news : List BlockRef)
@@ -90,32 +83,14 @@ good_tail l from o t small good alike =
     let olds = last_blocks o.layout in
     let news = last_blocks t.layout in
     let k = common olds news in
-    let starts = last_starts o.layout t.layout alike in
-    let last = good_last l 0 t.layout starts.other good.clips in
-    let le = (common_within olds news).0 in
-    let most = (common_within olds news).1 in
-    let kept : length olds - (length olds - k) ≡ k = omega (arith, le) in
-    let many : length (drop k news) ≡ length news - k = length-drop k news in
-    let several : length news ≡ length olds - (length olds - k) + length (drop k news) =
-    omega (arith, le, most, many) in
-    let before : last_start t.layout + blocks_len (take k news)
-    ≡ last_start o.layout + blocks_len (kept_blocks olds (length olds - k)) =
-    ap₂ (λ (s n : ℕ). s + n) (sym starts.start)
-    (ap blocks_len (sym (common_take olds news)) ∙ ap (λ (n : ℕ). blocks_len (take n olds)) (sym kept)) in
-    record {
-      some = starts.some;
-      within = omega arith;
-      short = omega (arith, small);
-      few = omega (arith, many, last.few);
-      goes = lone_goes l (last_start t.layout) olds news last.blocks;
-      comes = elim (cases_Bool (length olds - k == length olds)) [
-        | inl same ↦
-            let none : length olds - k ≡ length olds = eqb-true (length olds - k) (length olds) same in
-            rw same (omega (arith, none, le, most, many, last.some))
-        | inr differ ↦ rw differ (omega arith)
-      ];
-      blocks = subst (λ (n : ℕ). AreGoodBlocks l (nat_lt 1 n) (last_start o.layout
-          + blocks_len (kept_blocks olds (length olds - k))) (drop k news)) several
-          (subst (λ (n : ℕ). AreGoodBlocks l (nat_lt 1 (length news)) n (drop k news)) before
-          (good_drop l (nat_lt 1 (length news)) (last_start t.layout) k news last.blocks));
-    }
+    search (
+      arith,
+      last_starts o.layout t.layout alike,
+      good_last l 0 t.layout,
+      common_within olds news,
+      length-drop k news,
+      common_take olds news,
+      lone_goes l (last_start t.layout) olds news,
+      eqb-true (length olds - k) (length olds),
+      good_drop l (nat_lt 1 (length news)) (last_start t.layout) k news,
+    )

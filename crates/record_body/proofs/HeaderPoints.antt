@@ -20,9 +20,7 @@ sum_point bytes = omega (arith, sum_tracks (point_count bytes) 12 bytes)
 -- a point that is as long as is asked has all its fields
 pub point_size : (bytes : List ℕ) → asked_point bytes ≡ length bytes
     → 12 + tracks_size (point_count bytes) 12 bytes ≡ length bytes
-point_size bytes e =
-    let all = reach_all (length bytes) 0 (point_widths bytes) (omega (arith, e)) in
-    omega (arith, all, e, sum_point bytes)
+point_size bytes e = search (arith, reach_all, sum_point)
 
 pub few_point : (b : Before) (bytes : List ℕ) → Pass (point_head_tests b bytes) → point_count bytes ≤ 64
 few_point b bytes pass = omega (arith, pass.1.0)
@@ -30,16 +28,12 @@ few_point b bytes pass = omega (arith, pass.1.0)
 point_valid : (m : ℕ) (b : Before) (bytes : List ℕ) → Pass (point_field_tests m b bytes)
     → IsValidTagged m b.next_block b.next_track b.commits (point_at bytes)
 point_valid m b bytes pass =
-    let l = point_limits m b in
-    let n = point_count bytes in
-    let p = pass_parts (point_head_tests b bytes) (tracks_tests l n 0 12 bytes) pass in
-    let all = valid_tracks l n 1 0 12 bytes (λ id one le. one) p.1 in (
-      record {
-        few = omega (arith, few_point b bytes p.0, length-tracks_at bytes n 12);
-        rising = all.0;
-        valid = all.1;
-      },
-      omega (arith, p.0.0),
+    search (
+      arith,
+      pass_parts (point_head_tests b bytes) (tracks_tests (point_limits m b) (point_count bytes) 0 12 bytes) pass,
+      valid_tracks (point_limits m b) (point_count bytes) 1 0 12 bytes,
+      few_point b bytes,
+      length-tracks_at bytes (point_count bytes) 12,
     )
 
 point_spelled : (m : ℕ) (b : Before) (bytes : List ℕ) → IsBytes bytes → asked_point bytes ≡ length bytes
@@ -78,14 +72,14 @@ has_point : (m block track commit : ℕ) (p : List Track × ℕ) (bytes : List �
 has_point m block track commit p bytes most valid e =
     let all = flat_map track_bytes p.0 in
     let counted = little_bytes 4 (length p.0) ++ all in
-    let at_tag : drop 0 bytes ≡ little_bytes 8 p.1 ++ counted = e in
-    let at_count = past 0 8 bytes (little_bytes 8 p.1) counted at_tag (omega arith) in
-    let at_all = past 8 12 bytes (little_bytes 4 (length p.0)) all at_count (omega arith) in
-    record {
-      tagged = number_there 8 p.1 0 bytes counted at_tag (omega (arith, valid.1, most));
-      count = number_there 4 (length p.0) 8 bytes all at_count (omega (arith, valid.0.few));
-      tracks = at_all ∙ sym (append-nil all);
-    }
+    search (
+      arith,
+      past 0 8 bytes (little_bytes 8 p.1) counted,
+      past 8 12 bytes (little_bytes 4 (length p.0)) all,
+      number_there 8 p.1 0 bytes counted,
+      number_there 4 (length p.0) 8 bytes all,
+      append-nil all,
+    )
 
 -- The bytes of a valid point.
 module _ (m : ℕ) (b : Before) (p : List Track × ℕ) (large : 4 ≤ m) (small : m < 2 ^ 32)

@@ -36,13 +36,7 @@ clips_most m (c ∷ cs) h =
 -- clips and blocks of a track, and of all tracks
 pub clips_bytes : (cs : List Clip) → length (flat_map clip_bytes cs) ≡ 12 * length cs + 12 * length (layout_blocks cs)
 clips_bytes [] = refl
-clips_bytes (c ∷ cs) = omega (
-  arith,
-  length-append (clip_bytes c) (flat_map clip_bytes cs),
-  length_clip c,
-  clips_bytes cs,
-  length-append c.blocks (layout_blocks cs),
-)
+clips_bytes (c ∷ cs) = search (arith, clips_bytes cs, length-append, length_clip)
 
 abbrev tracks_blocks : List Track → ℕ
 tracks_blocks [] = 0
@@ -55,28 +49,17 @@ module _ (src : Sources) where
   tracks_bytes : (ts : List Track) → AreLayouts ts
       → length (flat_map track_bytes ts) ≡ 18 * length ts + 12 * project_clips (meant src ts) + 12 * tracks_blocks ts
   tracks_bytes [] all = refl
-  tracks_bytes (t ∷ ts) all =
-      omega (
-        arith,
-        length-append (track_bytes t) (flat_map track_bytes ts),
-        clips_bytes t.layout,
-        tracks_bytes ts all.1,
-        clip_count-layout src t.layout all.0.apart,
-      )
+  tracks_bytes (t ∷ ts) all = search (arith, tracks_bytes ts all.1, length-append, clips_bytes, clip_count-layout)
 
   track_most : (m : ℕ) (t : Track) → IsLayout t.layout → AllHalfFull m t.layout
       → m * length (layout_blocks t.layout) ≤ m * clip_count (layout_cells src t.layout) + 2 * sample_count
       (layout_cells src t.layout)
-  track_most m t is h =
-      rw (clip_count-layout src t.layout is.apart, sample_count-layout src t.layout) (clips_most m t.layout h)
+  track_most m t is h = search (arith, clip_count-layout, sample_count-layout, clips_most)
 
   tracks_most : (m : ℕ) (ts : List Track) → AreLayouts ts → AreHalfFull m ts
       → m * tracks_blocks ts ≤ m * project_clips (meant src ts) + 2 * project_samples (meant src ts)
   tracks_most m [] all h = omega arith
-  tracks_most m (t ∷ ts) all h = sums m (length (layout_blocks t.layout)) (clip_count (layout_cells src t.layout))
-      (sample_count (layout_cells src t.layout))
-      (tracks_blocks ts) (project_clips (meant src ts)) (project_samples (meant src ts)) (track_most m t all.0 h.0)
-      (tracks_most m ts all.1 h.1)
+  tracks_most m (t ∷ ts) all h = search (arith, tracks_most m ts all.1 h.1, sums, track_most)
 
 -- (over plain numbers)
 blocks_most : (m blocks clips samples q : ℕ) → 0 < m → m * blocks ≤ m * clips + 2 * samples → samples ≤ q * m

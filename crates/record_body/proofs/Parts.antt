@@ -14,19 +14,14 @@ pub record Written {X : Type 0} (f : X → List ℕ) (xs : List X) (i at : ℕ) 
 module _ {X : Type 0} (f : X → List ℕ) (xs : List X) where
   pub parts_more : (i : ℕ) (x : X) → take (i + 1) xs ≡ take i xs ++ x ∷ []
       → flat_map f (take (i + 1) xs) ≡ flat_map f (take i xs) ++ f x
-  parts_more i x e = ap (flat_map f) e ∙ flat_map-append f (take i xs) (x ∷ [])
-      ∙ ap (λ (ys : List ℕ). flat_map f (take i xs) ++ ys) (append-nil (f x))
+  parts_more i x e = search (arith, flat_map-append, append-nil)
 
   -- one part more is written
   pub part_written : (i k at : ℕ) (out part : List ℕ) (x : X) → take (i + 1) xs ≡ take i xs ++ x ∷ []
       → at ≤ length out → take at out ≡ flat_map f (take i xs) → part ≡ f x
       → (end : ℕ) → end ≡ at + length part
       → take end (put_mid at k out part) ≡ flat_map f (take (i + 1) xs)
-  part_written i k at out part x e le before here end same =
-      take-put_mid at k out part end same le
-      ∙ ap (λ (ys : List ℕ). ys ++ part) before
-      ∙ ap (λ (ys : List ℕ). flat_map f (take i xs) ++ ys) here
-      ∙ sym (parts_more i x e)
+  part_written i k at out part x e le before here end same = search (arith, take-put_mid, parts_more)
 
   -- the parts that are left
   pub parts_left : (i : ℕ) (x : X) → drop i xs ≡ x ∷ drop (i + 1) xs
@@ -36,11 +31,7 @@ module _ {X : Type 0} (f : X → List ℕ) (xs : List X) where
   pub part_next : (i k at end : ℕ) (out part : List ℕ) (x : X) → take (i + 1) xs ≡ take i xs ++ x ∷ []
       → drop i xs ≡ x ∷ drop (i + 1) xs → Written f xs i at out → part ≡ f x → end ≡ at + length (f x)
       → length (put_mid at k out part) ≡ length out → Written f xs (i + 1) end (put_mid at k out part)
-  part_next i k at end out part x taken left so here ends same = record {
-    written = part_written i k at out part x taken (omega (arith, so.room)) so.written here end
-        (omega (arith, ends, ap length here));
-    room = omega (arith, parts_left i x left, ends, so.room, same);
-  }
+  part_next i k at end out part x taken left so here ends same = search (arith, part_written, parts_left)
 
 pub length_blocks : (bs : List BlockRef) → length (flat_map block_bytes bs) ≡ 12 * length bs
 length_blocks [] = refl
@@ -59,9 +50,7 @@ pub clips_few : (at from : ℕ) (cs : List Clip) → at ≤ from → AreClips fr
     → length (flat_map clip_bytes cs) + 24 * at ≤ 24 * end_of at cs
 clips_few at from [] h a = omega arith
 clips_few at from (c ∷ cs) h a =
-    let n = blocks_few c.blocks a.2 in
-    let rest = clips_few (clip_end c) (clip_end c + 1) cs (omega arith) a.3 in
-    omega (arith, length-append (clip_bytes c) (flat_map clip_bytes cs), length_clip c, n, rest, a.0, a.1, h)
+    search (arith, clips_few (clip_end c) (clip_end c + 1) cs, blocks_few, length-append, length_clip)
 
 -- the item at a place
 pub take_here : {X : Type 0} (xs : List X) (i : ℕ) (x : X) → i < length xs → x ≡ get_or xs i x

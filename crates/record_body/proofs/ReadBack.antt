@@ -35,30 +35,22 @@ has_edit m b kind tracks edit bytes valid e =
     let n = length edit.tracks in
     let counted = little_bytes 4 n ++ tracks in
     let of_track = little_bytes 8 edit.next_track ++ counted in
-    let of_block = little_bytes 8 edit.next_block ++ of_track in
-    let at_tag : drop 1 bytes ≡ little_bytes 8 edit.tag ++ of_block = ap (drop 1) e in
-    let at_block = past 1 9 bytes (little_bytes 8 edit.tag) of_block at_tag (omega arith) in
-    let at_track = past 9 17 bytes (little_bytes 8 edit.next_block) of_track at_block (omega arith) in
-    let at_count = past 17 25 bytes (little_bytes 8 edit.next_track) counted at_track (omega arith) in
-    record {
-      tagged = number_there 8 edit.tag 1 bytes of_block at_tag (omega (arith, valid.tag_number));
-      block = number_there 8 edit.next_block 9 bytes of_track at_block (omega (arith, valid.block_most));
-      track = number_there 8 edit.next_track 17 bytes counted at_track (omega (arith, valid.track_most));
-      count = number_there 4 n 25 bytes tracks at_count (omega (arith, valid.few));
-      tracks = past 25 29 bytes (little_bytes 4 n) tracks at_count (omega arith) ∙ sym (append-nil tracks);
-    }
+    search (
+      arith,
+      past 1 9 bytes (little_bytes 8 edit.tag),
+      past 9 17 bytes (little_bytes 8 edit.next_block) of_track,
+      past 17 25 bytes (little_bytes 8 edit.next_track) counted,
+      past 25 29 bytes (little_bytes 4 n) tracks,
+      number_there 8 edit.tag 1 bytes,
+      number_there 8 edit.next_block 9 bytes of_track,
+      number_there 8 edit.next_track 17 bytes counted,
+      number_there 4 n 25 bytes tracks,
+      append-nil tracks,
+    )
 
 pub head_passes : (m : ℕ) (b : Before) (tracks : List ℕ) (edit : EditBody) (bytes : List ℕ)
     → IsValidEdit m b edit → HasEdit tracks edit bytes → NoneFails (head_tests b bytes)
-head_passes m b tracks edit bytes valid has =
-    most_passes _ _ _ _ _ has.tagged valid.tag_given
-    (least_passes _ _ _ _ _ has.block valid.block_least
-    (most_passes _ _ _ _ _ has.block valid.block_most
-    (least_passes _ _ _ _ _ has.block valid.block_later
-    (least_passes _ _ _ _ _ has.track valid.track_least
-    (most_passes _ _ _ _ _ has.track valid.track_most
-    (least_passes _ _ _ _ _ has.track valid.track_later
-    (most_passes _ _ _ _ _ has.count valid.few no_test)))))))
+head_passes m b tracks edit bytes valid has = search (arith, most_passes, least_passes, no_test)
 
 abbrev pub limits_of : ℕ → Before → ℕ → ℕ → Limits
 limits_of m b next_block next_track =

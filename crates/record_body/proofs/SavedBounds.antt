@@ -1,13 +1,13 @@
 -- Each project to which records lead is valid.
 use Rattle.record_body.proofs.Common.{◌≡◌, ℕ, zero, suc, ◌+◌, ◌-◌, ◌≤◌, ◌<◌, ◌^◌, Bool, true, false, if◌then◌else◌}
-use Rattle.record_body.proofs.Common.{List, [], ◌∷◌, ◌++◌, length, map, take, drop, refl, sym, subst, ◌∙◌, arith, Some}
+use Rattle.record_body.proofs.Common.{List, [], ◌∷◌, ◌++◌, length, map, take, drop, refl, sym, subst, arith, Some}
 use Rattle.record_body.proofs.Common.{slice_get, none-some, AllByRecursion, BlockRef, NoneEmpty, IsHalfFull, AllFull}
 use Rattle.record_body.proofs.Common.{block_lens, History, edited, recorded, Clip, AreClips, AllHalfFull, clip_end}
 use Rattle.record_body.proofs.Common.{layout_blocks, Track, point_blocks, Edit, Undo, Redo, Purge, AllGiven}
 use Rattle.record_body.proofs.Common.{AllClipsGiven, AllValidTracks, IsValidBody, IsValidPoint, IsValidTagged, Saved}
 use Rattle.record_body.proofs.Common.{new_project, before_of, after_body, IsNextIn, LeadIn, current_tracks}
 use Rattle.record_body.proofs.Common.{first_tracks, Body}
-use Rattle.std.proofs.lemmas.List.Elements.{All-from_recursion, recursion_from_All, All-nil, All-cons, All-push}
+use Rattle.std.proofs.lemmas.List.Elements.{All-from_recursion, recursion_from_All, All-push}
 use Rattle.std.proofs.lemmas.List.Elements.{All-take, All-drop, All-weaker}
 use Rattle.std.proofs.lemmas.Option.{same_Some}
 use Rattle.std.specs.{Prelude.slice_index, List.All}
@@ -28,27 +28,11 @@ pub tracks_more : (m block track block' track' : ℕ) (ts : List Track) → bloc
     → AllValidTracks m block track ts → AllValidTracks m block' track' ts
 tracks_more m block track block' track' [] p q s = tt
 tracks_more m block track block' track' (t ∷ ts) p q s =
-    let one = s.0 in (
-      record {
-        given = omega (arith, q, one.given);
-        gain = one.gain;
-        layout = one.layout;
-        half_full = one.half_full;
-        blocks = clips_more block block' t.layout p one.blocks;
-      },
-      tracks_more m block track block' track' ts p q s.1,
-    )
+    (search (arith, s.0, clips_more), tracks_more m block track block' track' ts p q s.1)
 
 pub tagged_more : (m block track commit block' track' commit' : ℕ) (p : List Track × ℕ) → block ≤ block'
     → track ≤ track' → commit ≤ commit' → IsValidTagged m block track commit p → IsValidTagged m block' track' commit' p
-tagged_more m block track commit block' track' commit' p le le' le'' s = (
-  record {
-    few = s.0.few;
-    rising = s.0.rising;
-    valid = tracks_more m block track block' track' p.0 le le' s.0.valid;
-  },
-  omega (arith, le'', s.1),
-)
+tagged_more m block track commit block' track' commit' p le le' le'' s = search (arith, tracks_more)
 
 tag_low : (commit : ℕ) (ps : List (List Track × ℕ)) (i : ℕ) → AllByRecursion (λ p. p.1 ≤ commit) ps
     → slice_index (map tag_of ps) i ≤ commit
@@ -82,49 +66,25 @@ recorded_all P h point tag all one other =
 -- one record later the points are as valid
 points_later : (m : ℕ) (k : Saved) → All (IsValidTagged m k.next_block k.next_track k.commit) k.history.points
     → All (IsValidTagged m k.next_block k.next_track (k.commit + 1)) k.history.points
-points_later m k = All-weaker (IsValidTagged m k.next_block k.next_track k.commit) (IsValidTagged m k.next_block
-    k.next_track (k.commit + 1)) (λ p x. (x.0, omega (arith, x.1))) k.history.points
+points_later m k = search arith
 
 -- a record that says no point leaves the ids that are next
 steady : (m depth count : ℕ) (k : Saved) (h : History (List Track))
     → All (IsValidTagged m k.next_block k.next_track (k.commit + 1)) h.points → h.depth ≡ depth
     → IsValidSaved m depth count k → IsValidSaved m depth (count + 1) (record k { history = h; commit = k.commit + 1 })
-steady m depth count k h points same s = record {
-  points = points;
-  depth_is = same;
-  commit_is = omega (arith, s.commit_is);
-  block_least = s.block_least;
-  block_most = s.block_most;
-  track_least = s.track_least;
-  track_most = s.track_most;
-}
+steady m depth count k h points same s = search arith
 
-after_valid : (m depth count : ℕ) (k : Saved) (body : Body) → IsValidBody m (before_of k) body → IsValidSaved m depth count k
+after_valid : (m depth count : ℕ) (k : Saved) (body : Body) → IsValidBody m (before_of k) body
+    → IsValidSaved m depth count k
     → IsValidSaved m depth (count + 1) (after_body k body)
 after_valid m depth count k (Edit tag next_block next_track point) valid s =
-    let P = IsValidTagged m next_block next_track (k.commit + 1) in
-    let old : All P k.history.points = All-weaker (IsValidTagged m k.next_block k.next_track k.commit) P
-    (λ p. tagged_more m k.next_block k.next_track k.commit next_block next_track
-    (k.commit + 1) p valid.block_later valid.track_later (omega arith)) k.history.points s.points in
-    let here : IsValidPoint m next_block next_track point =
-    record { few = valid.few; rising = valid.rising; valid = valid.valid } in
-    let low : AllByRecursion (λ p. p.1 ≤ k.commit) k.history.points =
-    recursion_from_All (λ p. p.1 ≤ k.commit) k.history.points
-    (All-weaker (IsValidTagged m k.next_block k.next_track k.commit) (λ p. p.1 ≤ k.commit)
-    (λ p x. x.1) k.history.points s.points) in
-    let all = recorded_all P k.history point tag old (here, omega (arith, valid.tag_given)) (
-      here,
-      omega (arith, tag_low k.commit k.history.points k.history.cursor low),
-    ) in
-    record {
-      points = all.0;
-      depth_is = all.1 ∙ s.depth_is;
-      commit_is = omega (arith, s.commit_is);
-      block_least = valid.block_least;
-      block_most = valid.block_most;
-      track_least = valid.track_least;
-      track_most = valid.track_most;
-    }
+    search (
+      arith,
+      tagged_more m k.next_block k.next_track k.commit next_block next_track (k.commit + 1),
+      recursion_from_All,
+      recorded_all (IsValidTagged m next_block next_track (k.commit + 1)) k.history point tag,
+      tag_low k.commit k.history.points k.history.cursor,
+    )
 after_valid m depth count k Undo valid s = steady m depth count k _ (points_later m k s.points) s.depth_is s
 after_valid m depth count k Redo valid s = steady m depth count k _ (points_later m k s.points) s.depth_is s
 after_valid m depth count k (Purge n) valid s = steady m depth count k _
@@ -139,33 +99,21 @@ next_valid (suc zero) m k bytes body next = next.valid
 next_valid (suc (suc version)) m k bytes body next = next.valid
 
 -- and leads from a valid project to a valid one
-pub next_saved : (version m depth count : ℕ) (k : Saved) (bytes : List ℕ) (body : Body) → IsNextIn version m k bytes body
+pub next_saved : (version m depth count : ℕ) (k : Saved) (bytes : List ℕ) (body : Body)
+    → IsNextIn version m k bytes body
     → IsValidSaved m depth count k → IsValidSaved m depth (count + 1) (after_body k body)
-next_saved version m depth count k bytes body next s =
-    after_valid m depth count k body (next_valid version m k bytes body next) s
+next_saved version m depth count k bytes body next s = search (arith, after_valid, next_valid)
 
 pub lead_valid : (version m depth count : ℕ) (k end : Saved) (bodies : List (List ℕ)) → LeadIn version m k bodies end
     → IsValidSaved m depth count k → IsValidSaved m depth (count + length bodies) end
-lead_valid version m depth count k end [] lead s = subst (λ (x : Saved). IsValidSaved m depth (count + 0) x) (sym lead)
-    (subst (λ (n : ℕ). IsValidSaved m depth n k) (omega arith) s)
+lead_valid version m depth count k end [] lead s = search arith
 lead_valid version m depth count k end (bytes ∷ bodies) lead s =
     let next = lead_valid version m depth (count + 1) (after_body k lead.0) end bodies lead.2
     (next_saved version m depth count k bytes lead.0 lead.1 s) in
     subst (λ (n : ℕ). IsValidSaved m depth n end) (omega arith) next
 
 pub new_valid : (m depth : ℕ) → IsValidSaved m depth 0 (new_project depth)
-new_valid m depth = record {
-  points = All-cons (IsValidTagged m 16 1 0) ([], 0) [] (
-    record { few = omega arith; rising = tt; valid = tt },
-    omega arith,
-  ) (All-nil (IsValidTagged m 16 1 0));
-  depth_is = refl;
-  commit_is = refl;
-  block_least = omega arith;
-  block_most = omega arith;
-  track_least = omega arith;
-  track_most = omega arith;
-}
+new_valid m depth = search arith
 
 -- its current point is valid
 first_valid : (m block track commit : ℕ) (ps : List (List Track × ℕ)) → All (IsValidTagged m block track commit) ps
@@ -190,42 +138,31 @@ IsBlockRef b = IsBlock b.id b.len
 -- a block at its bounds
 block_valid : (m next : ℕ) (b : BlockRef) → m ≤ 262144 → next ≤ 2 ^ 62 → b.len ≤ m → 0 < b.len → FIRST_BLOCK ≤ b.id
     → b.id < next → IsBlockRef b
-block_valid m next b few most fits some low given = record {
-  id_low = low;
-  id_high = omega (arith, given, most);
-  some = omega (arith, some);
-  few = omega (arith, few, fits);
-}
+block_valid m next b few most fits some low given = search arith
 
 full_blocks : (m next : ℕ) (bs : List BlockRef) → m ≤ 262144 → next ≤ 2 ^ 62 → AllFull m (block_lens bs) → NoneEmpty bs
     → AllGiven next bs → AllByRecursion IsBlockRef bs
 full_blocks m next [] few most full some given = tt
-full_blocks m next (b ∷ bs) few most full some given = (
-  block_valid m next b few most full.0.1 some.0 given.0 given.1,
-  full_blocks m next bs few most full.1 some.1 given.2,
-)
+full_blocks m next (b ∷ bs) few most full some given =
+    search (arith, full_blocks m next bs few most full.1 some.1 given.2, block_valid)
 
 clip_blocks : (m next : ℕ) (bs : List BlockRef) → m ≤ 262144 → next ≤ 2 ^ 62 → IsHalfFull m (block_lens bs)
     → NoneEmpty bs → AllGiven next bs → AllByRecursion IsBlockRef bs
 clip_blocks m next [] few most full some given = tt
-clip_blocks m next (b ∷ []) few most full some given =
-    (block_valid m next b few most full.1 some.0 given.0 given.1, tt)
+clip_blocks m next (b ∷ []) few most full some given = search (arith, block_valid)
 clip_blocks m next (b ∷ c ∷ bs) few most full some given = full_blocks m next (b ∷ c ∷ bs) few most full some given
 
 layout_valid : (m next from : ℕ) (cs : List Clip) → m ≤ 262144 → next ≤ 2 ^ 62 → AllHalfFull m cs → AreClips from cs
     → AllClipsGiven next cs → AllByRecursion IsBlockRef (layout_blocks cs)
 layout_valid m next from [] few most full are given = tt
 layout_valid m next from (c ∷ cs) few most full are given =
-    all_append IsBlockRef c.blocks (layout_blocks cs) (clip_blocks m next c.blocks few most full.0 are.2 given.0)
-    (layout_valid m next (clip_end c + 1) cs few most full.1 are.3 given.1)
+    search (arith, layout_valid m next (clip_end c + 1) cs few most full.1 are.3 given.1, all_append, clip_blocks)
 
 tracks_valid : (m next track : ℕ) (ts : List Track) → m ≤ 262144 → next ≤ 2 ^ 62 → AllValidTracks m next track ts
     → AllByRecursion IsBlockRef (point_blocks ts)
 tracks_valid m next track [] few most s = tt
 tracks_valid m next track (t ∷ ts) few most s =
-    all_append IsBlockRef (layout_blocks t.layout)
-    (point_blocks ts) (layout_valid m next 0 t.layout few most s.0.half_full s.0.layout.apart s.0.blocks)
-    (tracks_valid m next track ts few most s.1)
+    search (arith, tracks_valid m next track ts few most s.1, all_append, layout_valid)
 
 -- the blocks of its points are blocks
 pub valid_blocks : (m depth count : ℕ) (k : Saved) → m ≤ 262144 → IsValidSaved m depth count k

@@ -48,12 +48,7 @@ module _ (m block track commit : ℕ) (least : 4 ≤ m) (most : m < 2 ^ 32) (bm 
 saved_same : (a b : Saved) → a.history.points ≡ b.history.points → a.history.cursor ≡ b.history.cursor
     → a.history.depth ≡ b.history.depth → a.next_block ≡ b.next_block → a.next_track ≡ b.next_track
     → a.commit ≡ b.commit → a ≡ b
-saved_same a b points cursor depth block track commit = λ i. record {
-  history = record { points = points i; cursor = cursor i; depth = depth i };
-  next_block = block i;
-  next_track = track i;
-  commit = commit i;
-}
+saved_same a b points cursor depth block track commit = search arith
 
 module _ (log : Log) (format : IsFormat log.rate log.block_size log.depth) (bounds : HasBase log.base) where
   headed_once : (a b : Saved) → IsHeaderBase log a → IsHeaderBase log b → a ≡ b
@@ -101,19 +96,14 @@ pub keeps_once : (files : Files) (a b : Opened) → Keeps files a → Keeps file
 keeps_once files a b one two =
     let p = one.keeps in
     let q = two.keeps in
-    let same = one_journal one.form two.form p.log q.log files one.known two.known one.few two.few p.there q.there in
-    let format = any_format two.form q.log files two.known q.there in
-    let begins : Begins q.log p.base = subst (λ (l : Log). Begins l p.base) same.log p.begins in
-    let base : p.base ≡ q.base =
-    begins_once q.log format (any_base two.form q.log files two.known q.there) p.base q.base begins q.begins in
-    let version = version_of two.form in
-    let led : LeadIn version q.log.block_size q.base q.log.bodies p.kept =
-    subst (λ (k : Saved). LeadIn version q.log.block_size k q.log.bodies p.kept) base
-    (subst (λ (l : Log). LeadIn version l.block_size p.base l.bodies p.kept) same.log
-    (subst (λ (f : Form). LeadIn (version_of f) p.log.block_size p.base p.log.bodies p.kept) same.form p.told)) in
-    let kept : p.kept ≡ q.kept = lead_once_in version q.log.block_size q.log.bodies q.base p.kept q.kept
-    format.block_least (omega (arith, format.block_most)) led q.told in
-    p.is ∙ ap (λ (l : Log). opened l p.kept files) same.log ∙ ap (λ (k : Saved). opened q.log k files) kept ∙ sym q.is
+    search (
+      arith,
+      one_journal one.form two.form p.log q.log files one.known two.known one.few two.few p.there q.there,
+      any_format two.form q.log files two.known q.there,
+      begins_once q.log,
+      any_base two.form q.log files two.known q.there,
+      lead_once_in (version_of two.form) q.log.block_size q.log.bodies q.base p.kept q.kept,
+    )
 
 -- at each moment of putting it into one header
 pub either_keeps : (form : Form) (log packed : Log) (base kept : Saved) (c : Files) → IsForm form → form.file ≤ 1

@@ -1,5 +1,5 @@
 -- Bytes say one body by the current point.
-use Rattle.record_body.proofs.Common.{◌≡◌, ℕ, List, [], ◌∷◌, map, Some, refl, sym, ap, ap₂, ◌∙◌, arith, Edit, Undo}
+use Rattle.record_body.proofs.Common.{◌≡◌, ℕ, List, [], ◌∷◌, map, Some, refl, sym, ap, ◌∙◌, arith, Edit, Undo}
 use Rattle.record_body.proofs.Common.{Redo, Purge, Body, SaysBody, Track}
 
 first_is : (x y : Track) (xs ys : List Track) → map Some (x ∷ xs) ≡ map Some (y ∷ ys) → x ≡ y
@@ -12,8 +12,7 @@ pub tracks_once : (xs ys : List Track) → map Some xs ≡ map Some ys → xs �
 tracks_once [] [] e = refl
 tracks_once [] (y ∷ ys) e = absurd cc
 tracks_once (x ∷ xs) [] e = absurd cc
-tracks_once (x ∷ xs) (y ∷ ys) e =
-    ap₂ (λ (t : Track) (ts : List Track). t ∷ ts) (first_is x y xs ys e) (tracks_once xs ys (others_are x y xs ys e))
+tracks_once (x ∷ xs) (y ∷ ys) e = search (arith, tracks_once xs ys (others_are x y xs ys e), first_is, others_are)
 
 pub same_edit : {t t' i i' k k' : ℕ} {us us' : List Track} → t ≡ t' → i ≡ i' → k ≡ k' → us ≡ us'
     → Edit t i k us ≡ Edit t' i' k' us'
@@ -23,15 +22,7 @@ pub says_once : (current : List Track) (bytes : List ℕ) (a b : Body) → SaysB
     → SaysBody current bytes b → a ≡ b
 says_once current bytes (Edit t i k us) (Edit t' i' k' us') p q =
     same_edit (p.1.0 ∙ sym q.1.0) (p.1.1 ∙ sym q.1.1) (p.1.2 ∙ sym q.1.2) (tracks_once us us' (p.1.3 ∙ sym q.1.3))
-says_once current bytes (Edit t i k us) (Purge n) p q = absurd (omega (arith, p.0, q.0))
-says_once current bytes Undo (Edit t i k us) p q = absurd (omega (arith, p, q.0))
 says_once current bytes Undo Undo p q = refl
-says_once current bytes Undo Redo p q = absurd (omega (arith, p, q))
-says_once current bytes Undo (Purge n) p q = absurd (omega (arith, p, q.0))
-says_once current bytes Redo (Edit t i k us) p q = absurd (omega (arith, p, q.0))
-says_once current bytes Redo Undo p q = absurd (omega (arith, p, q))
 says_once current bytes Redo Redo p q = refl
-says_once current bytes Redo (Purge n) p q = absurd (omega (arith, p, q.0))
-says_once current bytes (Purge n) (Edit t i k us) p q = absurd (omega (arith, p.0, q.0))
 says_once current bytes (Purge n) (Purge k) p q = ap Purge (p.1 ∙ sym q.1)
-says_once current bytes _ _ p q = absurd (omega (arith, p.0, q))
+says_once current bytes _ _ p q = search (arith, p, q)

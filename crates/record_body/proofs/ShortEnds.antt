@@ -1,5 +1,5 @@
 -- The last clip of each track of a valid point has fewer than 2^32 blocks.
-use Rattle.record_body.proofs.Common.{ℕ, ◌+◌, ◌^◌, ◌≤◌, ◌<◌, ◌==◌, inl, inr, List, [], ◌∷◌, length, arith, cases_Bool}
+use Rattle.record_body.proofs.Common.{ℕ, ◌+◌, ◌^◌, ◌≤◌, ◌<◌, List, [], ◌∷◌, length, arith}
 use Rattle.record_body.proofs.Common.{blocks_len, Clip, IsLayout, AllHalfFull, Track, track_of, last_blocks, last_start}
 use Rattle.record_body.proofs.Common.{EndsShort, HasShortEnds, AreHalfFull, AllValidTracks, IsValidPoint}
 use Rattle.record_body.proofs.{ValidBounds.half_full_few, Tails.end_last, Tails.last_end}
@@ -14,10 +14,8 @@ short_last m (c ∷ cs) large is half =
 tracks_short_ends : (m block track id : ℕ) (ts : List Track) → 4 ≤ m → AllValidTracks m block track ts
     → EndsShort (track_of id ts)
 tracks_short_ends m block track id [] large valid = tt
-tracks_short_ends m block track id (t ∷ ts) large valid = elim (cases_Bool (id == t.id)) [
-  | inl same ↦ rw same (short_last m t.layout large valid.0.layout valid.0.half_full)
-  | inr differ ↦ rw differ (tracks_short_ends m block track id ts large valid.1)
-]
+tracks_short_ends m block track id (t ∷ ts) large valid =
+    search (arith, tracks_short_ends m block track id ts large valid.1, short_last)
 
 pub valid_ends : (m block track : ℕ) (ts : List Track) → 4 ≤ m → IsValidPoint m block track ts → HasShortEnds ts
 valid_ends m block track ts large is = λ id. tracks_short_ends m block track id ts large is.valid

@@ -23,13 +23,7 @@ module _ (bytes : List ℕ) where
   size_of_clips : (count at : ℕ) → length (flat_map clip_bytes (clips_at count at bytes)) ≡ clips_size count at bytes
   size_of_clips zero at = refl
   size_of_clips (suc count) at =
-      let rest = clips_at count (at + clip_size at bytes) bytes in
-      omega (
-        arith,
-        length-append (clip_bytes (clip_at at bytes)) (flat_map clip_bytes rest),
-        size_of_clip at,
-        size_of_clips count (at + clip_size at bytes),
-      )
+      search (arith, size_of_clips count (at + clip_size at bytes), length-append, size_of_clip)
 
   pub size_of_track : (at : ℕ) → length (track_bytes (track_at at bytes)) ≡ track_size at bytes
   size_of_track at = omega (arith, size_of_clips (clip_count at bytes) (at + 18))

@@ -1,7 +1,7 @@
 -- What was read from bytes is spelled as these bytes.
 use Rattle.record_body.proofs.Common.{◌≡◌, ℕ, zero, suc, ◌+◌, ◌*◌, ◌<◌, ◌≤◌, min, List, [], ◌∷◌, ◌++◌, length, drop}
 use Rattle.record_body.proofs.Common.{refl, sym, ap, ◌∙◌, arith, slice_index, append_assoc, Bool, true, false, ◌==◌}
-use Rattle.record_body.proofs.Common.{if◌then◌else◌, None, nat_lt, ◌⊎◌, inl, inr, cases_lt, eq-eqb, drop_more, drop_all}
+use Rattle.record_body.proofs.Common.{if◌then◌else◌, None, nat_lt, ◌⊎◌, eq-eqb, drop_more, drop_all}
 use Rattle.record_body.proofs.Common.{flat_map, little_bytes, field, first_failed, Undo, Redo, Purge, block_bytes}
 use Rattle.record_body.proofs.Common.{clip_bytes, side_byte, mute_byte, track_bytes, spelling, block_at, blocks_at}
 use Rattle.record_body.proofs.Common.{block_count, clip_at, clip_size, clips_at, clips_size, side_of, clip_count}
@@ -25,35 +25,32 @@ module _ (bytes : List ℕ) where
   nothing at = record { same = refl }
 
   -- the same place, said in another way
-  pub ends : {part : List ℕ} {at end : ℕ} (other : ℕ) → end ≡ other → Stands part at end bytes → Stands part at other bytes
+  pub ends : {part : List ℕ} {at end : ℕ} (other : ℕ) → end ≡ other → Stands part at end bytes
+      → Stands part at other bytes
   ends {part} {at} {end} other e s = record { same = ap (λ (n : ℕ). part ++ drop n bytes) (sym e) ∙ s.same }
 
   -- one part after another
   pub joined : {part more : List ℕ} {at between end : ℕ} → Stands part at between bytes → Stands more between end bytes
       → Stands (part ++ more) at end bytes
-  joined {part} {more} {at} {between} {end} s t = record {
-    same = append_assoc part more (drop end bytes) ∙ ap (λ (l : List ℕ). part ++ l) t.same ∙ s.same;
-  }
+  joined {part} {more} {at} {between} {end} s t = search (arith, append_assoc)
 
   -- all of them
   pub whole : (part : List ℕ) → Stands part 0 (length bytes) bytes → part ≡ bytes
-  whole part s = sym (append-nil part)
-      ∙ ap (λ (l : List ℕ). part ++ l) (sym (drop_all (length bytes) bytes (omega arith))) ∙ s.same
+  whole part s = search (arith, append-nil, drop_all)
 
   pub byte_stands : (at byte : ℕ) → at + 1 ≤ length bytes → byte ≡ slice_index bytes at
       → Stands (byte ∷ []) at (at + 1) bytes
-  byte_stands at byte le is = record {
-    same = ap (λ (b : ℕ). b ∷ drop (at + 1) bytes) is ∙ sym (drop_more bytes at 0 (omega arith));
-  }
+  byte_stands at byte le is = search (arith, drop_more)
 
   pub field_stands : IsBytes bytes → (at n value : ℕ) → at + n ≤ length bytes → value ≡ field at n bytes
       → Stands (little_bytes n value) at (at + n) bytes
-  field_stands fit at n value le is = record {
-    same =
-        ap (λ (v : ℕ). little_bytes n v ++ drop (at + n) bytes) is
-        ∙ ap (λ (l : List ℕ). little_bytes n (field at n bytes) ++ l) (sym (drop-drop n at bytes))
-        ∙ number_back n (drop at bytes) (IsBytes-drop at bytes fit) (omega (arith, length-drop at bytes));
-  }
+  field_stands fit at n value le is =
+      search (
+        arith,
+        drop-drop n at bytes,
+        number_back n (drop at bytes) (IsBytes-drop at bytes fit),
+        length-drop at bytes,
+      )
 
 -- ---- clips
 
@@ -67,9 +64,7 @@ module _ (bytes : List ℕ) (fit : IsBytes bytes) where
   blocks_stand : (count at : ℕ) → at + 12 * count ≤ length bytes
       → Stands (flat_map block_bytes (blocks_at count at bytes)) at (at + 12 * count) bytes
   blocks_stand zero at le = ends bytes (at + 12 * 0) (omega arith) (nothing bytes at)
-  blocks_stand (suc count) at le =
-      ends bytes (at + 12 * suc count) (omega arith)
-      (joined bytes (block_stands at (omega arith)) (blocks_stand count (at + 12) (omega arith)))
+  blocks_stand (suc count) at le = search (arith, blocks_stand count (at + 12), ends, joined, block_stands)
 
   clip_stands : (at : ℕ) → at + clip_size at bytes ≤ length bytes
       → Stands (clip_bytes (clip_at at bytes)) at (at + clip_size at bytes) bytes
@@ -108,8 +103,7 @@ module _ (bytes : List ℕ) (fit : IsBytes bytes) where
   settings_pass : (l : Limits) (from at : ℕ) → Pass (settings_tests l from at bytes)
       → (side_byte (side_of (slice_index bytes (at + 12))) ≡ slice_index bytes (at + 12))
       × (mute_byte (nat_lt 0 (slice_index bytes (at + 13))) ≡ slice_index bytes (at + 13))
-  settings_pass l from at pass =
-      (side_back (slice_index bytes (at + 12)) pass.1.1.1.1.0, mute_back (slice_index bytes (at + 13)) pass.1.1.1.1.1.0)
+  settings_pass l from at pass = search (arith, side_back, mute_back)
 
   track_stands : (l : Limits) (from at : ℕ) → Pass (track_tests l from at bytes)
       → at + track_size at bytes ≤ length bytes
@@ -173,10 +167,7 @@ then_part P true x y e p = p
 then_part P false x y e p = absurd cc
 
 kinds : (kind : ℕ) → max 1 (min 4 kind) ≡ kind → (kind ≡ 1) ⊎ ((2 ≤ kind) × (kind ≤ 4))
-kinds kind e = elim (cases_lt 1 kind) [
-  | inl more ↦ inr (omega arith, omega arith)
-  | inr le ↦ inl (omega arith)
-]
+kinds kind e = search arith
 
 edit_spelled : (m : ℕ) (b : Before) (bytes : List ℕ) → IsBytes bytes → slice_index bytes 0 ≡ 1
     → asked_length bytes ≡ length bytes → Pass (edit_tests m b bytes)
@@ -204,13 +195,9 @@ unfolding said_by
 other_spelled bytes zero fit e least most asked = absurd (omega arith)
 other_spelled bytes (suc zero) fit e least most asked = absurd (omega arith)
 other_spelled bytes (suc (suc zero)) fit e least most asked =
-    let size : length bytes ≡ 1 = sym asked ∙ asked_other bytes 2 e least most in
-    ap spelling (body_is bytes 2 e) ∙ whole bytes (2 ∷ [])
-    (ends bytes (length bytes) (omega (arith, size)) (byte_stands bytes 0 2 (omega (arith, size)) (sym e)))
+    search (arith, asked_other, body_is, whole, ends, byte_stands)
 other_spelled bytes (suc (suc (suc zero))) fit e least most asked =
-    let size : length bytes ≡ 1 = sym asked ∙ asked_other bytes 3 e least most in
-    ap spelling (body_is bytes 3 e) ∙ whole bytes (3 ∷ [])
-    (ends bytes (length bytes) (omega (arith, size)) (byte_stands bytes 0 3 (omega (arith, size)) (sym e)))
+    search (arith, asked_other, body_is, whole, ends, byte_stands)
 other_spelled bytes (suc (suc (suc (suc zero)))) fit e least most asked =
     let size : length bytes ≡ 9 = sym asked ∙ asked_other bytes 4 e least most in
     let kind = byte_stands bytes 0 4 (omega (arith, size)) (sym e) in
@@ -223,12 +210,13 @@ other_spelled bytes (suc (suc (suc (suc (suc kind))))) fit e least most asked = 
 pub spelled : (m : ℕ) (b : Before) (bytes : List ℕ) → ((i : ℕ) → slice_index bytes i < 256)
     → first_failed (body_tests m b bytes) ≡ None → spelling (body_at bytes) ≡ bytes
 spelled m b bytes below none =
-    let fit : IsBytes bytes = record { below = below } in
-    let pass = all_pass (body_tests m b bytes) none in
-    elim (kinds (slice_index bytes 0) pass.1.0) [
-      | inl one ↦
-          ap spelling (cond-true (slice_index bytes 0 == 1) (edit_at bytes) _ (eq-eqb (slice_index bytes 0) 1 one))
-          ∙ edit_spelled m b bytes fit one pass.0 (then_part Pass (slice_index bytes 0 == 1) (edit_tests m b bytes) []
-          (eq-eqb (slice_index bytes 0) 1 one) pass.1.1)
-      | inr other ↦ other_spelled bytes (slice_index bytes 0) fit refl other.0 other.1 pass.0
-    ]
+    search (
+      arith,
+      all_pass (body_tests m b bytes) none,
+      kinds (slice_index bytes 0) (all_pass (body_tests m b bytes) none).1.0,
+      cond-true (slice_index bytes 0 == 1) (edit_at bytes),
+      eq-eqb (slice_index bytes 0) 1,
+      edit_spelled m b bytes,
+      then_part Pass (slice_index bytes 0 == 1) (edit_tests m b bytes) [],
+      other_spelled bytes (slice_index bytes 0),
+    )

@@ -14,9 +14,7 @@ module _ (all rest : ℕ → List Damaged) (one : List Damaged) (law : (j : ℕ)
   pub step_passes : (n k : ℕ) → 0 < n → k ≡ n - 1 → first_failed one ≡ None
       → first_failed (rest k) ≡ first_failed (all n)
   step_passes zero k some e none = absurd (omega (arith, some))
-  step_passes (suc n) k some e none =
-      let here : k ≡ n = omega (arith, e) in
-      ap (λ j. first_failed (rest j)) here ∙ sym (none_first one (rest n) none) ∙ ap first_failed (sym (law n))
+  step_passes (suc n) k some e none = search (arith, none_first)
 
   pub step_fails : (n : ℕ) (d : Damaged) → 0 < n → first_failed one ≡ Some d → first_failed (all n) ≡ Some d
   step_fails zero d some e = absurd (omega (arith, some))
@@ -57,17 +55,13 @@ module _ {T : Type 0} (tests : List Damaged) (P Q : T → Type 0) where
 -- the same of tests that stand after others, which pass
 pub finds_after : {T U : Type 0} (P : T → Type 0) (Q : U → Type 0) (head xs ys : List Damaged) (fault : BadBody)
     → first_failed head ≡ None → xs ≡ ys → Finds xs P (Err fault) → Finds (head ++ ys) Q (Err fault)
-finds_after P Q head xs ys fault none same =
-    finds_alike P Q xs (head ++ ys) fault (ap first_failed same ∙ sym (none_first head ys none))
+finds_after P Q head xs ys fault none same = search (arith, finds_alike, none_first)
 
 -- n parts are one, and those after it
 module _ {X : Type 0} (all rest : ℕ → List X) (one : X) (law : (j : ℕ) → all (suc j) ≡ one ∷ rest j) where
   pub step_adds : (done : List X) (n k : ℕ) → 0 < n → k ≡ n - 1 → (done ++ one ∷ []) ++ rest k ≡ done ++ all n
   step_adds done zero k some e = absurd (omega (arith, some))
-  step_adds done (suc n) k some e =
-      let here : k ≡ n = omega (arith, e) in
-      append_assoc done (one ∷ []) (rest k) ∙ ap (λ j. done ++ one ∷ rest j) here
-      ∙ ap (λ (xs : List X). done ++ xs) (sym (law n))
+  step_adds done (suc n) k some e = search (arith, append_assoc)
 
 -- ---- parts that are read in a row
 
@@ -115,13 +109,11 @@ module _ {X : Type 0} (r : Row X) (count first at left from next : ℕ) (done : 
 pub row_passes : {X : Type 0} (r : Row X) (count first at left from next : ℕ) (done : List X) → left ≡ 0
     → r.tests 0 from next ≡ [] → SoFar r count first at left from next done
     → first_failed (r.tests count first at) ≡ None
-row_passes r count first at left from next done none no_tests far =
-    sym far.tests ∙ ap (λ j. first_failed (r.tests j from next)) none ∙ ap first_failed no_tests
+row_passes r count first at left from next done none no_tests far = search arith
 
 pub row_values : {X : Type 0} (r : Row X) (count first at left from next : ℕ) (done : List X) → left ≡ 0
     → r.values 0 next ≡ [] → SoFar r count first at left from next done → done ≡ r.values count at
-row_values {X} r count first at left from next done none no_values far = sym (append-nil done)
-    ∙ ap (λ (xs : List X). done ++ xs) (sym (ap (λ j. r.values j next) none ∙ no_values)) ∙ far.values
+row_values {X} r count first at left from next done none no_values far = search (arith, append-nil)
 
 module _ (l : Limits) (bytes : List ℕ) where
   abbrev pub blocks_row : Bool → Row BlockRef

@@ -1,9 +1,9 @@
 -- The blocks of a last clip of which the end is replaced.
 use Rattle.record_body.proofs.Common.{◌≡◌, ℕ, suc, ◌+◌, ◌-◌, ◌<◌, ◌≤◌, ◌^◌, inl, inr, List, [], ◌∷◌, ◌++◌, length}
-use Rattle.record_body.proofs.Common.{get_or, take, drop, refl, ◌∙◌, ap, subst, arith, length-append, Bool, true}
+use Rattle.record_body.proofs.Common.{get_or, take, drop, refl, ap, subst, arith, length-append, Bool, true}
 use Rattle.record_body.proofs.Common.{nat_lt, zero, ◌&&◌, ◌==◌, if◌then◌else◌, cases_Bool, lt-ltb, eqb-false, drop_more}
 use Rattle.record_body.proofs.Common.{AllByRecursion, field, is_lone, kept_blocks, tail_head_tests, tail_tests, Limits}
-use Rattle.record_body.proofs.Common.{gone_at, fresh_at, least_len, block_tests, blocks_tests, blocks_at, AllGiven}
+use Rattle.record_body.proofs.Common.{gone_at, fresh_at, blocks_tests, blocks_at, AllGiven}
 use Rattle.record_body.proofs.Common.{last_blocks, last_start, with_last, Pass, BlockRef, NoneEmpty, AllFull}
 use Rattle.record_body.proofs.Common.{IsHalfFull, block_lens, blocks_len, Clip, AreClips, AllHalfFull, IsLayout}
 use Rattle.record_body.proofs.Common.{clip_end, end_of}
@@ -76,26 +76,14 @@ fit_fresh : (l : Limits) (several : Bool) (count before at : ℕ) (bytes : List 
     → Pass (blocks_tests l several count before at bytes) → AllFit l.block_size (blocks_at count at bytes)
 fit_fresh l several zero before at bytes pass = tt
 fit_fresh l several (suc count) before at bytes pass =
-    let p = pass_parts (block_tests l several before at bytes) _ pass in
-    let b = bounded l several before at bytes p.0 in (
-      (omega (arith, b.some), b.fits),
-      fit_fresh l several count (before + field (at + 8) 4 bytes) (at + 12) bytes p.1,
-    )
+    search (arith, fit_fresh l several count (before + field (at + 8) 4 bytes) (at + 12) bytes, pass_parts, bounded)
 
 -- the blocks that are kept of a clip are full where the clip will have several
 kept_full : (m k n : ℕ) (olds : List BlockRef) → IsHalfFull m (block_lens olds) → k ≤ length olds → 1 < k + n
     → ((if is_lone m olds && nat_lt 0 n then 1 else 0) ≤ length olds - k) → AreFull m (take k olds)
 kept_full m zero n olds half le several lone = tt
 kept_full m (suc k) n [] half le several lone = absurd (omega (arith, le))
-kept_full m (suc k) n (b ∷ []) half le several lone = elim (cases_Bool (nat_lt b.len (least_len m true))) [
-  | inl short ↦
-      let some : nat_lt 0 n ≡ true = lt-ltb 0 n (omega (arith, le, several)) in
-      let goes : 1 ≤ 1 - suc k = rw (short, some) at lone in
-      absurd (omega (arith, goes))
-  | inr not_short ↦
-      let least : least_len m true ≤ b.len = ltb-false b.len (least_len m true) not_short in
-      ((omega (arith, least), half.1), full_take m k [] tt)
-]
+kept_full m (suc k) n (b ∷ []) half le several lone = search (arith, lt-ltb, ltb-false, full_take)
 kept_full m (suc k) n (b ∷ c ∷ bs) half le several lone = full_take m (suc k) (b ∷ c ∷ bs) half
 
 -- ---- what passes its tests
@@ -166,9 +154,7 @@ pub record IsEnd (m : ℕ) (cs : List Clip) : Type 0 where
 pub last_end : (m from : ℕ) (cs : List Clip) → AreClips from cs → AllHalfFull m cs → IsEnd m cs
 last_end m from [] apart half = record { none_empty = tt; half_full = tt }
 last_end m from (c ∷ []) apart half = record { none_empty = apart.2; half_full = half.0 }
-last_end m from (c ∷ d ∷ cs) apart half =
-    let more = last_end m (clip_end c + 1) (d ∷ cs) apart.3 half.1 in
-    record { none_empty = more.none_empty; half_full = more.half_full }
+last_end m from (c ∷ d ∷ cs) apart half = search (arith, last_end m (clip_end c + 1) (d ∷ cs) apart.3 half.1)
 
 pub end_last : (at : ℕ) (cs : List Clip) → 0 < length cs
     → end_of at cs ≡ last_start cs + blocks_len (last_blocks cs)
@@ -191,8 +177,7 @@ end_with at (c ∷ d ∷ cs) bs some = end_with (clip_end c) (d ∷ cs) bs (omeg
 
 pub layout_with : (cs : List Clip) (bs : List BlockRef) → 0 < length cs → IsLayout cs → NoneEmpty bs → 0 < blocks_len bs
     → last_start cs + blocks_len bs ≤ 2 ^ 32 → IsLayout (with_last bs cs)
-layout_with cs bs there is none some near =
-    record { apart = clips_with 0 cs bs is.apart none some; few = omega (arith, end_with 0 cs bs there, near) }
+layout_with cs bs there is none some near = search (arith, clips_with, end_with)
 
 pub half_with : (m : ℕ) (cs : List Clip) (bs : List BlockRef) → AllHalfFull m cs → IsHalfFull m (block_lens bs)
     → AllHalfFull m (with_last bs cs)
@@ -205,11 +190,7 @@ pub front_and_last : (cs : List Clip) (c : Clip) (bs : List BlockRef) → 0 < le
     → take (length cs - 1) cs ++ (record c { blocks = bs }) ∷ [] ≡ with_last bs cs
 front_and_last [] c bs some is = absurd (omega (arith, some))
 front_and_last (x ∷ []) c bs some is = ap (λ (k : Clip). record k { blocks = bs } ∷ []) is
-front_and_last (x ∷ y ∷ cs) c bs some is =
-    let less : length (x ∷ y ∷ cs) - 1 ≡ suc (length (y ∷ cs) - 1) = omega arith in
-    ap (λ n. take n (x ∷ y ∷ cs) ++ record c { blocks = bs } ∷ []) less
-    ∙ ap (λ (l : List Clip). x ∷ l) (front_and_last (y ∷ cs) c bs (omega arith)
-    (is ∙ ap (λ n. get_or (x ∷ y ∷ cs) n c) less))
+front_and_last (x ∷ y ∷ cs) c bs some is = search (arith, front_and_last (y ∷ cs) c bs)
 
 pub blocks_next : (bs : List BlockRef) (i : ℕ) (d : BlockRef) → i < length bs
     → blocks_len (drop i bs) ≡ (get_or bs i d).len + blocks_len (drop (i + 1) bs)

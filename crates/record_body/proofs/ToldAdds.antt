@@ -1,9 +1,9 @@
 -- One track more that is told by the current point.
-use Rattle.record_body.proofs.Common.{◌≡◌, ℕ, ◌+◌, ◌-◌, ◌==◌, ◌<◌, ◌≤◌, false, inl, inr, List, [], ◌∷◌, ◌++◌, length}
-use Rattle.record_body.proofs.Common.{map, Option, Some, None, Result, Ok, Err, refl, sym, ◌∙◌, ap, subst, arith}
+use Rattle.record_body.proofs.Common.{◌≡◌, ℕ, ◌+◌, ◌-◌, ◌<◌, ◌≤◌, List, [], ◌∷◌, ◌++◌, length}
+use Rattle.record_body.proofs.Common.{map, Option, Some, None, Result, Ok, Err, sym, subst, arith}
 use Rattle.record_body.proofs.Common.{slice_get, length-append, field, first_failed, Damaged, last_blocks, last_start}
 use Rattle.record_body.proofs.Common.{tailed, fresh_at, gone_at, mark_at, whole_at, change_tests, mark_tests, mark_want}
-use Rattle.record_body.proofs.Common.{marked_tests, tail_tests, whole_tests, BadBody, Limits, Finds, place, blocks_at}
+use Rattle.record_body.proofs.Common.{tail_tests, whole_tests, BadBody, Limits, Finds, place, blocks_at}
 use Rattle.record_body.proofs.Common.{track_at, AddsTold, Track, unnumbered, AllBelow, track_of, all_pass, some_first}
 use Rattle.std.proofs.{lemmas.Bool.ne_eqb, lemmas.List.map-append}
 use Rattle.std.specs.Prelude.{⊤, IfOk}
@@ -16,20 +16,12 @@ use Rattle.record_body.specs.declared.limits.BadBody.TheVariants as bad
 pub mark_fails : (l : Limits) (at : ℕ) (bytes : List ℕ) (old : Track) (p want mark : ℕ) (d : Damaged)
     → p ≡ place l.base (at + 8) → want ≡ mark_want (Some old) mark → mark ≡ mark_at at bytes
     → first_failed (mark_tests p want mark) ≡ Some d → first_failed (change_tests l (Some old) at bytes) ≡ Some d
-mark_fails l at bytes old p want mark d is_place is_want is_mark e =
-    let m = mark_at at bytes in
-    let here : want ≡ mark_want (Some old) m = is_want ∙ ap (mark_want (Some old)) is_mark in
-    let same : mark_tests p want mark ≡ mark_tests (place l.base (at + 8)) (mark_want (Some old) m) m =
-    λ i. mark_tests (is_place i) (here i) (is_mark i) in
-    some_first (mark_tests (place l.base (at + 8)) (mark_want (Some old) m) m) (marked_tests l (Some old) at bytes) d
-    (ap first_failed (sym same) ∙ e)
+mark_fails l at bytes old p want mark d is_place is_want is_mark e = search (arith, some_first)
 
 -- and one that passes them
 pub marks_pass : (old : Track) (p want mark : ℕ) → first_failed (mark_tests p want mark) ≡ None
     → want ≡ mark_want (Some old) mark → (mark ≤ 2) × (mark_want (Some old) mark ≡ mark)
-marks_pass old p want mark none is =
-    let pass = all_pass (mark_tests p want mark) none in
-    (omega (arith, pass.0), sym is ∙ pass.1.0)
+marks_pass old p want mark none is = search (arith, all_pass)
 
 -- ---- the track, by its mark
 
@@ -40,28 +32,12 @@ module _ (l : Limits) (current : List Track) (at : ℕ) (bytes : List ℕ) (befo
 
   pub adds_same : (old : Track) → track_of (field at 8 bytes) current ≡ Some old → old.id ≡ field at 8 bytes
       → mark_at at bytes ≡ 0 → after ≡ before ++ old ∷ [] → Adds (Some old) (Ok tt)
-  adds_same old found same none added = (
-    rw none refl,
-    record {
-      track = old;
-      added = added;
-      said = rw none refl;
-      number = inr (ap (λ (n : ℕ). track_of n current) same ∙ found);
-    },
-  )
+  adds_same old found same none added = search arith
 
   pub adds_whole : (old : Track) (r : Result ⊤ BadBody) → old.id ≡ field at 8 bytes → mark_at at bytes ≡ 1
       → Finds (whole_tests l (at + 1) bytes)
       (λ _. after ≡ before ++ (record (track_at (at + 1) bytes) { id = old.id }) ∷ []) r → Adds (Some old) r
-  adds_whole old (Ok x) same one e = (
-    rw one e.0,
-    record {
-      track = record (track_at (at + 1) bytes) { id = old.id };
-      added = e.1;
-      said = rw one (ap (λ (n : ℕ). Some (record (track_at (at + 1) bytes) { id = n })) (sym same));
-      number = inl refl;
-    },
-  )
+  adds_whole old (Ok x) same one e = search arith
   adds_whole old (Err bad.NoMemory) same one e = tt
   adds_whole old (Err (bad.Damaged d)) same one e = rw one e
 
@@ -69,29 +45,14 @@ module _ (l : Limits) (current : List Track) (at : ℕ) (bytes : List ℕ) (befo
       → Finds (tail_tests l (last_start old.layout) (last_blocks old.layout) at bytes)
       (λ _. after ≡ before ++ tailed (gone_at at bytes) (blocks_at (fresh_at at bytes) (at + 17) bytes) old ∷ []) r
       → Adds (Some old) r
-  adds_tail old (Ok x) two some e =
-      let none : (length old.layout == 0) ≡ false = ne_eqb (length old.layout) 0 (λ z. omega (arith, z, some)) in (
-        rw (two, none) e.0,
-        record {
-          track = tailed (gone_at at bytes) (blocks_at (fresh_at at bytes) (at + 17) bytes) old;
-          added = e.1;
-          said = rw two refl;
-          number = inl refl;
-        },
-      )
+  adds_tail old (Ok x) two some e = search (arith, ne_eqb)
   adds_tail old (Err bad.NoMemory) two some e = tt
-  adds_tail old (Err (bad.Damaged d)) two some e =
-      let none : (length old.layout == 0) ≡ false = ne_eqb (length old.layout) 0 (λ z. omega (arith, z, some)) in
-      rw (two, none) e
+  adds_tail old (Err (bad.Damaged d)) two some e = search (arith, ne_eqb)
 
   -- one that the current point lacks
   pub adds_new : (r : Result ⊤ BadBody)
       → Finds (change_tests l None at bytes) (λ _. after ≡ before ++ whole_at at bytes ∷ []) r → Adds None r
-  adds_new (Ok x) e =
-      let pass = pass_parts (mark_tests (place l.base (at + 8)) 1 (mark_at at bytes)) (whole_tests l (at + 1) bytes)
-      (all_pass (change_tests l None at bytes) e.0) in
-      let one : mark_at at bytes ≡ 1 = sym pass.0.1.0 in
-      (e.0, record { track = whole_at at bytes; added = e.1; said = rw one refl; number = inl refl })
+  adds_new (Ok x) e = search (arith, pass_parts, all_pass)
   adds_new (Err bad.NoMemory) e = tt
   adds_new (Err (bad.Damaged d)) e = e
 
@@ -103,8 +64,7 @@ module _ (l : Limits) (current : List Track) (at : ℕ) (bytes : List ℕ) (befo
 -- what was read has an id that no track before has
 pub below_read : (tests : List Damaged) (t : Track) (id : ℕ) (ts : List Track) (r : Result Track BadBody)
     → Finds tests (λ x. x ≡ t) r → t.id ≡ id → AllBelow id ts → IfOk r (λ x. AllBelow x.id ts)
-below_read tests t id ts r h same low = finds_ok tests (λ x. x ≡ t) (λ x. AllBelow x.id ts) r
-    (λ x none is. subst (λ (n : ℕ). AllBelow n ts) (sym (ap (λ (k : Track). k.id) is ∙ same)) low) h
+below_read tests t id ts r h same low = search (arith, finds_ok)
 
 -- ---- all tracks
 
@@ -115,14 +75,9 @@ last_there (y ∷ xs) t x e = last_there xs t x e
 -- the track that was added last
 pub last_is : (xs ys : List Track) (t x : Track) (n : ℕ) → ys ≡ xs ++ t ∷ [] → n ≡ length ys
     → slice_get ys (n - 1) ≡ Some x → x ≡ t
-last_is xs ys t x n is len here =
-    let place : n - 1 ≡ length xs = omega (arith, len, ap length is, length-append xs (t ∷ [])) in
-    last_there xs t x (subst (λ (k : ℕ). slice_get (xs ++ t ∷ []) k ≡ Some x) place
-    (subst (λ (zs : List Track). slice_get zs (n - 1) ≡ Some x) is here))
+last_is xs ys t x n is len here = search (arith, length-append xs (t ∷ []), last_there xs t x)
 
 -- what was said so far, and one track more
 pub said_more : (xs ys : List Track) (t : Track) → ys ≡ xs ++ t ∷ []
     → map Some (map unnumbered ys) ≡ map Some (map unnumbered xs) ++ Some (unnumbered t) ∷ []
-said_more xs ys t is = ap (λ (zs : List Track). map Some (map unnumbered zs)) is
-    ∙ ap (λ (zs : List Track). map Some zs) (map-append unnumbered xs (t ∷ []))
-    ∙ map-append Some (map unnumbered xs) (unnumbered t ∷ [])
+said_more xs ys t is = search (arith, map-append)

@@ -82,7 +82,8 @@ body_plain m b Undo valid = refl
 body_plain m b Redo valid = refl
 body_plain m b (Purge n) valid = refl
 
-pub body_new : (m : ℕ) (b : Before) (current : List Track) (body : Body) → IsValidBody m b body → BodyShares current body
+pub body_new : (m : ℕ) (b : Before) (current : List Track) (body : Body) → IsValidBody m b body
+    → BodyShares current body
 body_new m b current (Edit tag next_block next_track tracks) valid = plain_new current tracks valid.unnumbered
 body_new m b current Undo valid = tt
 body_new m b current Redo valid = tt

@@ -1,10 +1,10 @@
 -- Tracks that meet their bounds pass their tests and are read back.
 use Rattle.record_body.proofs.Common.{◌≡◌, ℕ, ◌+◌, ◌^◌, ◌≤◌, ◌<◌, Bool, true, false, List, [], ◌∷◌, ◌++◌, length, drop}
-use Rattle.record_body.proofs.Common.{slice_index, nat_lt, refl, sym, ap, ap₂, subst, ◌∙◌, arith, append_assoc}
-use Rattle.record_body.proofs.Common.{length-append, flat_map, little_bytes, Side, Clip, field, Track, Limits, clips_at}
-use Rattle.record_body.proofs.Common.{clips_size, side_of, clip_count, track_at, track_size, tracks_at, tracks_size}
+use Rattle.record_body.proofs.Common.{slice_index, nat_lt, refl, arith, append_assoc}
+use Rattle.record_body.proofs.Common.{length-append, flat_map, little_bytes, Side, Clip, field, Track, Limits}
+use Rattle.record_body.proofs.Common.{side_of, clip_count, track_at, track_size, tracks_at, tracks_size}
 use Rattle.record_body.proofs.Common.{clip_bytes, side_byte, mute_byte, track_bytes, how_tests, id_tests, whole_tests}
-use Rattle.record_body.proofs.Common.{clips_tests, track_tests, tracks_tests, heard_bytes}
+use Rattle.record_body.proofs.Common.{track_tests, tracks_tests, heard_bytes}
 use Rattle.record_body.proofs.FieldsBack.{NoneFails, both_pass, byte_there, least_passes, most_passes, no_test}
 use Rattle.record_body.proofs.FieldsBack.{number_there, past}
 use Rattle.record_body.proofs.ClipsBack.{AreGoodClips, AreNarrow, has_clips}
@@ -38,17 +38,17 @@ has_heard l from t at bytes rest good e =
     let all = flat_map clip_bytes t.layout ++ rest in
     let counted = little_bytes 4 (length t.layout) ++ all in
     let muted = mute_byte t.mute ∷ counted in
-    let sided = side_byte t.side ∷ muted in
-    let at_side = past (at + 8) (at + 12) bytes (little_bytes 4 t.gain) sided e (omega arith) in
-    let at_mute = past (at + 12) (at + 13) bytes (side_byte t.side ∷ []) muted at_side (omega arith) in
-    let at_count = past (at + 13) (at + 14) bytes (mute_byte t.mute ∷ []) counted at_mute (omega arith) in
-    record {
-      gain = number_there 4 t.gain (at + 8) bytes sided e (omega (arith, good.gain));
-      side = byte_there (side_byte t.side) (at + 12) bytes muted at_side;
-      mute = byte_there (mute_byte t.mute) (at + 13) bytes counted at_mute;
-      count = number_there 4 (length t.layout) (at + 14) bytes all at_count good.few;
-      clips = past (at + 14) (at + 18) bytes (little_bytes 4 (length t.layout)) all at_count (omega arith);
-    }
+    search (
+      arith,
+      past (at + 8) (at + 12) bytes (little_bytes 4 t.gain),
+      past (at + 12) (at + 13) bytes (side_byte t.side ∷ []) muted,
+      past (at + 13) (at + 14) bytes (mute_byte t.mute ∷ []) counted,
+      past (at + 14) (at + 18) bytes (little_bytes 4 (length t.layout)) all,
+      number_there 4 t.gain (at + 8) bytes,
+      number_there 4 (length t.layout) (at + 14) bytes all,
+      byte_there (side_byte t.side) (at + 12) bytes muted,
+      byte_there (mute_byte t.mute) (at + 13) bytes counted,
+    )
 
 record HasTrack (t : Track) (at : ℕ) (bytes rest : List ℕ) : Type 0 where
   id : field at 8 bytes ≡ t.id
@@ -93,37 +93,37 @@ same_track id gain side mute number layout t a b c d e f = rw (a, b, c, d, e, f)
 track_there : (l : Limits) (from : ℕ) (t : Track) (at : ℕ) (bytes rest : List ℕ) → AreNarrow l → IsGoodTrack l from t
     → drop at bytes ≡ track_bytes t ++ rest → HasTrack t at bytes rest → IsTrackThere t at bytes rest
 track_there l from t at bytes rest narrow good e has =
-    let clips = has_clips l 0 t.layout (at + 18) bytes rest narrow good.clips has.heard.clips in
-    let counted = ap (λ (n : ℕ). clips_size n (at + 18) bytes) has.heard.count in
-    let size : track_size at bytes ≡ length (track_bytes t) = omega (arith, counted, clips.size) in
-    record {
-      track = same_track _ _ _ _ _ _ t has.id has.heard.gain (ap side_of has.heard.side ∙ side_back t.side)
-          (ap (nat_lt 0) has.heard.mute ∙ mute_back t.mute) (sym good.number)
-          (ap (λ (n : ℕ). clips_at n (at + 18) bytes) has.heard.count ∙ clips.clips);
-      size = size;
-      left = past at (at + track_size at bytes) bytes (track_bytes t) rest e (omega (arith, size));
-    }
+    search (
+      arith,
+      has_clips l 0 t.layout (at + 18) bytes rest narrow good.clips has.heard.clips,
+      same_track,
+      side_back t.side,
+      mute_back t.mute,
+      past at (at + track_size at bytes) bytes (track_bytes t) rest e,
+    )
 
 pub whole_pass : (l : Limits) (from : ℕ) (t : Track) (at : ℕ) (bytes rest : List ℕ) → AreNarrow l → IsGoodTrack l from t
     → HasHeard t at bytes rest → NoneFails (whole_tests l at bytes)
 whole_pass l from t at bytes rest narrow good has =
-    let how : NoneFails (how_tests l at bytes) =
-    most_passes _ _ _ _ _ has.gain good.gain
-    (most_passes _ _ _ _ _ has.side (side_most t.side)
-    (most_passes _ _ _ _ _ has.mute (mute_most t.mute) no_test)) in
-    let clips = has_clips l 0 t.layout (at + 18) bytes rest narrow good.clips has.clips in
-    both_pass (how_tests l at bytes) _ how
-    (subst (λ (n : ℕ). NoneFails (clips_tests l n 0 (at + 18) bytes)) (sym has.count) clips.passes)
+    search (
+      arith,
+      most_passes,
+      side_most t.side,
+      mute_most t.mute,
+      has_clips l 0 t.layout (at + 18) bytes rest narrow good.clips has.clips,
+      both_pass (how_tests l at bytes),
+    )
 
 track_passes : (l : Limits) (from : ℕ) (t : Track) (at : ℕ) (bytes rest : List ℕ) → AreNarrow l → IsGoodTrack l from t
     → HasTrack t at bytes rest → NoneFails (track_tests l from at bytes)
 track_passes l from t at bytes rest narrow good has =
-    let id : NoneFails (id_tests l from at bytes) =
-    least_passes _ _ _ _ _ has.id good.some
-    (least_passes _ _ _ _ _ has.id good.above
-    (most_passes _ _ _ _ _ has.id (omega (arith, good.given)) no_test)) in
-    both_pass (id_tests l from at bytes) (whole_tests l at bytes) id
-    (whole_pass l from t at bytes rest narrow good has.heard)
+    search (
+      arith,
+      least_passes,
+      most_passes,
+      both_pass (id_tests l from at bytes) (whole_tests l at bytes),
+      whole_pass l from t at bytes rest narrow good has.heard,
+    )
 
 -- tracks where their bytes stand, which pass
 pub record HasTracks (l : Limits) (from : ℕ) (ts : List Track) (at : ℕ) (bytes : List ℕ) : Type 0 where
@@ -135,15 +135,13 @@ pub has_tracks : (l : Limits) (from : ℕ) (ts : List Track) (at : ℕ) (bytes r
     → AreGoodTracks l from ts → drop at bytes ≡ flat_map track_bytes ts ++ rest → HasTracks l from ts at bytes
 has_tracks l from [] at bytes rest narrow good e = record { tracks = refl; size = refl; passes = no_test }
 has_tracks l from (t ∷ ts) at bytes rest narrow good e =
-    let first : drop at bytes ≡ track_bytes t ++ (flat_map track_bytes ts ++ rest) =
-    e ∙ append_assoc (track_bytes t) (flat_map track_bytes ts) rest in
-    let has = has_track l from t at bytes _ narrow good.0 first in
-    let one = track_there l from t at bytes _ narrow good.0 first has in
-    let more = has_tracks l (t.id + 1) ts (at + track_size at bytes) bytes rest narrow good.1 one.left in
-    record {
-      tracks = ap₂ (λ (u : Track) (us : List Track). u ∷ us) one.track more.tracks;
-      size = omega (arith, one.size, more.size, length-append (track_bytes t) (flat_map track_bytes ts));
-      passes = both_pass (track_tests l from at bytes) _ (track_passes l from t at bytes _ narrow good.0 has)
-          (subst (λ (n : ℕ). NoneFails (tracks_tests l (length ts) (n + 1) (at + track_size at bytes) bytes))
-          (sym has.id) more.passes);
-    }
+    search (
+      arith,
+      has_tracks l (t.id + 1) ts (at + track_size at bytes) bytes rest narrow good.1,
+      append_assoc (track_bytes t) (flat_map track_bytes ts) rest,
+      has_track l from t at bytes,
+      track_there l from t at bytes,
+      length-append (track_bytes t) (flat_map track_bytes ts),
+      both_pass (track_tests l from at bytes),
+      track_passes l from t at bytes,
+    )

@@ -157,13 +157,7 @@ above_alike least (t ∷ ts) above = (above.0, above_alike (t.id + 1) ts above.1
 -- a track's number bears on none of its bounds
 valid_numbered : (m block track number : ℕ) (t : Track) → IsValidTrack m block track t
     → IsValidTrack m block track (record t { number = number })
-valid_numbered m block track number t valid = record {
-  given = valid.given;
-  gain = valid.gain;
-  layout = valid.layout;
-  half_full = valid.half_full;
-  blocks = valid.blocks;
-}
+valid_numbered m block track number t valid = search valid
 
 tracks_valid_alike : (m block track : ℕ) (ts : List Track) → AllValidTracks m block track ts
     → AllValidTracks m block track (map unnumbered ts)

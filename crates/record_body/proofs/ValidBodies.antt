@@ -1,12 +1,12 @@
 -- Where all tests pass, what the bytes say is valid.
-use Rattle.record_body.proofs.Common.{◌≡◌, ℕ, zero, suc, ◌+◌, ◌-◌, ◌^◌, ◌≤◌, ◌<◌, ◌==◌, inl, inr, if◌then◌else◌}
-use Rattle.record_body.proofs.Common.{slice_index, nat_lt, Bool, true, false, None, List, [], length, refl, arith}
-use Rattle.record_body.proofs.Common.{subst, lt-ltb, cases_Bool, NoneEmpty, AllFull, IsHalfFull, block_lens, blocks_len}
+use Rattle.record_body.proofs.Common.{◌≡◌, ℕ, zero, suc, ◌+◌, ◌-◌, ◌^◌, ◌≤◌, ◌<◌, ◌==◌, if◌then◌else◌}
+use Rattle.record_body.proofs.Common.{slice_index, nat_lt, Bool, true, false, None, List, length, refl, arith}
+use Rattle.record_body.proofs.Common.{lt-ltb, NoneEmpty, AllFull, IsHalfFull, block_lens, blocks_len}
 use Rattle.record_body.proofs.Common.{BlockRef, AreClips, AllHalfFull, end_of, field, first_failed, block_at, blocks_at}
 use Rattle.record_body.proofs.Common.{lens_at, block_count, clip_end_at, clip_size, clips_at, clip_count, track_at}
 use Rattle.record_body.proofs.Common.{track_size, tracks_at, track_count, edit_at, body_at, AllGiven, AllClipsGiven}
 use Rattle.record_body.proofs.Common.{IsValidTrack, AllValidTracks, IsValidBody, Edit, Undo, Redo, Purge, least_len}
-use Rattle.record_body.proofs.Common.{block_tests, blocks_tests, clip_head_tests, clip_tests, clips_tests}
+use Rattle.record_body.proofs.Common.{block_tests, blocks_tests, clip_tests, clips_tests}
 use Rattle.record_body.proofs.Common.{settings_tests, track_tests, tracks_tests, head_tests, edit_tests, limits_at}
 use Rattle.record_body.proofs.Common.{body_tests, Limits, Before, Track, AreUnnumbered, AreAbove, IsBytes, Pass}
 use Rattle.record_body.proofs.Common.{all_pass}
@@ -20,15 +20,10 @@ pub record Bounded (l : Limits) (several : Bool) (before : ℕ) (b : BlockRef) :
   pub fits : b.len ≤ l.block_size
   pub full : least_len l.block_size several ≤ b.len
 
-pub bounded : (l : Limits) (several : Bool) (before at : ℕ) (bytes : List ℕ) → Pass (block_tests l several before at bytes)
+pub bounded : (l : Limits) (several : Bool) (before at : ℕ) (bytes : List ℕ)
+    → Pass (block_tests l several before at bytes)
     → Bounded l several before (block_at at bytes)
-bounded l several before at bytes pass = record {
-  given = (omega (arith, pass.0), omega (arith, pass.0, pass.1.0));
-  near = omega (arith, pass.1.1.0);
-  some = omega (arith, pass.1.1.1.0);
-  fits = omega (arith, pass.1.1.1.1.0);
-  full = omega (arith, pass.1.1.1.1.1.0);
-}
+bounded l several before at bytes pass = search arith
 
 pub same_lens : (count at : ℕ) (bytes : List ℕ) → lens_at count at bytes ≡ blocks_len (blocks_at count at bytes)
 same_lens zero at bytes = refl
@@ -41,11 +36,7 @@ pub valid_blocks : (l : Limits) (several : Bool) (count before at : ℕ) (bytes 
     × (before + lens_at count at bytes ≤ 2 ^ 32)
 valid_blocks l several zero before at bytes h e = (tt, tt, omega (arith, h))
 valid_blocks l several (suc count) before at bytes h e =
-    let p = pass_parts (block_tests l several before at bytes) _ e in
-    let b = bounded l several before at bytes p.0 in
-    let rest =
-    valid_blocks l several count (before + field (at + 8) 4 bytes) (at + 12) bytes (omega (arith, h, b.near)) p.1 in
-    ((b.given.0, b.given.1, rest.0), (omega (arith, b.some), rest.1), omega (arith, rest.2))
+    search (arith, valid_blocks l several count (before + field (at + 8) 4 bytes) (at + 12) bytes, pass_parts, bounded)
 
 pub full_blocks : (l : Limits) (count before at : ℕ) (bytes : List ℕ) → Pass (blocks_tests l true count before at bytes)
     → AllFull l.block_size (block_lens (blocks_at count at bytes))
@@ -59,13 +50,8 @@ pub half_full : (l : Limits) (count before at : ℕ) (bytes : List ℕ)
     → Pass (blocks_tests l (nat_lt 1 count) count before at bytes)
     → IsHalfFull l.block_size (block_lens (blocks_at count at bytes))
 half_full l zero before at bytes e = tt
-half_full l (suc zero) before at bytes e =
-    let p = pass_parts (block_tests l (nat_lt 1 1) before at bytes) [] e in
-    let b = bounded l (nat_lt 1 1) before at bytes p.0 in
-    (omega (arith, b.some), b.fits)
-half_full l (suc (suc count)) before at bytes e =
-    full_blocks l (suc (suc count)) before at bytes (subst
-    (λ s. Pass (blocks_tests l s (suc (suc count)) before at bytes)) (lt-ltb 1 (suc (suc count)) (omega arith)) e)
+half_full l (suc zero) before at bytes e = search (arith, pass_parts, bounded)
+half_full l (suc (suc count)) before at bytes e = search (arith, full_blocks, lt-ltb)
 
 -- a clip in its bounds
 pub record ValidClip (l : Limits) (from at : ℕ) (bytes : List ℕ) : Type 0 where
@@ -84,20 +70,7 @@ some_samples (suc count) at bytes p h = omega (arith, h.0)
 
 pub valid_clip : (l : Limits) (from at : ℕ) (bytes : List ℕ) → Pass (clip_tests l from at bytes)
     → ValidClip l from at bytes
-valid_clip l from at bytes e =
-    let p = pass_parts (clip_head_tests l from at bytes) _ e in
-    let near : field at 8 bytes ≤ 2 ^ 32 = omega (arith, p.0.1.0) in
-    let blocks = valid_blocks l (nat_lt 1 (block_count at bytes)) (block_count at bytes) (field at 8 bytes)
-    (at + 12) bytes near p.1 in
-    record {
-      later = omega (arith, p.0.0);
-      near = near;
-      end = blocks.2;
-      given = blocks.0;
-      none_empty = blocks.1;
-      some = some_samples (block_count at bytes) (at + 12) bytes (omega (arith, p.0.1.1.0)) blocks.1;
-      half_full = half_full l (block_count at bytes) (field at 8 bytes) (at + 12) bytes p.1;
-    }
+valid_clip l from at bytes e = search (arith, pass_parts, valid_blocks, some_samples, half_full)
 
 -- clips that stand apart, after a clip that ended at a cell
 pub valid_clips : (l : Limits) (count from end at : ℕ) (bytes : List ℕ) → end ≤ 2 ^ 32
@@ -106,30 +79,18 @@ pub valid_clips : (l : Limits) (count from end at : ℕ) (bytes : List ℕ) → 
     × AllHalfFull l.block_size (clips_at count at bytes) × AllClipsGiven l.next_block (clips_at count at bytes)
 valid_clips l zero from end at bytes h e = (tt, h, tt, tt)
 valid_clips l (suc count) from end at bytes h e =
-    let p = pass_parts (clip_tests l from at bytes) _ e in
-    let c = valid_clip l from at bytes p.0 in
-    let same : clip_end_at at bytes ≡ field at 8 bytes + blocks_len (blocks_at (block_count at bytes) (at + 12) bytes) =
-    omega (arith, same_lens (block_count at bytes) (at + 12) bytes) in
-    let rest = valid_clips l count (clip_end_at at bytes + 1) (clip_end_at at bytes)
-    (at + clip_size at bytes) bytes c.end p.1 in (
-      (
-        c.later,
-        c.some,
-        c.none_empty,
-        subst (λ n. AreClips (n + 1) (clips_at count (at + clip_size at bytes) bytes)) same rest.0,
-      ),
-      subst (λ n. end_of n (clips_at count (at + clip_size at bytes) bytes) ≤ 2 ^ 32) same rest.1,
-      (c.half_full, rest.2),
-      (c.given, rest.3),
+    search (
+      arith,
+      valid_clips l count (clip_end_at at bytes + 1) (clip_end_at at bytes) (at + clip_size at bytes) bytes,
+      pass_parts,
+      valid_clip,
+      same_lens,
     )
 
 -- the id of a track in its bounds
 pub track_id : (l : Limits) (from at : ℕ) (bytes : List ℕ) → Pass (track_tests l from at bytes)
     → (1 ≤ field at 8 bytes) × (from ≤ field at 8 bytes) × (field at 8 bytes < l.next_track)
-track_id l from at bytes pass =
-    let p =
-    (pass_parts (settings_tests l from at bytes) (clips_tests l (clip_count at bytes) 0 (at + 18) bytes) pass).0 in
-    (omega (arith, p.0), omega (arith, p.1.0), omega (arith, p.0, p.1.1.0))
+track_id l from at bytes pass = search (arith, pass_parts)
 
 valid_track : (l : Limits) (from at : ℕ) (bytes : List ℕ) → Pass (track_tests l from at bytes)
     → IsValidTrack l.block_size l.next_block l.next_track (track_at at bytes)
@@ -173,20 +134,8 @@ tracks_unnumbered (suc count) at bytes = (refl, tracks_unnumbered count (at + tr
 pub valid_edit_of : (m : ℕ) (b : Before) (bytes : List ℕ) (ts : List Track) → IsBytes bytes → Pass (head_tests b bytes)
     → length ts ≡ track_count bytes → AreAbove 1 ts → AllValidTracks m (field 9 8 bytes) (field 17 8 bytes) ts
     → AreUnnumbered ts → IsValidBody m b (Edit (field 1 8 bytes) (field 9 8 bytes) (field 17 8 bytes) ts)
-valid_edit_of m b bytes ts fit head count rising valid none = record {
-  tag_number = field_small 1 8 bytes fit;
-  tag_given = omega (arith, head.0);
-  block_least = omega (arith, head.1.0);
-  block_most = omega (arith, head.1.1.0);
-  block_later = omega (arith, head.1.1.1.0);
-  track_least = omega (arith, head.1.1.1.1.0);
-  track_most = omega (arith, head.1.1.1.1.1.0);
-  track_later = omega (arith, head.1.1.1.1.1.1.0);
-  few = omega (arith, few_tracks b bytes head, count);
-  rising = rising;
-  valid = valid;
-  unnumbered = none;
-}
+valid_edit_of m b bytes ts fit head count rising valid none =
+    search (arith, field_small 1 8 bytes fit, few_tracks b bytes head)
 
 valid_edit : (m : ℕ) (b : Before) (bytes : List ℕ) → IsBytes bytes → Pass (edit_tests m b bytes)
     → IsValidBody m b (edit_at bytes)
@@ -206,8 +155,10 @@ valid_other false false n m b h = h
 
 pub valid_body : (m : ℕ) (b : Before) (bytes : List ℕ) → IsBytes bytes → Pass (body_tests m b bytes)
     → IsValidBody m b (body_at bytes)
-valid_body m b bytes fit pass = elim (cases_Bool (slice_index bytes 0 == 1)) [
-  | inl one ↦ rw one (valid_edit m b bytes fit (rw one at pass.1.1))
-  | inr other ↦ rw other (valid_other (slice_index bytes 0 == 2) (slice_index bytes 0 == 3) (field 1 8 bytes) m b
-      (field_small 1 8 bytes fit))
-]
+valid_body m b bytes fit pass =
+    search (
+      arith,
+      valid_edit m b bytes fit,
+      valid_other (slice_index bytes 0 == 2) (slice_index bytes 0 == 3) (field 1 8 bytes) m b,
+      field_small 1 8 bytes fit,
+    )

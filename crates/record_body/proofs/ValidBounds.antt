@@ -18,34 +18,21 @@ IsFit l several b = (least_len l.block_size several ≤ b.len) × (b.len ≤ l.b
 full_fit : (l : Limits) (several : Bool) (bs : List BlockRef) → AllFull l.block_size (block_lens bs)
     → AllByRecursion (IsFit l several) bs
 full_fit l several [] full = tt
-full_fit l several (b ∷ bs) full =
-    ((least_half l.block_size several b.len full.0.0, full.0.1), full_fit l several bs full.1)
+full_fit l several (b ∷ bs) full = search (arith, full_fit l several bs full.1, least_half)
 
 fit_good : (l : Limits) (several : Bool) (before : ℕ) (bs : List BlockRef)
     → NoneEmpty bs → before + blocks_len bs ≤ 2 ^ 32 → AllGiven l.next_block bs → AllByRecursion (IsFit l several) bs
     → AreGoodBlocks l several before bs
 fit_good l several before [] some short given fit = tt
-fit_good l several before (b ∷ bs) some short given fit = (
-  record {
-    valid = given.0;
-    given = given.1;
-    short = omega arith;
-    some = some.0;
-    fits = fit.0.1;
-    enough = fit.0.0;
-  },
-  fit_good l several (before + b.len) bs some.1 (omega arith) given.2 fit.1,
-)
+fit_good l several before (b ∷ bs) some short given fit =
+    search (arith, fit_good l several (before + b.len) bs some.1 (omega arith) given.2 fit.1)
 
 blocks_good : (l : Limits) (before : ℕ) (bs : List BlockRef) → NoneEmpty bs
     → before + blocks_len bs ≤ 2 ^ 32 → AllGiven l.next_block bs → IsHalfFull l.block_size (block_lens bs)
     → AreGoodBlocks l (nat_lt 1 (length bs)) before bs
 blocks_good l before [] some short given full = tt
-blocks_good l before (b ∷ []) some short given full =
-    fit_good l false before (b ∷ []) some short given ((omega arith, full.1), tt)
-blocks_good l before (b ∷ c ∷ bs) some short given full =
-    let several = nat_lt 1 (length (b ∷ c ∷ bs)) in
-    fit_good l several before (b ∷ c ∷ bs) some short given (full_fit l several (b ∷ c ∷ bs) full)
+blocks_good l before (b ∷ []) some short given full = search (arith, fit_good)
+blocks_good l before (b ∷ c ∷ bs) some short given full = search (arith, fit_good, full_fit)
 
 full_blocks_few : (m : ℕ) (bs : List BlockRef) → 4 ≤ m → AllFull m (block_lens bs) → 2 * length bs ≤ blocks_len bs
 full_blocks_few m [] large full = omega arith
@@ -74,30 +61,18 @@ clips_good : (l : Limits) (at from : ℕ) (cs : List Clip) → 4 ≤ l.block_siz
     → AllHalfFull l.block_size cs → AllClipsGiven l.next_block cs → AreGoodClips l from cs
 clips_good l at from [] large apart short full given = tt
 clips_good l at from (c ∷ cs) large apart short full given =
-    let end = clips_short (clip_end c) cs apart.3 in (
-      record {
-        behind = apart.0;
-        reached = omega (arith, end, short);
-        some = some_block c.blocks apart.1;
-        few = half_full_few l.block_size c.blocks large full.0 (omega (arith, end, short));
-        blocks = blocks_good l c.start c.blocks apart.2 (omega (arith, end, short)) given.0 full.0;
-      },
+    search (
+      arith,
       clips_good l (clip_end c) (clip_end c + 1) cs large apart.3 short full.1 given.1,
+      clips_short (clip_end c) cs apart.3,
+      some_block c.blocks apart.1,
+      half_full_few l.block_size c.blocks large full.0,
+      blocks_good l c.start c.blocks apart.2,
     )
 
 pub tracks_good : (l : Limits) (from least : ℕ) (ts : List Track) → 4 ≤ l.block_size → from ≤ least → 1 ≤ least
     → AreAbove least ts → AllValidTracks l.block_size l.next_block l.next_track ts → AreUnnumbered ts
     → AreGoodTracks l from ts
 tracks_good l from least [] large le some above valid none = tt
-tracks_good l from least (t ∷ ts) large le some above valid none = (
-  record {
-    some = omega (arith, above.0);
-    above = omega (arith, above.0);
-    given = valid.0.given;
-    gain = valid.0.gain;
-    number = none.0;
-    few = layout_few t.layout valid.0.layout;
-    clips = clips_good l 0 0 t.layout large valid.0.layout.apart valid.0.layout.few valid.0.half_full valid.0.blocks;
-  },
-  tracks_good l (t.id + 1) (t.id + 1) ts large (omega arith) (omega arith) above.1 valid.1 none.1,
-)
+tracks_good l from least (t ∷ ts) large le some above valid none =
+    search (arith, tracks_good l (t.id + 1) (t.id + 1) ts large, layout_few, clips_good)

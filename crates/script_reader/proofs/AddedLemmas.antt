@@ -14,7 +14,7 @@ use Rattle.editor_state.specs.Vaults.{VaultCountedBy}
 use Rattle.script_text.specs.Grammar.{is_silent, line_of}
 use Rattle.studio_seats.specs.Deeds.{commits, deed, entries_of, number_after}
 use Rattle.studio_seats.specs.{declared.deed.Deed.Deed, Merge.by_seat, Merge.deeds_of, Merge.numbers_of}
-use Rattle.studio_seats.proofs.MergeLemmas.{deeds_append, deeds_others, numbers_append, numbers_others}
+use Rattle.studio_seats.proofs.MergeLemmas.{deeds_append, numbers_append, numbers_others, own_order}
 use Rattle.studio_seats.proofs.{FaultLemmas.rose_first, FaultLemmas.rose_last, Grown.number_append}
 use Rattle.wav_pcm.specs.Written.{MayBegin}
 use Rattle.sound_bounce.specs.Bounces.{BounceDeeds, FaultsOf, IsUnread, text_by}
@@ -23,11 +23,6 @@ use Rattle.script_reader.specs.Place.{batch, Bounces, CountsFaults, Enters, Plac
 use Rattle.script_reader.specs.Answering.{Next, AnswersLines, Turn}
 use Rattle.script_reader.proofs.BounceLemmas.{bounce_spares, none_numbered}
 use Rattle.pcm_base.specs.declared.refusal.Refusal.TheVariants as refusal
-
-own_deed : (seat : ℕ) (c : Command) (what : Result Reply Refusal) (sound : SoundMove)
-    → deeds_of (by_seat seat) (deed seat (Line c) what sound ∷ []) ≡ deed seat (Line c) what sound ∷ []
-own_deed seat c what sound =
-    ap (λ (b : Bool). (if b then deed seat (Line c) what sound ∷ [] else []) ++ []) (eq-eqb seat seat refl)
 
 -- a line is one commit or none
 one_or_none : (b : Bool) (n : ℕ) → counted_from (n + 1) (if b then 1 else 0)
@@ -69,14 +64,15 @@ spares_vault None what old new h calm some = cc
 spares_vault (Some name) (Ok r) old new h calm some = tt
 spares_vault (Some name) (Err why) old new h calm some = spares_by why old new h calm
 
+-- what no line changes of a place
+abbrev settled : Place → ℕ × ℕ × ℕ × Bool
+settled p = (p.seat, p.first, p.rate, p.tells)
+
 -- what one line adds
 record AddsOne (p q : Place) : Type 0 where
   added : List Deed
   seen : q.seen ≡ p.seen ++ added
-  seat : q.seat ≡ p.seat
-  first : q.first ≡ p.first
-  rate : q.rate ≡ p.rate
-  tells : q.tells ≡ p.tells
+  same : settled q ≡ settled p
   numbers : q.commits ≡ p.commits ++ numbers_of (by_seat p.seat) (number_after p.first p.seen) added
   sounds : IsTrue p.tells → LineMoves p.rate (deeds_of (by_seat p.seat) added) p.sounds q.sounds
   faults : p.faults ≤ q.faults
@@ -87,10 +83,7 @@ adds_none : (p q : Place) (used : Bool) → q ≡ record p { used_up = used } �
 adds_none p q used is = record {
   added = [];
   seen = ap (λ (z : Place). z.seen) is ∙ sym (append-nil p.seen);
-  seat = ap (λ (z : Place). z.seat) is;
-  first = ap (λ (z : Place). z.first) is;
-  rate = ap (λ (z : Place). z.rate) is;
-  tells = ap (λ (z : Place). z.tells) is;
+  same = ap settled is;
   numbers = ap (λ (z : Place). z.commits) is ∙ sym (append-nil p.commits);
   sounds = λ told. record { moves = inl (ap (λ (z : Place). z.sounds) is) };
   faults = let same = ap (λ (z : Place). z.faults) is in omega (arith, same);
@@ -105,8 +98,7 @@ module _ (p q : Place) (c : Command) (r : Reply) (h : Enters p c r q) where
   n = number_after p.first p.seen
 
   own_is : deeds_of (by_seat p.seat) (h.between ++ e ∷ []) ≡ e ∷ []
-  own_is = deeds_append (by_seat p.seat) h.between (e ∷ [])
-      ∙ (λ i. deeds_others p.seat h.between h.by_others i ++ own_deed p.seat c h.what e.sound i)
+  own_is = own_order p.seat [] h.between e refl h.by_others
 
   numbers_are : numbers_of (by_seat p.seat) n (h.between ++ e ∷ [])
       ≡ (if made_commit h.what c then number_after (number_after n h.between) (e ∷ []) ∷ [] else [])
@@ -129,10 +121,7 @@ module _ (p q : Place) (c : Command) (r : Reply) (h : Enters p c r q) where
   adds_turn = record {
     added = h.between ++ e ∷ [];
     seen = ap (λ (z : Place). z.seen) h.after ∙ append_assoc p.seen h.between (e ∷ []);
-    seat = ap (λ (z : Place). z.seat) h.after;
-    first = ap (λ (z : Place). z.first) h.after;
-    rate = ap (λ (z : Place). z.rate) h.after;
-    tells = ap (λ (z : Place). z.tells) h.after;
+    same = ap settled h.after;
     numbers = ap (λ (z : Place). z.commits) h.after ∙ ap (λ (l : List ℕ). p.commits ++ l)
         (ap (λ (m : ℕ). if made_commit h.what c then m ∷ [] else []) told_at ∙ sym numbers_are);
     sounds = λ told. record { moves = inl (turn_sounds told) };
@@ -167,10 +156,7 @@ adds_bounce p q name r h =
     record {
       added = h.added;
       seen = ap (λ (z : Place). z.seen) h.after;
-      seat = ap (λ (z : Place). z.seat) h.after;
-      first = ap (λ (z : Place). z.first) h.after;
-      rate = ap (λ (z : Place). z.rate) h.after;
-      tells = ap (λ (z : Place). z.tells) h.after;
+      same = ap settled h.after;
       numbers = ap (λ (z : Place). z.commits) h.after ∙ sym (append-nil p.commits)
           ∙ ap (λ (l : List ℕ). p.commits ++ l) (sym (none_numbered p.seat n h.added h.asks));
       sounds = λ told. moves_by p.rate own p.sounds q.sounds h.unread (
@@ -199,18 +185,19 @@ module _ (p mid q : Place) where
 
   adds_both : AddsOne p mid → Adds mid q → Adds p q
   adds_both h k =
-      let seat = h.seat in
+      let seat : mid.seat ≡ p.seat = λ i. (h.same i).0 in
+      let tells : mid.tells ≡ p.tells = λ i. (h.same i).3 in
       let n = number_after p.first p.seen in
       let at : number_after mid.first mid.seen ≡ number_after n h.added =
-      (λ i. number_after (h.first i) (h.seen i)) ∙ number_append p.first p.seen h.added in
+      (λ i. number_after (h.same i).1 (h.seen i)) ∙ number_append p.first p.seen h.added in
       let parts : deeds_in (h.added ++ k.added) ≡ deeds_in h.added ++ deeds_in k.added =
       deeds_append (by_seat p.seat) h.added k.added in
       record {
         added = h.added ++ k.added;
         seen = k.seen ∙ (ap (λ (l : List Deed). l ++ k.added) h.seen ∙ append_assoc p.seen h.added k.added);
         seat = k.seat ∙ seat;
-        first = k.first ∙ h.first;
-        tells = k.tells ∙ h.tells;
+        first = k.first ∙ (λ i. (h.same i).1);
+        tells = k.tells ∙ tells;
         numbers = k.numbers ∙ (λ i. h.numbers i ++ numbers_of (by_seat (seat i)) (at i) k.added)
             ∙ append_assoc p.commits (numbers_of (by_seat p.seat) n h.added)
             (numbers_of (by_seat p.seat) (number_after n h.added) k.added)
@@ -221,8 +208,8 @@ module _ (p mid q : Place) where
         sounds = λ told. (
           mid.sounds,
           h.sounds told,
-          subst (λ (m : ℕ). FollowsLines m mid.sounds k.lines q.sounds) h.rate
-              (k.sounds (subst (λ (b : Bool). IsTrue b) (sym h.tells) told)),
+          subst (λ (m : ℕ). FollowsLines m mid.sounds k.lines q.sounds) (λ i. (h.same i).2)
+              (k.sounds (subst (λ (b : Bool). IsTrue b) (sym tells) told)),
         );
         faults = let a = h.faults in let b = k.faults in omega (arith, a, b);
         spares = λ calm.

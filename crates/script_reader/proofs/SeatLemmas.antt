@@ -10,9 +10,9 @@ use Rattle.disk_model.specs.declared.store.Store.{Ghosts}
 use Rattle.pin_turn.specs.declared.view.View.{View}
 use Rattle.editor_state.specs.Applied.{IsTold, move_of, reply_of}
 use Rattle.editor_state.specs.{Core.Core, Vaults.VaultCounted, Took.as_reply}
-use Rattle.studio_seats.specs.Desks.{Says, Spends, Turned, asked, spent, views}
-use Rattle.studio_seats.specs.declared.{deed.Deed.Deed, held.Held.Held}
-use Rattle.studio_seats.specs.{Deeds.deed, Deeds.number_after, Stands.origin, Onward.Onward}
+use Rattle.studio_seats.specs.Desks.{Says, Spends, Turned, asked, views}
+use Rattle.studio_seats.specs.Deeds.{deed, number_after}
+use Rattle.studio_seats.specs.{declared.deed.Deed.Deed, declared.held.Held.Held, Stands.origin, Onward.Onward}
 use Rattle.studio_seats.proofs.OnwardLemmas.{onward_on, onward_turn}
 use Rattle.studio_seats.proofs.Turns.{number_on, said_number, turned_number}
 use Rattle.script_reader.specs.Place.{CountsFaults, Enters, made_commit, place_of, with_number}
@@ -47,16 +47,13 @@ module _ {D V : Type 0} (disk : Ghosts D) (vaults : vault.Ghosts V) (start : Cor
       {A : Type 0} (said : Said A) → Says (origin disk vaults start) (asked c what sound) said (views v w)
       → number_after start.commit_number v.seen ≤ number_after start.commit_number w.seen
   seen_more v w c what sound {A} said h = ⊎_elim
-      (λ (x : Turned (origin disk vaults start) (asked c what sound) said.at (views v w)).
+      (λ x.
       let one = number_on start.commit_number v.seen x.between in
       let two = number_on start.commit_number (v.seen ++ x.between) (deed v.number c what sound ∷ []) in
-      let seen : number_after start.commit_number w.seen
-      ≡ number_after start.commit_number ((v.seen ++ x.between) ++ deed v.number c what sound ∷ []) =
-      ap (λ (z : View (Held D V disk) Deed). number_after start.commit_number z.seen) x.view in
+      let seen = ap (λ (z : View (Held D V disk) Deed). number_after start.commit_number z.seen) x.view in
       omega (arith, one, two, seen))
-      (λ (x : Spends v said w).
-      let seen : number_after start.commit_number w.seen ≡ number_after start.commit_number v.seen =
-      ap (λ (z : View (Held D V disk) Deed). number_after start.commit_number z.seen) x.view in
+      (λ x.
+      let seen = ap (λ (z : View (Held D V disk) Deed). number_after start.commit_number z.seen) x.view in
       omega (arith, seen))
       h
 
@@ -110,13 +107,6 @@ module _ {D V : Type 0} (disk : Ghosts D) (vaults : vault.Ghosts V) (start : Cor
         let stays : max last said.at ≡ last = omega (arith, none) in
         λ i. place_of start (h.view i) (stays i) numbers tells (same i) (quiet i)
 
-    not_ok : {A : Type 0} (P : Type 0) (x : A) (what : Result A Refusal) → what ≡ Ok x → what ≡ Err spent → P
-    not_ok P x what a b = absurd (cc)
-
-    reason_is : {A : Type 0} (reason : Refusal) (what : Result A Refusal) → what ≡ Err reason → what ≡ Err spent
-        → reason ≡ spent
-    reason_is reason what a b = cc
-
     -- the count of faults, by what a turn told of it
     counts : (name : Option (List ℕ)) (r : Reply) (what : Result (Unit {0}) Refusal)
         → (IsSome name → VaultCounted what old new)
@@ -125,63 +115,41 @@ module _ {D V : Type 0} (disk : Ghosts D) (vaults : vault.Ghosts V) (start : Cor
     counts (Some name) r (Ok x) named silent = named refl
     counts (Some name) r (Err why) named silent = named refl
 
-    told_count : (r : Reply) (said : Said (Unit {0})) (what : Result (Unit {0}) Refusal) → said.what ≡ what
-        → Turned (origin disk vaults start) (asked (Line c) (as_reply (λ _. r) said.what) sound) said.at (views v w)
-        → (w.used_up ≡ false → IsSome (name_in_line c) → VaultCounted said.what old new)
-        → (name_in_line c ≡ None → new ≡ old) → CountsFaults (name_in_line c) (as_reply (λ _. r) what) old new
-    told_count r said what is x named silent =
-        let unspent : w.used_up ≡ false = ap (λ (z : View (Held D V disk) Deed). z.used_up) x.view ∙ x.unspent in
-        subst (λ (z : Result (Unit {0}) Refusal). CountsFaults (name_in_line c) (as_reply (λ _. r) z) old new) is
-        (counts (name_in_line c) r said.what (named unspent) silent)
+    module _ (r : Reply) (said : Said (Unit {0})) (last : ℕ) (numbers : List ℕ)
+        (says : Says (origin disk vaults start) (asked (Line c) (as_reply (λ _. r) said.what) sound) said (views v w))
+        (low : last ≤ number_after start.commit_number v.seen)
+        (heard : IsTold (Line c) tells → Heard (name_in_line c) sound before after)
+        (named : w.used_up ≡ false → IsSome (name_in_line c) → VaultCounted said.what old new)
+        (silent : name_in_line c ≡ None → new ≡ old) (turn : IsTurn c) where
+      -- a turn that was answered so
+      told : (what : Result (Unit {0}) Refusal) (numbers' : List ℕ) → said.what ≡ what
+          → Turned (origin disk vaults start) (asked (Line c) (as_reply (λ _. r) said.what) sound) said.at (views v w)
+          → numbers' ≡ with_number (made_commit (as_reply (λ _. r) what) c) numbers said.at
+          → Enters (place_of start v last numbers tells before old) c (reply_of (as_reply (λ _. r) what))
+          (place_of start w (max last said.at) numbers' tells after new)
+      told what numbers' is x listed =
+          let unspent : w.used_up ≡ false = ap (λ (z : View (Held D V disk) Deed). z.used_up) x.view ∙ x.unspent in
+          enters (as_reply (λ _. r) what) said.at last numbers numbers'
+          (subst (λ (z : Result (Unit {0}) Refusal).
+          Turned (origin disk vaults start) (asked (Line c) (as_reply (λ _. r) z) sound) said.at (views v w)) is x)
+          low listed heard
+          (subst (λ (z : Result (Unit {0}) Refusal). CountsFaults (name_in_line c) (as_reply (λ _. r) z) old new) is
+          (counts (name_in_line c) r said.what (named unspent) silent))
 
-    pub ok_turn : (r : Reply) (said : Said (Unit {0})) (last : ℕ) (numbers numbers' : List ℕ) → said.what ≡ Ok tt
-        → Says (origin disk vaults start) (asked (Line c) (as_reply (λ _. r) said.what) sound) said (views v w)
-        → last ≤ number_after start.commit_number v.seen
-        → numbers' ≡ with_number (made_commit (Ok r) c) numbers said.at
-        → (IsTold (Line c) tells → Heard (name_in_line c) sound before after)
-        → (w.used_up ≡ false → IsSome (name_in_line c) → VaultCounted said.what old new)
-        → (name_in_line c ≡ None → new ≡ old) → IsTurn c
-        → Turn (place_of start v last numbers tells before old) (Ok c) r
-        (place_of start w (max last said.at) numbers' tells after new)
-    ok_turn r said last numbers numbers' ok h low listed heard named silent turn = ⊎_elim
-        (λ (x : Turned (origin disk vaults start) (asked (Line c) (as_reply (λ _. r) said.what) sound) said.at
-        (views v w)).
-        inl (
-          turn,
-          enters (Ok r) said.at last numbers numbers' (subst
-              (λ (z : Result (Unit {0}) Refusal).
-              Turned (origin disk vaults start) (asked (Line c) (as_reply (λ _. r) z) sound) said.at (views v w))
-              ok x)
-              low listed heard (told_count r said (Ok tt) ok x named silent),
-        ))
-        (λ (x : Spends v said w). not_ok (Turn (place_of start v last numbers tells before old) (Ok c) r
-        (place_of start w (max last said.at) numbers' tells after new)) tt said.what ok x.what)
-        h
+      pub ok_turn : (numbers' : List ℕ) → said.what ≡ Ok tt
+          → numbers' ≡ with_number (made_commit (Ok r) c) numbers said.at
+          → Turn (place_of start v last numbers tells before old) (Ok c) r
+          (place_of start w (max last said.at) numbers' tells after new)
+      ok_turn numbers' ok listed = ⊎_elim (λ x. inl (turn, told (Ok tt) numbers' ok x listed))
+          (λ x. absurd (cc (sym ok ∙ x.what))) says
 
-    pub err_turn : (r : Reply) (reason : Refusal) (said : Said (Unit {0})) (last : ℕ) (numbers : List ℕ)
-        → said.what ≡ Err reason
-        → Says (origin disk vaults start) (asked (Line c) (as_reply (λ _. r) said.what) sound) said (views v w)
-        → last ≤ number_after start.commit_number v.seen
-        → (IsTold (Line c) tells → Heard (name_in_line c) sound before after)
-        → (w.used_up ≡ true → (after ≡ before) × (new ≡ old))
-        → (w.used_up ≡ false → IsSome (name_in_line c) → VaultCounted said.what old new)
-        → (name_in_line c ≡ None → new ≡ old) → IsTurn c
-        → Turn (place_of start v last numbers tells before old) (Ok c) (Refused reason)
-        (place_of start w (max last said.at) numbers tells after new)
-    err_turn r reason said last numbers err h low heard still named silent turn = ⊎_elim
-        (λ (x : Turned (origin disk vaults start) (asked (Line c) (as_reply (λ _. r) said.what) sound) said.at
-        (views v w)).
-        inl (
-          turn,
-          enters (Err reason) said.at last numbers numbers (subst
-              (λ (z : Result (Unit {0}) Refusal).
-              Turned (origin disk vaults start) (asked (Line c) (as_reply (λ _. r) z) sound) said.at (views v w))
-              err x)
-              low (sym (append-nil numbers)) heard (told_count r said (Err reason) err x named silent),
-        ))
-        (λ (x : Spends v said w). inr (inl (
-          ap Refused (reason_is reason said.what err x.what),
-          (let same = still (ap (λ (z : View (Held D V disk) Deed). z.used_up) x.view) in
-              spends said last numbers x same.0 same.1),
-        )))
-        h
+      pub err_turn : (reason : Refusal) → said.what ≡ Err reason
+          → (w.used_up ≡ true → (after ≡ before) × (new ≡ old))
+          → Turn (place_of start v last numbers tells before old) (Ok c) (Refused reason)
+          (place_of start w (max last said.at) numbers tells after new)
+      err_turn reason err still = ⊎_elim
+          (λ x. inl (turn, told (Err reason) numbers err x (sym (append-nil numbers))))
+          (λ x.
+          let same = still (ap (λ (z : View (Held D V disk) Deed). z.used_up) x.view) in
+          inr (inl (cc (sym err ∙ x.what), spends said last numbers x same.0 same.1)))
+          says

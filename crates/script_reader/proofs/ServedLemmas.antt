@@ -1,6 +1,5 @@
 -- Where no device fails, a script's deeds tell of none.
-use Rattle.std.proofs.Common.{subst, if◌then◌else◌, Bool, true, false, IsSome, IfErr, List, [], ◌∷◌, ◌++◌, Result, Ok}
-use Rattle.std.proofs.Common.{Err}
+use Rattle.std.proofs.Common.{subst, IsSome, IfErr, List, [], ◌∷◌, ◌++◌, Result, Ok, Err}
 use Rattle.pcm_base.specs.{declared.answer.Reply.Reply, declared.command.Call.Call, declared.refusal.Refusal.Refusal}
 use Rattle.pcm_base.specs.{Run.name_in}
 use Rattle.disk_model.specs.declared.store.Store.{Ghosts}
@@ -12,20 +11,9 @@ use Rattle.studio_seats.specs.{Leads.IsUnharmed, Stands.StandsFor, Stands.origin
 use Rattle.studio_seats.proofs.FaultLemmas.{desks_serve}
 use Rattle.script_reader.specs.Served.{IsOfNoDevice, IsUndisturbed, ScriptsServe, TellsNoDevice}
 use Rattle.script_reader.specs.{Added.Adds, Added.IsNoVault, Added.SparesVault, Change.change, Place.Place}
-use Rattle.script_reader.proofs.AddedLemmas.{scripts_add}
+use Rattle.script_reader.proofs.{AddedLemmas.scripts_add, BounceLemmas.each_own}
 use Rattle.pcm_base.specs.declared.refusal.Refusal.TheVariants as refusal
 use Rattle.edit_ports.specs.declared.vault.Vault as vault
-
--- ---- each of a kind
-
-module _ (P : Deed → Type 0) where
-  each_if : (b : Bool) (d : Deed) (rest : List Deed) → P d → Each P rest → Each P ((if b then d ∷ [] else []) ++ rest)
-  each_if true d rest here there = (here, there)
-  each_if false d rest here there = there
-
-  each_of_kind : (kind : Deed → Bool) (ds : List Deed) → Each P ds → Each P (deeds_of kind ds)
-  each_of_kind kind [] each = tt
-  each_of_kind kind (d ∷ ds) each = each_if (kind d) d (deeds_of kind ds) each.0 (each_of_kind kind ds each.1)
 
 -- ---- no device is told of
 
@@ -39,8 +27,7 @@ fair_one c (Err (refusal.Damaged file at want have)) served unharmed spares = ab
 fair_one c (Err why) served unharmed spares = tt
 
 fair_each : (ds : List Deed) → Each (λ d. IfErr d.what (IsServed d.call)) ds → Each (λ d. IfErr d.what IsUnharmed) ds
-    → Each SparesVault ds
-    → Each TellsNoDevice ds
+    → Each SparesVault ds → Each TellsNoDevice ds
 fair_each [] served unharmed spares = tt
 fair_each (d ∷ ds) served unharmed spares =
     (fair_one d.call d.what served.0 unharmed.0 spares.0, fair_each ds served.1 unharmed.1 spares.1)
@@ -61,8 +48,8 @@ fair_added disk vaults p q start now later adds stands quiet =
     let unharmed : Each Unharmed (p.seen ++ adds.added) =
     subst (Each Unharmed) adds.seen (Each-left Unharmed q.seen later all.unharmed) in
     fair_each (deeds_of own adds.added)
-    (each_of_kind Served own adds.added (Each-right Served p.seen adds.added served))
-    (each_of_kind Unharmed own adds.added (Each-right Unharmed p.seen adds.added unharmed)) (adds.spares quiet.vault)
+    (each_own Served own adds.added (Each-right Served p.seen adds.added served))
+    (each_own Unharmed own adds.added (Each-right Unharmed p.seen adds.added unharmed)) (adds.spares quiet.vault)
 
 pub scripts_serve : {D V : Type 0} (disk : Ghosts D) (vaults : vault.Ghosts V) → ScriptsServe disk vaults
 scripts_serve disk vaults lines answers p q start now later by_line stands quiet =

@@ -1,6 +1,6 @@
 -- Where an answer tells that no turn was left.
 use Rattle.std.proofs.Common.{◌≡◌, inl, inr, ℕ, Bool, true, false, List, [], ◌∷◌, ◌++◌, Result, Ok, Err, sym, ◌∙◌, ap}
-use Rattle.std.proofs.Common.{subst}
+use Rattle.std.proofs.Common.{subst, ⊎_elim}
 use Rattle.std.specs.Prelude.{MatchBool}
 use Rattle.pcm_base.specs.declared.{answer.Answer.Answer, answer.Reply.TheVariants.Refused, command.Command.Command}
 use Rattle.pin_turn.specs.Counts.{Each}
@@ -27,13 +27,9 @@ finds_enters p q c a h = record {
 }
 
 finds_one : (p q : Place) (said : Result Command ℕ) (a : Answer) → Turn p said a.reply q → FindsOne p q a
-finds_one p q (Err column) a (inl bad, same) = record {
+finds_one p q (Err column) a (reply, same) = record {
   stays = λ used. ap (λ (z : Place). z.used_up) same ∙ used;
-  found = λ had is. absurd (cc);
-}
-finds_one p q (Err column) a (inr wants, same) = record {
-  stays = λ used. ap (λ (z : Place). z.used_up) same ∙ used;
-  found = λ had is. absurd (cc);
+  found = λ had is. ⊎_elim (λ bad. absurd (cc (sym bad ∙ is))) (λ wants. absurd (cc (sym wants ∙ is))) reply;
 }
 finds_one p q (Ok c) a (inl h) = finds_enters p q c a h.1
 finds_one p q (Ok c) a (inr (inl h)) = record {

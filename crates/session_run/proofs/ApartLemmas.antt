@@ -1,29 +1,26 @@
 -- A run in which each entry of pieces is taken apart into single pieces.
 use Rattle.session_run.proofs.Common.{◌≡◌, inl, inr, ⊎_elim, ◌∙◌, refl, sym, ap, subst, ℕ, ◌+◌, ◌≤◌, ◌<◌, ℤ}
 use Rattle.session_run.proofs.Common.{if◌then◌else◌, Bool, true, false, List, [], ◌∷◌, ◌++◌, length, drop, Result, Ok}
-use Rattle.session_run.proofs.Common.{Err, arith, Line, Pin, Answers, CarriesOut, Run, outside, Reply, Call, Track}
-use Rattle.session_run.proofs.Common.{Entry, SoundMove, Refusal, pieces_of, current, Ghosts, Each, reply_of, Core}
-use Rattle.session_run.proofs.Common.{IsHeld, IsStudio, studio_of, Deed, entries_of, entry_of, by_seat, Asks, AllTell}
-use Rattle.session_run.proofs.Common.{Chain, each_append, is_refusal, Made, NotAsked, Refused, Seats, is_by, OwnDeed}
-use Rattle.session_run.proofs.Common.{PinDeed, TrackDeed, play_calls, record_calls, record_commits, Side, pieces_apart}
+use Rattle.session_run.proofs.Common.{Err, arith, Answers, CarriesOut, Run, outside, Reply, Call, Entry, SoundMove}
+use Rattle.session_run.proofs.Common.{Refusal, pieces_of, current, Ghosts, Each, reply_of, Core, IsHeld, IsStudio}
+use Rattle.session_run.proofs.Common.{studio_of, Deed, entries_of, entry_of, by_seat, Asks, AllTell, Chain, each_append}
+use Rattle.session_run.proofs.Common.{is_refusal, Made, NotAsked, Refused, Seats, is_by, play_calls, record_calls}
+use Rattle.session_run.proofs.Common.{record_commits, Side, pieces_apart}
+use Rattle.session_run.proofs.{PromiseLemmas.plain_of, SideEntries.track_each, SideEntries.pin_each}
 use Rattle.std.proofs.lemmas.Bool.{cases_lt, eqb-true, or_cases}
 use Rattle.std.proofs.lemmas.List.{at_drop_all, length-map}
 use Rattle.std.specs.Prelude.{◌||◌}
-use Rattle.pcm_base.specs.declared.command.Call.TheVariants.{Piece}
-use Rattle.pcm_base.specs.Cells.{Project, cells_at, tracks_from}
 use Rattle.pcm_base.specs.Refusals.{◌otherwise◌, call_tests, is_empty, length_limit, no_track}
-use Rattle.pcm_base.specs.Run.{stop_test}
-use Rattle.pcm_base.specs.{declared.refusal.Refusal.TheVariants.NoTrack, Counters.counter_tests, Counters.record_test}
-use Rattle.pcm_base.specs.{History.IsHistory, State.first_point}
+use Rattle.pcm_base.specs.{declared.command.Call.TheVariants.Piece, Cells.Project, Cells.cells_at, Cells.tracks_from}
+use Rattle.pcm_base.specs.{Run.stop_test, declared.refusal.Refusal.TheVariants.NoTrack, Counters.counter_tests}
+use Rattle.pcm_base.specs.{Counters.record_test, History.IsHistory, State.first_point}
 use Rattle.model_laws.specs.{Bounds.IsBoundedStudio, Laws.pieces_done}
 use Rattle.model_laws.proofs.{OwnTests.both_passed, OwnTests.not_refused, Together.batch_pieces}
 use Rattle.editor_state.proofs.Images.ModelBounds.{bounded}
-use Rattle.studio_seats.specs.{Merge.Rises}
-use Rattle.script_reader.specs.{Calls.IsOfScript}
+use Rattle.studio_seats.specs.Merge.{Rises}
+use Rattle.script_reader.specs.Calls.{IsOfScript}
 use Rattle.desk_session.specs.{declared.opening.Opened.Opened, Sessions.IsMadeOf}
 use Rattle.session_run.specs.Entries.{call_apart}
-use Rattle.session_run.proofs.PromiseLemmas.{plain_of}
-use Rattle.pcm_base.specs.declared.answer.Reply.TheVariants as reply
 use Rattle.pcm_base.specs.declared.command.Call.TheVariants as call
 use Rattle.pcm_base.specs.Studio as model
 use Rattle.edit_ports.specs.declared.vault.Vault as vault
@@ -50,12 +47,11 @@ one t u actor c sound what h =
 -- where a track is found, one of the points is current
 there : (points : List (Project × ℕ)) (cursor track : ℕ)
     → is_empty (tracks_from track (first_point (drop cursor points))) ≡ false → cursor < length points
-there points cursor track found = ⊎_elim
-    (λ (below : cursor < length points). below)
-    (λ (past : length points ≤ cursor).
+there points cursor track found = ⊎_elim (λ below. below)
+    (λ past.
     let none : is_empty (tracks_from track (first_point (drop cursor points))) ≡ true =
     at_drop_all (λ l. is_empty (tracks_from track (first_point l))) points cursor past in
-    let no : ⊥ = cc in absurd no)
+    absurd cc)
     (cases_lt cursor (length points))
 
 -- so one is where a call of pieces was carried out
@@ -107,10 +103,8 @@ module _ {D V : Type 0} (disk : Ghosts D) (vaults : vault.Ghosts V) where
       → Run (studio_of disk old) (call_apart c (entry actor c sound what)) (studio_of disk new)
   by_call old new actor (call.Piece track tag samples) sound what is numbered h =
       pieces (studio_of disk old) (studio_of disk new) actor track tag samples sound what
-      (λ r done.
-      bounded disk old is
-      (stands disk old is (found (studio_of disk old) (studio_of disk new) track tag samples sound r done)) _)
-      numbered h
+      (λ r done. bounded disk old is (stands disk old is
+      (found (studio_of disk old) (studio_of disk new) track tag samples sound r done)) _) numbered h
   by_call old new actor c sound what is numbered h =
       one (studio_of disk old) (studio_of disk new) actor c sound what h
 
@@ -126,25 +120,6 @@ module _ {D V : Type 0} (disk : Ghosts D) (vaults : vault.Ghosts V) where
       (deeds_apart mid ds new chain told (took.held held) does.lasts.studio numbered.1)
 
 -- ---- the tags of a session
-
-own_tagged : (spent_ : Bool) (seat : ℕ) (c : Call) (what : Result Reply Refusal) (own : List Deed) → IsTagged c
-    → OwnDeed spent_ seat c what own → Each (λ d. IsTagged d.call) own
-own_tagged spent_ seat c what own is (inl one_) =
-    subst (λ (l : List Deed). Each (λ d. IsTagged d.call) l) (sym one_) (is, tt)
-own_tagged spent_ seat c what own is (inr none) =
-    subst (λ (l : List Deed). Each (λ d. IsTagged d.call) l) (sym none.1) tt
-
-track_tagged : (spent_ : Bool) (made : Side) (own : List Deed) → TrackDeed spent_ 0 made own
-    → Each (λ d. IsTagged d.call) own
-track_tagged spent_ NotAsked own h = subst (λ (l : List Deed). Each (λ d. IsTagged d.call) l) (sym h) tt
-track_tagged spent_ (Made tag) own h = own_tagged spent_ 0 (Line Track) (Ok h.0) own tt h.1
-track_tagged spent_ (Refused why) own h = own_tagged spent_ 0 (Line Track) (Err why) own tt h
-
-pin_tagged : (spent_ : Bool) (made : Side) (own : List Deed) → PinDeed spent_ 0 made own
-    → Each (λ d. IsTagged d.call) own
-pin_tagged spent_ NotAsked own h = subst (λ (l : List Deed). Each (λ d. IsTagged d.call) l) (sym h) tt
-pin_tagged spent_ (Made pin) own h = own_tagged spent_ 0 Pin (Ok (reply.Pinned pin)) own tt h
-pin_tagged spent_ (Refused why) own h = own_tagged spent_ 0 Pin (Err why) own tt h
 
 -- a line, or a turn of a bounce
 script_tagged : (c : Call) → IsOfScript c → IsTagged c
@@ -194,6 +169,6 @@ all_tagged spent_ n track opened deeds rises made =
     (each_append (λ d. IsTagged d.call) made.opening made.rest
     (subst (λ (l : List Deed). Each (λ d. IsTagged d.call) l) (sym made.opening_is)
     (each_append (λ d. IsTagged d.call) made.track_own made.pin_own
-    (track_tagged spent_ opened.recording made.track_own made.track_is)
-    (pin_tagged spent_ opened.pin made.pin_own made.pin_is)))
+    (track_each (λ d. IsTagged d.call) spent_ opened.recording made.track_own (λ what. tt) made.track_is)
+    (pin_each (λ d. IsTagged d.call) spent_ opened.pin made.pin_own (λ what. tt) made.pin_is)))
     (rest_tagged made.seats n track opened made.rest made.script_seat rises made.all made.lines made.pieces made.reads))

@@ -8,15 +8,13 @@ use Rattle.session_run.proofs.Common.{WhereMade, Beside, Does, DoesWords, HasCau
 use Rattle.session_run.proofs.Common.{WritesEnd, mic_failed, speaker_failed, status_of, Handed, Ports, handed, job}
 use Rattle.session_run.proofs.Common.{OpensNot, IsDone, IsRefused, call_fault_of, status_of_fault, FaultCounts, Done}
 use Rattle.session_run.proofs.Common.{Runs, RunsOn, RunsTo, Prints, Streams}
-use Rattle.std.proofs.{lemmas.Bool.ltb-true}
+use Rattle.std.proofs.lemmas.Bool.{ltb-true}
 use Rattle.std.specs.Prelude.{if◌then◌else◌, MatchResult}
 use Rattle.project_journal.specs.Answer.{HasFault, NoFault}
 use Rattle.editor_recovery.specs.{Causes.Causes, Found.Found}
-use Rattle.call_words.specs.{declared.asked.NewProject.NewProject}
+use Rattle.call_words.specs.declared.asked.NewProject.{NewProject}
 use Rattle.script_text.specs.Project.{made_text}
-use Rattle.session_run.specs.Last.{is_mic_fault}
-use Rattle.session_run.specs.Projects.{Checks, Lists, Makes}
-use Rattle.session_run.specs.{Streams.Output}
+use Rattle.session_run.specs.{Last.is_mic_fault, Projects.Checks, Projects.Lists, Projects.Makes, Streams.Output}
 use Rattle.edit_ports.specs.declared.sink.Sink as sink
 use Rattle.edit_ports.specs.declared.source.Source as source
 use Rattle.editor_recovery.specs.declared.fault.OpenFault.TheVariants as fault
@@ -34,24 +32,15 @@ either : (a b : Bool) → (a || b) ≡ true → (a ≡ true) ⊎ (b ≡ true)
 either true b is = inl refl
 either false b is = inr is
 
--- one count is higher than before
+-- a count is higher than before, or one of the rest is
+rise : (old new : ℕ) {rest : Bool} {Rest : Type 0} → (rest ≡ true → Rest) → (nat_lt old new || rest) ≡ true
+    → Rose old new ⊎ Rest
+rise old new {rest} next is =
+    ⊎_elim (λ h. inl (rose_of old new h)) (λ h. inr (next h)) (either (nat_lt old new) rest is)
+
 pub one_rose : (old new : FaultCounts) → any_rose old new ≡ true → OneRose old new
-one_rose old new is = elim (either _ _ is) [
-  | inl h ↦ inl (rose_of old.script new.script h)
-  | inr h ↦ elim (either _ _ h) [
-    | inl x ↦ inr (inl (rose_of old.out new.out x))
-    | inr x ↦ elim (either _ _ x) [
-      | inl y ↦ inr (inr (inl (rose_of old.store new.store y)))
-      | inr y ↦ elim (either _ _ y) [
-        | inl z ↦ inr (inr (inr (inl (rose_of old.vault new.vault z))))
-        | inr z ↦ elim (either _ _ z) [
-          | inl m ↦ inr (inr (inr (inr (inl (rose_of old.mic new.mic m)))))
-          | inr m ↦ inr (inr (inr (inr (inr (rose_of old.speaker new.speaker m)))))
-        ]
-      ]
-    ]
-  ]
-]
+one_rose old new = rise old.script new.script (rise old.out new.out (rise old.store new.store
+    (rise old.vault new.vault (rise old.mic new.mic (rose_of old.speaker new.speaker)))))
 
 -- that of a disk: a read or a change of it failed
 disk_rose : {D : Type 0} (disk : Ghosts D) (old new : D) → HasFault disk old new

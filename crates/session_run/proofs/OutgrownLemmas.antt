@@ -6,21 +6,18 @@ use Rattle.session_run.proofs.Common.{Refusal, IsSpent, Room, StaysRoom, asked, 
 use Rattle.session_run.proofs.Common.{may_have_begun, IsStudio, studio_of, AllTell, AreTold, Chain, Deed, entries_of}
 use Rattle.session_run.proofs.Common.{entry_of, carried_is, IsTooMuch, Sum, has_begun, nothing_needed, plus, faults_of}
 use Rattle.session_run.proofs.Common.{tried_project}
-use Rattle.pcm_base.specs.Run.{name_in}
-use Rattle.pcm_base.specs.{Counters.places_of}
-use Rattle.disk_model.specs.Room.{files_made}
-use Rattle.disk_model.specs.{Frames.Kept}
-use Rattle.editor_state.specs.{Exchanges.exchange_of, Left.Left, Packing.packed_by, Packing.packed_size, Packing.packs}
-use Rattle.editor_state.specs.{Took.Took, Took.asks}
-use Rattle.editor_state.proofs.Calls.RunEntries.{step_of}
-use Rattle.editor_cleanup.proofs.HeaderSizes.{packed_few}
-use Rattle.studio_seats.specs.Stands.{Does}
-use Rattle.studio_seats.specs.{Faults.AllServed}
-use Rattle.studio_seats.proofs.FaultLemmas.{desks_serve}
-use Rattle.session_run.specs.Outgrown.{NeedsAll, NeedsOne, packed_within}
 use Rattle.session_run.proofs.NeedLemmas.{Began, began, idle, mixed, not_begun, vain_most, vain_none}
 use Rattle.session_run.proofs.RoomLemmas.{HasAskedFor, IsFine, gone_few, much_more, room_on, too_much}
 use Rattle.session_run.proofs.{GoneLemmas.more_missing, MissingLemmas.missing, PromiseLemmas.plain_of}
+use Rattle.pcm_base.specs.{Run.name_in, Counters.places_of}
+use Rattle.disk_model.specs.{Room.files_made, Frames.Kept}
+use Rattle.editor_state.specs.Packing.{packed_by, packed_size, packs}
+use Rattle.editor_state.specs.{Exchanges.exchange_of, Left.Left, Took.Took, Took.asks}
+use Rattle.editor_state.proofs.Calls.RunEntries.{step_of}
+use Rattle.editor_cleanup.proofs.HeaderSizes.{packed_few}
+use Rattle.studio_seats.specs.{Stands.Does, Faults.AllServed}
+use Rattle.studio_seats.proofs.FaultLemmas.{desks_serve}
+use Rattle.session_run.specs.Outgrown.{NeedsAll, NeedsOne, packed_within}
 use Rattle.memory_project.proofs.LineLemmas.{rose_not}
 use Rattle.pcm_base.specs.declared.command.Call.TheVariants as call
 use Rattle.pcm_base.specs.declared.command.Command.TheVariants as command
@@ -35,6 +32,12 @@ pub record Grows (t : model.Studio) (es : List Entry) (before : Sum) : Type 0 wh
   pub more : Sum
   pub needs : NeedsAll t front more
   pub over : IsTooMuch tried_project (plus before more)
+
+-- where no entry is needed for that
+grows_now : (t : model.Studio) (es : List Entry) (before : Sum) → IsTooMuch tried_project (plus before nothing_needed)
+    → Grows t es before
+grows_now t es before over =
+    record { front = []; back = es; cut = refl; more = nothing_needed; needs = refl; over = over }
 
 -- how many bytes a journal has that a call puts into one header
 abbrev packed_bytes : {D : Type 0} → Core D → Call → ℕ
@@ -222,48 +225,6 @@ module _ {D V : Type 0} (disk : Ghosts D) (vaults : vault.Ghosts V) (from : Room
             stays = fine_on nothing_needed (omega (arith, next)) (omega (arith, next)) (asked_idle is);
           }
 
-  -- ---- the room was spent
-
-  grown : (rest : List Entry) → IsSpent (disk.room old.store) (asked disk new.store) → (b : Bool) → has_begun d.what ≡ b
-      → Grows t (entry_of d ∷ rest) sum
-  grown rest spent true is =
-      let b = began t u d.call d.sound d.what is answers in
-      let before = fine.given in let most = b.most in record {
-        front = entry_of d ∷ [];
-        back = rest;
-        cut = refl;
-        more = plus (one_of b) nothing_needed;
-        needs = record {
-          next = u;
-          step = step_of t u d.call d.sound d.what answers;
-          one = one_of b;
-          needs = needs_as (one_of b) (needs_begun b is);
-          rest = nothing_needed;
-          others = refl;
-          are = refl;
-        };
-        over = much_more (plus sum (one_of b)) (plus sum (plus (one_of b) nothing_needed)) (omega arith) (omega arith)
-            (omega arith)
-            (too_much from fine.room (asked disk new.store) (plus sum (one_of b)) gone (begun_in_vain d.what) fine.large
-            (asked_begun b) (gone_few disk new (plus sum (one_of b)) gone (lost b.least) (omega (arith, before, most)))
-            (vain_most d.what)
-            (subst (λ (r : Option Room). IsSpent r (asked disk new.store)) fine.is spent));
-      }
-  grown rest spent false is = let next : u.next_block ≡ t.next_block =
-      ap (λ (z : model.Studio). z.next_block) (idle t u d.call d.sound d.what is answers) in
-      let before = fine.given in record {
-        front = [];
-        back = entry_of d ∷ rest;
-        cut = refl;
-        more = nothing_needed;
-        needs = refl;
-        over = too_much from fine.room (asked disk new.store) (plus sum nothing_needed) gone 0 fine.large
-            (asked_idle is)
-            (gone_few disk new (plus sum nothing_needed) gone (lost (omega (arith, next)))
-            (omega (arith, before, next))) (omega arith)
-            (subst (λ (r : Option Room). IsSpent r (asked disk new.store)) fine.is spent);
-      }
-
   -- the deed, and then others
   grown_on : (rest : List Entry) (one : Sum) → NeedsOne (has_begun d.what) t (entry_of d) one
       → Grows u rest (plus sum one) → Grows t (entry_of d ∷ rest) sum
@@ -285,6 +246,33 @@ module _ {D V : Type 0} (disk : Ghosts D) (vaults : vault.Ghosts V) (from : Room
         g.over;
   }
 
+  -- ---- the room was spent
+
+  grown : (rest : List Entry) → IsSpent (disk.room old.store) (asked disk new.store) → (b : Bool) → has_begun d.what ≡ b
+      → Grows t (entry_of d ∷ rest) sum
+  grown rest spent b is = by b is
+    where
+      -- so much was needed, which is more than there was
+      over : (one : Sum) (vain : ℕ) → HasAskedFor from (asked disk new.store) (plus sum one) gone vain → vain ≤ 1
+          → t.next_block ≤ u.next_block → u.next_block ≤ t.next_block + one.blocks
+          → IsTooMuch tried_project (plus sum one)
+      over one vain has few least most = let before = fine.given in
+          too_much from fine.room (asked disk new.store) (plus sum one) gone vain fine.large has
+          (gone_few disk new (plus sum one) gone (lost least) (omega (arith, before, most))) few
+          (subst (λ (r : Option Room). IsSpent r (asked disk new.store)) fine.is spent)
+
+      by : (b : Bool) → has_begun d.what ≡ b → Grows t (entry_of d ∷ rest) sum
+      by true is =
+          let b = began t u d.call d.sound d.what is answers in
+          grown_on rest (one_of b) (needs_begun b is) (grows_now u rest (plus sum (one_of b))
+          (much_more (plus sum (one_of b)) (plus (plus sum (one_of b)) nothing_needed) (omega arith) (omega arith)
+          (omega arith) (over (one_of b) (begun_in_vain d.what) (asked_begun b) (vain_most d.what) b.least
+          (let most = b.most in omega (arith, most)))))
+      by false is = let next : u.next_block ≡ t.next_block =
+          ap (λ (z : model.Studio). z.next_block) (idle t u d.call d.sound d.what is answers) in
+          grows_now t (entry_of d ∷ rest) sum
+          (over nothing_needed 0 (asked_idle is) (omega arith) (omega (arith, next)) (omega (arith, next)))
+
 -- ---- all of them
 
 module _ {D V : Type 0} (disk : Ghosts D) (vaults : vault.Ghosts V) (from : Room) where
@@ -295,13 +283,11 @@ module _ {D V : Type 0} (disk : Ghosts D) (vaults : vault.Ghosts V) (from : Room
       let reads = fine.reads in let changes = fine.changes in
       inl (subst (λ (z : Core D). faults_of disk z ≡ 0) (sym chain) (omega (arith, reads, changes)))
   fits old (d ∷ ds) new (mid, does, chain) sum told fine = ⊎_elim
-      (λ (same : disk.change_fault_count mid.store ≡ disk.change_fault_count old.store).
+      (λ same.
       let on = onward disk vaults from old mid d does told.0 sum fine same (told.0, tt) (has_begun d.what) refl in
-      ⊎_elim
-      (λ (none : faults_of disk new ≡ 0). inl none)
-      (λ (g : Grows (studio_of disk mid) (entries_of ds) (plus sum on.one)).
-      inr (grown_on disk vaults from old mid d does told.0 sum fine (entries_of ds) on.one on.needs g))
+      ⊎_elim (λ none. inl none)
+      (λ g. inr (grown_on disk vaults from old mid d does told.0 sum fine (entries_of ds) on.one on.needs g))
       (fits mid ds new chain (plus sum on.one) told.1 on.stays))
-      (λ (spent : IsSpent (disk.room old.store) (asked disk mid.store)).
+      (λ spent.
       inr (grown disk vaults from old mid d does told.0 sum fine (entries_of ds) spent (has_begun d.what) refl))
       (does.took told.0).changed.spent

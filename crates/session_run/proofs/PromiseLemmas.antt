@@ -1,12 +1,12 @@
 -- The promise, from what a run did.
 use Rattle.session_run.proofs.Common.{◌≡◌, refl, sym, subst, ℕ, ◌==◌, List, [], ◌∷◌, Result, Ok, Err, true, Answers}
 use Rattle.session_run.proofs.Common.{outside, result_of, Rose, Reply, Call, SoundMove, Refusal, IfErr, Ghosts, Each}
-use Rattle.session_run.proofs.Common.{reply_of, Core, IsHeld, studio_of, Deed, entries_of, entry_of, AreServed}
-use Rattle.session_run.proofs.Common.{IsServed, AllTell, Chain, Seats, is_by, Stop, Change, change, IsCauseOf}
+use Rattle.session_run.proofs.Common.{reply_of, Core, IsHeld, studio_of, Deed, entries_of, entry_of, AllTell, Chain}
+use Rattle.session_run.proofs.Common.{Seats, is_by, Stop, Change, change, IsCauseOf}
+use Rattle.session_run.proofs.EntryLemmas.{IsPlain}
 use Rattle.std.specs.Prelude.{◌||◌}
 use Rattle.editor_state.proofs.Calls.RunEntries.{plain, plain_result}
 use Rattle.session_run.specs.Promise.{IsStoppedFor}
-use Rattle.session_run.proofs.EntryLemmas.{IsPlain}
 use Rattle.pcm_base.specs.Studio as model
 use Rattle.edit_ports.specs.declared.vault.Vault as vault
 use Rattle.script_reader.specs.declared.stop.Stop.TheVariants as stop
@@ -38,21 +38,12 @@ plain_deeds disk vaults old (d ∷ ds) new (mid, does, chain) told held =
       plain_deeds disk vaults mid ds new chain told (took.held held),
     )
 
--- what holds of the answers of deeds holds of the replies of their entries
-pub each_reply : (P : Refusal → Type 0) (ds : List Deed) → Each (λ d. IfErr d.what P) ds → Each IsPlain ds
-    → Each (λ e. IfErr (result_of e.reply) P) (entries_of ds)
+-- what holds of the answers of deeds, by their calls, holds of the replies of their entries
+pub each_reply : (P : Call → Refusal → Type 0) (ds : List Deed) → Each (λ d. IfErr d.what (P d.call)) ds
+    → Each IsPlain ds → Each (λ e. IfErr (result_of e.reply) (P e.call)) (entries_of ds)
 each_reply P [] h plain = tt
 each_reply P (d ∷ ds) h plain =
-    (subst (λ (what : Result Reply Refusal). IfErr what P) (sym plain.0) h.0, each_reply P ds h.1 plain.1)
-
--- the same by their calls, of what the disk is not after
-pub all_served : (ds : List Deed) → Each (λ d. IfErr d.what (IsServed d.call)) ds → Each IsPlain ds
-    → AreServed (entries_of ds)
-all_served [] h plain = tt
-all_served (d ∷ ds) h plain = (
-  subst (λ (what : Result Reply Refusal). IfErr what (IsServed d.call)) (sym plain.0) h.0,
-  all_served ds h.1 plain.1,
-)
+    (subst (λ (what : Result Reply Refusal). IfErr what (P d.call)) (sym plain.0) h.0, each_reply P ds h.1 plain.1)
 
 -- each deed of a session is by one of its seats, of which the script's is the first
 pub each_maker : (seats : Seats) → seats.script ≡ 0 → (ds : List Deed) → Each (λ d. is_by seats d ≡ true) ds

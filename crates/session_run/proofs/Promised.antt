@@ -8,19 +8,18 @@ use Rattle.session_run.proofs.Common.{AllTell, AreTold, origin, all_told, entrie
 use Rattle.session_run.proofs.Common.{Kinds, piece_numbers, last_text, met_of, Answered, last_number, numbers_by}
 use Rattle.session_run.proofs.Common.{pieces_apart, play_line, record_line, OpensTo, Job, lent_of, Met, Promise, RunsOn}
 use Rattle.session_run.proofs.Common.{PlaysSide, RecordsSide, SoundsFollow, input, output}
-use Rattle.pcm_base.specs.{declared.limits.TheConstants.COUNTER_LIMIT, Outside.Sounds}
-use Rattle.desk_session.specs.Sessions.{place_behind}
-use Rattle.desk_session.specs.{Sides.side_number}
-use Rattle.session_run.specs.{Promise.Ended}
 use Rattle.session_run.proofs.EntryLemmas.{IsPlain, entries_as, entries_length, last_as, numbers_as}
 use Rattle.session_run.proofs.PrintedLemmas.{answered_all, broke, printed}
 use Rattle.session_run.proofs.PromiseLemmas.{each_maker, each_reply, plain_deeds, stopped_for}
 use Rattle.session_run.proofs.SessionLemmas.{found_spent, quiet, recorded}
-use Rattle.session_run.proofs.SideEntries.{pin_actor, pin_side, track_actor, track_side}
-use Rattle.session_run.proofs.SurviveLemmas.{Survives, opened_keeps, survives}
+use Rattle.session_run.proofs.SideEntries.{pin_each, pin_side, track_each, track_side}
+use Rattle.session_run.proofs.{SurviveLemmas.Survives, SurviveLemmas.opened_keeps, SurviveLemmas.survives}
 use Rattle.session_run.proofs.{AnsweredLemmas.answered, ApartLemmas.all_tagged, ApartLemmas.deeds_apart}
 use Rattle.session_run.proofs.{FourLemmas.out_stays, StatusLemmas.Counted, SeatEntries.plays_side}
 use Rattle.session_run.proofs.{SeatEntries.records_side, SoundLemmas.SoundsTo, SoundLemmas.sounds_to}
+use Rattle.pcm_base.specs.{declared.limits.TheConstants.COUNTER_LIMIT, Outside.Sounds}
+use Rattle.desk_session.specs.{Sessions.place_behind, Sides.side_number}
+use Rattle.session_run.specs.Promise.{Ended}
 
 module _ {D V M P : Type 0} (k : Kinds D V M P) (ask : DeedsAsk k.disk k.vaults) (store : D)
     (start final : Core D) (j : Job V M P)
@@ -86,8 +85,8 @@ module _ {D V M P : Type 0} (k : Kinds D V M P) (ask : DeedsAsk k.disk k.vaults)
   by_first : Each (λ d. d.actor ≡ 0) s.made.opening
   by_first = subst (λ (l : List Deed). Each (λ d. d.actor ≡ 0) l) (sym s.made.opening_is)
       (each_append (λ d. d.actor ≡ 0) track pin
-      (track_actor s.spent ran.out.opened.recording track s.made.track_is)
-      (pin_actor s.spent ran.out.opened.pin pin s.made.pin_is))
+      (track_each (λ d. d.actor ≡ 0) s.spent ran.out.opened.recording track (λ what. refl) s.made.track_is)
+      (pin_each (λ d. d.actor ≡ 0) s.spent ran.out.opened.pin pin (λ what. refl) s.made.pin_is))
 
   apart_recorder : 0 ≢ s.made.seats.recorder
   apart_recorder is = s.made.apart.script_recorder (s.made.script_seat ∙ is)
@@ -186,7 +185,7 @@ module _ {D V M P : Type 0} (k : Kinds D V M P) (ask : DeedsAsk k.disk k.vaults)
   -- no entry found a damaged file
   unharmed : Each (λ e. IfErr (result_of e.reply) IsUnharmed) all_entries
   unharmed = subst (λ (l : List Entry). Each (λ e. IfErr (result_of e.reply) IsUnharmed) l) entries_are
-      (each_reply IsUnharmed s.deeds (led.whole tell held) plain)
+      (each_reply (λ c. IsUnharmed) s.deeds (led.whole tell held) plain)
 
   -- files that no studio changes
   foreign : LeavesForeign (disk.reads store) (disk.reads final.store)

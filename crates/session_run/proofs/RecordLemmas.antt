@@ -5,12 +5,11 @@ use Rattle.session_run.proofs.Common.{Refusal, NoMemory, reply_of, Each, Each-le
 use Rattle.session_run.proofs.Common.{IsStoppedBy, Change, change, AreDone, EndsBy, IsPieceOf, Deed, entries_of}
 use Rattle.session_run.proofs.Common.{entry_of, deeds_of, pieces_by, RecorderAsks, asks_piece, entries_append}
 use Rattle.session_run.proofs.Common.{RecordOutcome, Recorded, ArePieces, record_end, input, each_own}
-use Rattle.pcm_base.specs.{Recordings.chunks_of}
-use Rattle.session_run.specs.Sides.{MicEnds, PieceRefused, Records}
-use Rattle.session_run.specs.{Last.mic_end}
 use Rattle.session_run.proofs.FreedEntries.{done_pieces, fit_pieces, fit_reclaims, pieces_as}
 use Rattle.session_run.proofs.PieceEntries.{are_pieces, done_samples, refused_samples, samples_in, zipped}
 use Rattle.session_run.proofs.{EntryLemmas.IsPlain, SpentLemmas.record_refusal}
+use Rattle.pcm_base.specs.Recordings.{chunks_of}
+use Rattle.session_run.specs.{Sides.MicEnds, Sides.PieceRefused, Sides.Records, Last.mic_end}
 use Rattle.pcm_base.specs.declared.answer.Reply.TheVariants as reply
 use Rattle.edit_ports.specs.declared.source.Source as source
 use Rattle.recorder_threads.specs.declared.microphone.MicEnd.TheVariants as mic_end
@@ -75,25 +74,19 @@ module _ (track tag : ℕ) where
           entry_of h.last,
           refl,
           fits.0.1,
-          ap reply_of h.refused ∙ ap reply.Refused (same_why why other is),
+          ap reply_of h.refused ∙ ap reply.Refused (let same : why ≡ other = cc is in same),
         );
         none = λ is. absurd (none-some why (sym is));
       }
-    where
-      same_why : (a b : Refusal) → Some a ≡ Some b → a ≡ b
-      same_why a b is = cc
   parts used (Some why) ds fit (inr h) = record {
     taken = ds;
     last = [];
     are = sym (append-nil ds);
     done = h.each;
     samples = refl;
-    refused = λ other is. inr (refl, inl (same_why other why (sym is) ∙ h.spent_is));
+    refused = λ other is. inr (refl, inl (let same : other ≡ why = cc is in same ∙ h.spent_is));
     none = λ is. absurd (none-some why (sym is));
   }
-    where
-      same_why : (a b : Refusal) → Some a ≡ Some b → a ≡ b
-      same_why a b is = cc
 
 -- what refused the recording, by what the taker was refused
 refusal : (track tag : ℕ) (kept : RecordOutcome) (told : Option Refusal) (ds : List Deed) (p : Parts track tag told ds)
@@ -110,10 +103,8 @@ refusal track tag kept told ds p whole some = by kept.refused refl
     by : (refused : Option Refusal) → kept.refused ≡ refused
         → PieceRefused track tag (record_end refused kept.end) (entries_of p.last)
     by None is = quiet kept.end (whole is)
-    by (Some why) is = ⊎_elim
-        (λ (t : told ≡ Some why). p.refused why t)
-        (λ (t : (why ≡ NoMemory) × (told ≡ None)). inr (ap entries_of (p.none t.1), inr t.0))
-        (some why is)
+    by (Some why) is =
+        ⊎_elim (λ t. p.refused why t) (λ t. inr (ap entries_of (p.none t.1), inr t.0)) (some why is)
 
 -- the line of a recording, its numbers, and the entries of its actor
 pub records : {M : Type 0} (mics : source.Ghosts M) (mic : Change M) (track tag seat first : ℕ) (deeds own : List Deed)

@@ -4,10 +4,10 @@ use Rattle.session_run.proofs.Common.{◌∷◌, ◌++◌, Result, Ok, Err, Line
 use Rattle.session_run.proofs.Common.{Each, entries_of, entry_of, number_after, Deed, spent, HadTurn, any_seat}
 use Rattle.session_run.proofs.Common.{numbers_of, is_refusal, Side, Made, NotAsked, Refused, OwnDeed, PinDeed}
 use Rattle.session_run.proofs.Common.{TrackDeed, record_commits, last_number}
-use Rattle.editor_state.specs.{Took.silent}
-use Rattle.studio_seats.specs.Deeds.{deed}
-use Rattle.session_run.specs.{Sides.IsOne, Sides.MakesSide}
 use Rattle.session_run.proofs.EntryLemmas.{IsPlain, last_as, plain_reply}
+use Rattle.editor_state.specs.Took.{silent}
+use Rattle.studio_seats.specs.Deeds.{deed}
+use Rattle.session_run.specs.Sides.{IsOne, MakesSide}
 use Rattle.pcm_base.specs.declared.answer.Reply.TheVariants as reply
 
 -- the entry of a call of the first seat
@@ -87,21 +87,22 @@ pub pin_spent : (spent_ : Bool) (made : Side) (own : List Deed) → PinDeed spen
     → Each HadTurn own → made ≡ Refused spent → spent_ ≡ true
 pin_spent spent_ made own h had is = own_spent spent_ Pin own (subst (λ (m : Side). PinDeed spent_ 0 m own) is h) had
 
--- ---- whose the opening's deeds are
+-- ---- what holds of each deed that the opening may make
 
-by_first : (spent_ : Bool) (call : Call) (what : Result Reply Refusal) (own : List Deed) → OwnDeed spent_ 0 call what own
-    → Each (λ d. d.actor ≡ 0) own
-by_first spent_ call what own (inl is) = subst (λ (l : List Deed). Each (λ d. d.actor ≡ 0) l) (sym is) (refl, tt)
-by_first spent_ call what own (inr h) = subst (λ (l : List Deed). Each (λ d. d.actor ≡ 0) l) (sym h.1) tt
+own_each : (P : Deed → Type 0) (spent_ : Bool) (call : Call) (what : Result Reply Refusal) (own : List Deed)
+    → P (deed 0 call what silent) → OwnDeed spent_ 0 call what own → Each P own
+own_each P spent_ call what own here (inl is) = subst (λ (l : List Deed). Each P l) (sym is) (here, tt)
+own_each P spent_ call what own here (inr h) = subst (λ (l : List Deed). Each P l) (sym h.1) tt
 
-pub track_actor : (spent_ : Bool) (made : Side) (own : List Deed) → TrackDeed spent_ 0 made own
-    → Each (λ d. d.actor ≡ 0) own
-track_actor spent_ NotAsked own h = subst (λ (l : List Deed). Each (λ d. d.actor ≡ 0) l) (sym h) tt
-track_actor spent_ (Made tag) own h = by_first spent_ (Line Track) (Ok h.0) own h.1
-track_actor spent_ (Refused why) own h = by_first spent_ (Line Track) (Err why) own h
+pub track_each : (P : Deed → Type 0) (spent_ : Bool) (made : Side) (own : List Deed)
+    → ((what : Result Reply Refusal) → P (deed 0 (Line Track) what silent)) → TrackDeed spent_ 0 made own → Each P own
+track_each P spent_ NotAsked own here h = subst (λ (l : List Deed). Each P l) (sym h) tt
+track_each P spent_ (Made tag) own here h = own_each P spent_ (Line Track) (Ok h.0) own (here (Ok h.0)) h.1
+track_each P spent_ (Refused why) own here h = own_each P spent_ (Line Track) (Err why) own (here (Err why)) h
 
-pub pin_actor : (spent_ : Bool) (made : Side) (own : List Deed) → PinDeed spent_ 0 made own
-    → Each (λ d. d.actor ≡ 0) own
-pin_actor spent_ NotAsked own h = subst (λ (l : List Deed). Each (λ d. d.actor ≡ 0) l) (sym h) tt
-pin_actor spent_ (Made pin) own h = by_first spent_ Pin (Ok (reply.Pinned pin)) own h
-pin_actor spent_ (Refused why) own h = by_first spent_ Pin (Err why) own h
+pub pin_each : (P : Deed → Type 0) (spent_ : Bool) (made : Side) (own : List Deed)
+    → ((what : Result Reply Refusal) → P (deed 0 Pin what silent)) → PinDeed spent_ 0 made own → Each P own
+pin_each P spent_ NotAsked own here h = subst (λ (l : List Deed). Each P l) (sym h) tt
+pin_each P spent_ (Made pin) own here h =
+    own_each P spent_ Pin (Ok (reply.Pinned pin)) own (here (Ok (reply.Pinned pin))) h
+pin_each P spent_ (Refused why) own here h = own_each P spent_ Pin (Err why) own (here (Err why)) h

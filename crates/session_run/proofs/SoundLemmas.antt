@@ -9,20 +9,19 @@ use Rattle.session_run.proofs.Common.{pin_frames, IsMixOf, AllTell, StandsFor, o
 use Rattle.session_run.proofs.Common.{AfterPin, BounceDeeds, Each, ByOthers, Bounces, Enters, Place, batch, line_deed}
 use Rattle.session_run.proofs.Common.{Next, AnswersLines, Turn, scripts_add, same_rest, SoundsFollow, BounceEntries}
 use Rattle.session_run.proofs.Common.{entries_by}
+use Rattle.session_run.proofs.{BounceEntries.bounce_entries, EntryLemmas.entries_as, EntryLemmas.none_by}
 use Rattle.std.proofs.Common.{take-append-drop, IsTrue}
 use Rattle.std.specs.{Prelude.IfOk, Prelude.OnErr, Prelude.OnOk, List.flat_map}
-use Rattle.pcm_base.specs.Run.{Follows}
-use Rattle.pcm_base.specs.{Form.IsTurn, Mix.mix_of, Wave.wav_text}
+use Rattle.pcm_base.specs.{Run.Follows, Form.IsTurn, Mix.mix_of, Wave.wav_text}
 use Rattle.editor_views.proofs.ExportLengths.{length_text}
 use Rattle.wav_pcm.specs.Written.{MayBegin}
 use Rattle.wav_pcm.proofs.GrowLaws.{begun_front}
-use Rattle.studio_seats.specs.{Pins.makes_pin}
+use Rattle.studio_seats.specs.Pins.{makes_pin}
 use Rattle.studio_seats.proofs.{Chains.chain_cut, PinLemmas.frames_at, PinLemmas.run_rate}
 use Rattle.sound_bounce.specs.Bounces.{IsOwnPin, IsUnread, TellsMix, frames_in, length_in, text_by}
 use Rattle.sound_bounce.proofs.{Sayings.mute_err, TellLemmas.bounces_tell, TellLemmas.cut_first}
 use Rattle.script_reader.proofs.AddedLemmas.{turn_sounds}
 use Rattle.session_run.specs.VaultSounds.{IsBounceOf, IsNoBounce, IsWholeFile, LineSounds, NextSounds}
-use Rattle.session_run.proofs.{BounceEntries.bounce_entries, EntryLemmas.entries_as, EntryLemmas.none_by}
 use Rattle.pcm_base.specs.Studio as model
 use Rattle.edit_ports.specs.declared.vault.Vault as vault
 
@@ -143,25 +142,19 @@ module _ {D V : Type 0} (disk : Ghosts D) (vaults : vault.Ghosts V) (start final
               (what_is ∙ sym (ap (λ (w : Result Reply Refusal). result_of (reply_of w)) what_is)) step)
               (makes d pin h.0 what_is);
         } in
-        let here : text_by p.rate own ≡ text_by start.rate own = ap (λ (n : ℕ). text_by n own) rate in
-        let there_is : wav_text mix start.rate ≡ text = ap (λ (n : ℕ). wav_text mix n) (sym same_rate) in
-        let both : OnOk x.what ((text_by p.rate own ≡ text) × (length_in own ≡ length mix))
-        × OnErr x.what ((count : ℕ) × (text_by p.rate own ≡ take count text)) = ⊎_elim
+        let Says : ℕ × ℕ → Type 0 = λ n.
+        OnOk x.what ((text_by n.0 own ≡ wav_text mix n.1) × (length_in own ≡ length mix))
+        × OnErr x.what ((count : ℕ) × (text_by n.0 own ≡ take count (wav_text mix n.1))) in
+        let both : Says (p.rate, there.rate) = ⊎_elim
         (λ (y : (pin : ℕ) × (d.what ≡ Ok (Pinned pin)) × AfterPin t.used_up pin batch x.what ds).
-        let mine : IsOwnPin y.0 own = subst (λ (l : List Deed). IsOwnPin y.0 l) (sym own_is) y.1 in (
-          ok_as (length_in own ≡ length mix) x.what (text_by p.rate own) (text_by start.rate own)
-              (wav_text mix start.rate) text here there_is (tells.whole y.0 mix mine (shows y.0 y.1)),
-          err_as x.what (text_by p.rate own) (text_by start.rate own) (wav_text mix start.rate) text here there_is
-              (tells.part y.0 mix mine (shows y.0 y.1)),
-        ))
+        let mine : IsOwnPin y.0 own = subst (λ (l : List Deed). IsOwnPin y.0 l) (sym own_is) y.1 in
+        subst Says (λ i. (sym rate i, sym same_rate i))
+        (tells.whole y.0 mix mine (shows y.0 y.1), tells.part y.0 mix mine (shows y.0 y.1)))
         (λ (y : (why : Refusal) × (d.what ≡ Err why) × (x.what ≡ Err why) × (ds ≡ [])).
         let none : text_by p.rate own ≡ [] =
-        ap (text_by p.rate) (own_is ∙ ap (λ (l : List Deed). d ∷ l) y.3) ∙ none_said p.rate d y.0 y.1 in (
-          subst (λ (r : Result ℕ Refusal). OnOk r ((text_by p.rate own ≡ text) × (length_in own ≡ length mix)))
-              (sym y.2) tt,
-          subst (λ (r : Result ℕ Refusal). OnErr r ((count : ℕ) × (text_by p.rate own ≡ take count text))) (sym y.2)
-              (0, none),
-        ))
+        ap (text_by p.rate) (own_is ∙ ap (λ (l : List Deed). d ∷ l) y.3) ∙ none_said p.rate d y.0 y.1 in
+        subst (λ (r : Result ℕ Refusal). OnOk r ((text_by p.rate own ≡ text) × (length_in own ≡ length mix))
+        × OnErr r ((count : ℕ) × (text_by p.rate own ≡ take count text))) (sym y.2) (tt, (0, none)))
         h.1 in
         record {
           name = name;
@@ -189,23 +182,15 @@ module _ {D V : Type 0} (disk : Ghosts D) (vaults : vault.Ghosts V) (start final
         makes d pin call_is what_is =
             (λ i. makes_pin (call_is i) (reply_of (what_is i)) pin) ∙ eq-eqb pin pin refl
 
-        ok_as : (L : Type 0) (what : Result ℕ Refusal) (a b c e : List ℕ) → a ≡ b → c ≡ e → OnOk what ((b ≡ c) × L)
-            → OnOk what ((a ≡ e) × L)
-        ok_as L (Ok bytes) a b c e first last h = (first ∙ h.0 ∙ last, h.1)
-        ok_as L (Err why) a b c e first last h = tt
-
-        err_as : (what : Result ℕ Refusal) (a b c e : List ℕ) → a ≡ b → c ≡ e
-            → OnErr what ((count : ℕ) × (b ≡ take count c)) → OnErr what ((count : ℕ) × (a ≡ take count e))
-        err_as (Ok bytes) a b c e first last h = tt
-        err_as (Err why) a b c e first last h = (h.0, first ∙ h.1 ∙ ap (take h.0) last)
-
   -- ---- one line
+
+  -- what no line changes of a place
+  abbrev settled : Place → ℕ × ℕ × Bool
+  settled p = (p.seat, p.rate, p.tells)
 
   -- what is left of a place after it, and its part of the deeds
   record One (p t : Place) (line : Result Command ℕ) (a : Answer) : Type 0 where
-    seat : t.seat ≡ p.seat
-    rate : t.rate ≡ p.rate
-    tells : t.tells ≡ p.tells
+    same : settled t ≡ settled p
     part : List Deed
     seen : t.seen ≡ p.seen ++ part
     sounds : LineSounds t0 (entries_of p.seen) (entries_of part) line a p.sounds t.sounds
@@ -214,9 +199,7 @@ module _ {D V : Type 0} (disk : Ghosts D) (vaults : vault.Ghosts V) (start final
   one_none : (p t : Place) (line : Result Command ℕ) (a : Answer) (used : Bool) → t ≡ record p { used_up = used }
       → One p t line a
   one_none p t line a used same = record {
-    seat = ap (λ (z : Place). z.seat) same;
-    rate = ap (λ (z : Place). z.rate) same;
-    tells = ap (λ (z : Place). z.tells) same;
+    same = ap settled same;
     part = [];
     seen = ap (λ (z : Place). z.seen) same ∙ sym (append-nil p.seen);
     sounds = inl (ap (λ (z : Place). z.sounds) same, λ name is. refl);
@@ -229,9 +212,7 @@ module _ {D V : Type 0} (disk : Ghosts D) (vaults : vault.Ghosts V) (start final
       let d : Deed = line_deed p c x.what t.sounds in
       let part : List Deed = x.between ++ d ∷ [] in
       record {
-        seat = ap (λ (z : Place). z.seat) x.after;
-        rate = ap (λ (z : Place). z.rate) x.after;
-        tells = ap (λ (z : Place). z.tells) x.after;
+        same = ap settled x.after;
         part = part;
         seen = ap (λ (z : Place). z.seen) x.after ∙ append_assoc p.seen x.between (d ∷ []);
         sounds = inl (
@@ -263,9 +244,7 @@ module _ {D V : Type 0} (disk : Ghosts D) (vaults : vault.Ghosts V) (start final
       let whole_is : whole ≡ p.seen ++ (x.added ++ left) =
       is ∙ ap (λ (l : List Deed). l ++ left) seen ∙ append_assoc p.seen x.added left in
       record {
-        seat = ap (λ (z : Place). z.seat) x.after;
-        rate = ap (λ (z : Place). z.rate) x.after;
-        tells = ap (λ (z : Place). z.tells) x.after;
+        same = ap settled x.after;
         part = x.added;
         seen = seen;
         sounds = bounce_sounds p t c name named a left x whole_is seat rate told (deeds_of (by_seat p.seat) x.added)
@@ -338,8 +317,8 @@ module _ {D V : Type 0} (disk : Ghosts D) (vaults : vault.Ghosts V) (start final
       (sym is ∙ whole_t ∙ ap (λ (l : List Deed). l ++ rest) one.seen ∙ append_assoc p.seen one.part rest) in
       subst (λ (l : List Deed). SoundsTo (entries_of l) (NextParts (line_of line) lines (a ∷ answers) p q))
       (sym left_is) (sounds_both p t q (line_of line) lines a answers rest one
-      (go answers t rest by_line (one.seat ∙ seat) (one.rate ∙ rate)
-      (subst (λ (b : Bool). IsTrue b) (sym one.tells) told) whole_t later end others))
+      (go answers t rest by_line ((λ i. (one.same i).0) ∙ seat) ((λ i. (one.same i).1) ∙ rate)
+      (subst (λ (b : Bool). IsTrue b) (λ i. (sym one.same i).2) told) whole_t later end others))
 
   pub sounds_to : (lines : List (List ℕ)) (q : Place) → Goes lines q
   sounds_to [] q answers p left h seat rate told is later end others =

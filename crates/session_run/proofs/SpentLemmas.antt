@@ -4,9 +4,9 @@ use Rattle.session_run.proofs.Common.{Some, None, IsSomeAnd, Refusal, NoMemory, 
 use Rattle.session_run.proofs.Common.{Each-left, Each-right, MicEnd, Change, Deed, spent, HadTurn, deeds_of, asks_piece}
 use Rattle.session_run.proofs.Common.{EndsBy, EndReads, PlayOutcome, RecordOutcome, Side, PinDeed, TrackDeed, WhereMade}
 use Rattle.session_run.proofs.Common.{Played, Recorded, play_line, record_end, record_line, each_own}
-use Rattle.edit_ports.specs.Answers.{RefusedAt}
-use Rattle.studio_seats.specs.{Reads.ReadsTo}
 use Rattle.session_run.proofs.{PlayLemmas.play_refusal, SideEntries.pin_spent, SideEntries.track_spent}
+use Rattle.edit_ports.specs.Answers.{RefusedAt}
+use Rattle.studio_seats.specs.Reads.{ReadsTo}
 use Rattle.pcm_base.specs.declared.answer.Reply.TheVariants as reply
 use Rattle.edit_ports.specs.declared.sink.Sink as sink
 use Rattle.edit_ports.specs.declared.source.Source as source
@@ -42,9 +42,6 @@ reads_spent used pin at ds h had = by h.ends
         (ap reply_of r.what_is ∙ ap (λ (w : Refusal). reply.Refused w) same))
     by (there, why, is, inr e) = e.2
 
-spent_memory : spent ≡ NoMemory → ⊥
-spent_memory is = cc
-
 pub recording_spent : {M : Type 0} (mics : source.Ghosts M) (mic : Change M)
     (pieces : ℕ → Change (List (List ℤ × ℕ))) (track : ℕ) (used : Bool) (made : Side)
     (kept : Option RecordOutcome) (opening own : List Deed) (else_ : Type 0)
@@ -53,10 +50,8 @@ pub recording_spent : {M : Type 0} (mics : source.Ghosts M) (mic : Change M)
     → IsSomeAnd (record_line track made kept) (λ line. line.end ≡ rec.Refused spent) → used ≡ true
 recording_spent mics mic pieces track used side.NotAsked kept opening own else_ h opened had_opening had is = absurd is
 recording_spent mics mic pieces track used (side.Refused why) kept opening own else_ h opened had_opening had is =
-    track_spent used (side.Refused why) opening opened had_opening (same why spent is)
-  where
-    same : (a b : Refusal) → rec.Refused a ≡ rec.Refused b → side.Refused a ≡ side.Refused b
-    same a b is = cc
+    let told : rec.Refused why ≡ rec.Refused spent = is in
+    track_spent used (side.Refused why) opening opened had_opening (cc told)
 recording_spent mics mic pieces track used (side.Made tag) None opening own else_ h opened had_opening had is = absurd h
 recording_spent mics mic pieces track used (side.Made tag) (Some kept) opening own else_ h opened had_opening had is =
     by ((h.is.takes.some spent (record_refusal kept.refused kept.end spent is)).1)
@@ -65,7 +60,7 @@ recording_spent mics mic pieces track used (side.Made tag) (Some kept) opening o
     by (inl told) = ends_spent used (deeds_of asks_piece own)
         (subst (λ (r : Option Refusal). EndsBy used r (deeds_of asks_piece own)) told h.own_are.ends)
         (each_own HadTurn asks_piece own had)
-    by (inr memory) = absurd (spent_memory memory.0)
+    by (inr memory) = absurd (cc memory.0)
 
 pub playback_spent : {P : Type 0} (speakers : sink.Ghosts P) (speaker : Change P)
     (shows : ℕ → List Frame → Type 0) (used : Bool) (player : ℕ) (made : Side)
@@ -75,10 +70,8 @@ pub playback_spent : {P : Type 0} (speakers : sink.Ghosts P) (speaker : Change P
     → IsSomeAnd (play_line made heard) (λ line. line.end ≡ play.Refused spent) → used ≡ true
 playback_spent speakers speaker shows used player side.NotAsked heard opening own else_ h opened had_opening had is = absurd is
 playback_spent speakers speaker shows used player (side.Refused why) heard opening own else_ h opened had_opening had is =
-    pin_spent used (side.Refused why) opening opened had_opening (same why spent is)
-  where
-    same : (a b : Refusal) → play.Refused a ≡ play.Refused b → side.Refused a ≡ side.Refused b
-    same a b is = cc
+    let told : play.Refused why ≡ play.Refused spent = is in
+    pin_spent used (side.Refused why) opening opened had_opening (cc told)
 playback_spent speakers speaker shows used player (side.Made pin) None opening own else_ h opened had_opening had is =
     absurd h
 playback_spent speakers speaker shows used player (side.Made pin) (Some heard) opening own else_ h opened had_opening

@@ -1,6 +1,7 @@
 mod Common
 -- The lemmas, lowest first.
 pub mod Sayings
+pub mod TurnLemmas
 pub mod VaultLemmas
 pub mod StretchLemmas
 pub mod FileLemmas

@@ -1,11 +1,10 @@
 -- What deeds one after another say of a file.
-use Rattle.sound_bounce.proofs.Common.{◌≡◌, ◌⊎◌, inl, inr, ⊎_elim, ℕ, ◌+◌, Bool, true, false, List, [], ◌∷◌, ◌++◌}
-use Rattle.sound_bounce.proofs.Common.{length, refl, sym, ◌∙◌, ap, subst, arith, Result, Ok, Err, append-nil, LoadPin}
-use Rattle.sound_bounce.proofs.Common.{Unpin, frame_bytes, Reply, Call, Refusal, Frame, Deed, spent, AreLoads, FaultsBy}
-use Rattle.sound_bounce.proofs.Common.{WasRefused, IsRefusedBy, LetsGo, LoadsAll, LoadsEnd, frames_by, frames_in}
-use Rattle.sound_bounce.proofs.Common.{header_by, header_in, length_by, length_in, text_by}
-use Rattle.std.proofs.Common.{ap₂}
-use Rattle.std.proofs.{lemmas.Grind.flat_map-append}
+use Rattle.sound_bounce.proofs.Common.{◌≡◌, inl, inr, ℕ, ◌+◌, Bool, true, false, List, ◌∷◌, ◌++◌, length, refl, sym}
+use Rattle.sound_bounce.proofs.Common.{◌∙◌, ap, subst, arith, Result, Ok, Err, append-nil, frame_bytes, Reply, Call}
+use Rattle.sound_bounce.proofs.Common.{Refusal, Frame, Deed, AreLoads, WasRefused, IsRefusedBy, LetsGo, LoadsAll}
+use Rattle.sound_bounce.proofs.Common.{LoadsEnd, frames_by, frames_in, header_by, header_in, length_by, length_in}
+use Rattle.sound_bounce.proofs.Common.{text_by, []}
+use Rattle.std.proofs.{Common.ap₂, lemmas.Grind.flat_map-append}
 use Rattle.pcm_base.specs.Recordings.{bytes_of_frame}
 use Rattle.sound_bounce.specs.Bounces.{FaultsOf}
 use Rattle.pcm_base.specs.declared.answer.Reply.TheVariants as reply
@@ -26,60 +25,35 @@ record IsQuiet (what : Result Reply Refusal) : Type 0 where
   frames : frames_by what ≡ []
   long : length_by what ≡ 0
 
-mute_one : (d : Deed) → IsQuiet d.what → IsMute (d ∷ [])
-mute_one d q = record {
-  header = λ rate. ap (λ (l : List ℕ). l ++ []) (q.header rate);
-  frames = ap (λ (l : List Frame). l ++ []) q.frames;
-  long = omega (arith, q.long);
+mute_one : (d : Deed) (what : Result Reply Refusal) → d.what ≡ what → IsQuiet what → IsMute (d ∷ [])
+mute_one d what is q = record {
+  header = λ rate. ap (λ (w : Result Reply Refusal). header_by rate w ++ []) is ∙ ap (λ l. l ++ []) (q.header rate);
+  frames = ap (λ (w : Result Reply Refusal). frames_by w ++ []) is ∙ ap (λ l. l ++ []) q.frames;
+  long = omega (arith, ap length_by is, q.long);
 }
-
-quiet_as : (a b : Result Reply Refusal) → a ≡ b → IsQuiet b → IsQuiet a
-quiet_as a b is q = subst IsQuiet (sym is) q
-
-quiet_err : (why : Refusal) → IsQuiet (Err why)
-quiet_err why = record { header = λ rate. refl; frames = refl; long = refl }
 
 -- a refusal
 pub mute_err : (d : Deed) (why : Refusal) → d.what ≡ Err why → IsMute (d ∷ [])
-mute_err d why is = mute_one d (quiet_as d.what (Err why) is (quiet_err why))
+mute_err d why is = mute_one d (Err why) is (record { header = λ rate. refl; frames = refl; long = refl })
 
 -- a pin that was made
 pub mute_pinned : (d : Deed) (pin : ℕ) → d.what ≡ Ok (reply.Pinned pin) → IsMute (d ∷ [])
-mute_pinned d pin is = mute_one d (quiet_as d.what (Ok (reply.Pinned pin)) is (record {
-  header = λ rate. refl;
-  frames = refl;
-  long = refl;
-}))
+mute_pinned d pin is =
+    mute_one d (Ok (reply.Pinned pin)) is (record { header = λ rate. refl; frames = refl; long = refl })
 
 mute_done : (d : Deed) → d.what ≡ Ok reply.Done → IsMute (d ∷ [])
-mute_done d is = mute_one d (quiet_as d.what (Ok reply.Done) is (record {
-  header = λ rate. refl;
-  frames = refl;
-  long = refl;
-}))
+mute_done d is = mute_one d (Ok reply.Done) is (record { header = λ rate. refl; frames = refl; long = refl })
 
-pub mute_refused : (used_up : Bool) (c : Call) (why : Refusal) (ds : List Deed) → IsRefusedBy used_up c why ds
+pub mute_refused : {used_up : Bool} {c : Call} {why : Refusal} {ds : List Deed} → IsRefusedBy used_up c why ds
     → IsMute ds
-mute_refused used_up c why ds h = ⊎_elim
-    (λ (x : (d : Deed) × (ds ≡ d ∷ []) × (d.call ≡ c) × (d.what ≡ Err why)).
-    subst IsMute (sym x.1) (mute_err x.0 why x.3))
-    (λ (x : (ds ≡ []) × (why ≡ spent) × (used_up ≡ true)). subst IsMute (sym x.0) mute_none)
-    h
-
-mute_gone_by : (used_up : Bool) (pin : ℕ) (may : Bool) (ds : List Deed) → LetsGo used_up pin may ds → IsMute ds
-mute_gone_by used_up pin false ds h = subst IsMute (sym h) mute_none
-mute_gone_by used_up pin true ds h = ⊎_elim
-    (λ (x : (d : Deed) × (ds ≡ d ∷ []) × (d.call ≡ Unpin pin)
-    × ((d.what ≡ Ok reply.Done) ⊎ ((why : Refusal) × (d.what ≡ Err why)))).
-    subst IsMute (sym x.1) (⊎_elim
-    (λ (done : x.0.what ≡ Ok reply.Done). mute_done x.0 done)
-    (λ (not : (why : Refusal) × (x.0.what ≡ Err why)). mute_err x.0 not.0 not.1)
-    x.3))
-    (λ (x : (ds ≡ []) × (used_up ≡ true)). subst IsMute (sym x.0) mute_none)
-    h
+mute_refused {why = why} (inl (d, are, call, is)) = subst IsMute (sym are) (mute_err d why is)
+mute_refused (inr (none, is, found)) = subst IsMute (sym none) mute_none
 
 pub mute_gone : (used_up : Bool) (pin : ℕ) (may : Bool) (ds : List Deed) → LetsGo used_up pin may ds → IsMute ds
-mute_gone used_up pin may ds h = mute_gone_by used_up pin may ds h
+mute_gone used_up pin false ds none = subst IsMute (sym none) mute_none
+mute_gone used_up pin true ds (inl (d, are, call, inl done)) = subst IsMute (sym are) (mute_done d done)
+mute_gone used_up pin true ds (inl (d, are, call, inr (why, is))) = subst IsMute (sym are) (mute_err d why is)
+mute_gone used_up pin true ds (inr (none, found)) = subst IsMute (sym none) mute_none
 
 -- loads have no header
 header_loaded : (rate pin batch from to : ℕ) (ds : List Deed) → AreLoads pin batch from to ds → header_in rate ds ≡ []
@@ -91,11 +65,7 @@ header_loaded rate pin batch from to (d ∷ ds) h =
 length_loaded : (pin batch from to : ℕ) (ds : List Deed) → AreLoads pin batch from to ds → length_in ds ≡ 0
 length_loaded pin batch from to [] h = refl
 length_loaded pin batch from to (d ∷ ds) h =
-    omega (
-      arith,
-      ap (λ (w : Result Reply Refusal). length_by w) h.2,
-      length_loaded pin batch (from + length (frames_by d.what)) to ds h.3,
-    )
+    omega (arith, ap length_by h.2, length_loaded pin batch (from + length (frames_by d.what)) to ds h.3)
 
 -- ---- one after another
 
@@ -136,40 +106,37 @@ length_front xs ys mute = omega (arith, length_on xs ys, mute.long)
 pub length_back : (xs ys : List Deed) → IsMute ys → length_in (xs ++ ys) ≡ length_in xs
 length_back xs ys mute = omega (arith, length_on xs ys, mute.long)
 
+-- the loads of a mix, where they ended otherwise
+pub loads_as : {A B : Type 0} {a b : Bool} {pin batch len : ℕ} {what : Result A Refusal} {told : Result B Refusal}
+    {ds : List Deed} (h : LoadsAll a pin batch len what ds) → LoadsEnd b pin batch len h.place told h.last
+    → LoadsAll b pin batch len told ds
+loads_as h ends =
+    record { place = h.place; loads = h.loads; last = h.last; are = h.are; reads = h.reads; ends = ends }
+
 -- what came after the loads of a mix says nothing
-mute_end : {A : Type 0} (used_up : Bool) (pin batch len place : ℕ) (what : Result A Refusal) (ds : List Deed)
-    → LoadsEnd used_up pin batch len place what ds → IsMute ds
-mute_end used_up pin batch len place (Ok x) ds h = subst IsMute (sym h.0) mute_none
-mute_end used_up pin batch len place (Err why) ds (inl h) = mute_refused used_up (LoadPin pin place batch) why ds h
-mute_end used_up pin batch len place (Err why) ds (inr (is, inl none)) = subst IsMute (sym none) mute_none
-mute_end used_up pin batch len place (Err why) ds (inr (is, inr (other, h))) =
-    mute_refused used_up (LoadPin pin place batch) other ds h
+module _ {A : Type 0} {used_up : Bool} {pin batch len : ℕ} {what : Result A Refusal} {ds : List Deed}
+    (h : LoadsAll used_up pin batch len what ds) where
+  mute_last : IsMute h.last
+  mute_last = by what h.ends
+    where
+      by : (r : Result A Refusal) → LoadsEnd used_up pin batch len h.place r h.last → IsMute h.last
+      by (Ok x) e = subst IsMute (sym e.0) mute_none
+      by (Err why) (inl e) = mute_refused e
+      by (Err why) (inr (is, inl none)) = subst IsMute (sym none) mute_none
+      by (Err why) (inr (is, inr (other, e))) = mute_refused e
 
-pub frames_all : {A : Type 0} (used_up : Bool) (pin batch len : ℕ) (what : Result A Refusal) (ds : List Deed)
-    (h : LoadsAll used_up pin batch len what ds) → frames_in ds ≡ frames_in h.loads
-frames_all used_up pin batch len what ds h =
-    let mute = mute_end used_up pin batch len h.place what h.last h.ends in
-    ap frames_in h.are ∙ frames_on h.loads h.last ∙ ap (λ (fs : List Frame). frames_in h.loads ++ fs) mute.frames
-    ∙ append-nil (frames_in h.loads)
+  pub frames_all : frames_in ds ≡ frames_in h.loads
+  frames_all = ap frames_in h.are ∙ frames_on h.loads h.last
+      ∙ ap (λ (fs : List Frame). frames_in h.loads ++ fs) mute_last.frames ∙ append-nil (frames_in h.loads)
 
-pub header_all : {A : Type 0} (rate : ℕ) (used_up : Bool) (pin batch len : ℕ) (what : Result A Refusal)
-    (ds : List Deed) → LoadsAll used_up pin batch len what ds → header_in rate ds ≡ []
-header_all rate used_up pin batch len what ds h =
-    let mute = mute_end used_up pin batch len h.place what h.last h.ends in
-    ap (header_in rate) h.are ∙ header_on rate h.loads h.last
-    ∙ ap₂ (λ (a b : List ℕ). a ++ b) (header_loaded rate pin batch 0 h.place h.loads h.reads) (mute.header rate)
+  pub header_all : (rate : ℕ) → header_in rate ds ≡ []
+  header_all rate = ap (header_in rate) h.are ∙ header_on rate h.loads h.last
+      ∙ ap₂ (λ (a b : List ℕ). a ++ b) (header_loaded rate pin batch 0 h.place h.loads h.reads) (mute_last.header rate)
 
-pub length_all : {A : Type 0} (used_up : Bool) (pin batch len : ℕ) (what : Result A Refusal) (ds : List Deed)
-    → LoadsAll used_up pin batch len what ds → length_in ds ≡ 0
-length_all used_up pin batch len what ds h =
-    let mute = mute_end used_up pin batch len h.place what h.last h.ends in
-    omega (
-      arith,
-      ap length_in h.are,
-      length_on h.loads h.last,
-      length_loaded pin batch 0 h.place h.loads h.reads,
-      mute.long,
-    )
+  pub length_all : length_in ds ≡ 0
+  length_all =
+      let loaded = length_loaded pin batch 0 h.place h.loads h.reads in
+      omega (arith, ap length_in h.are, length_on h.loads h.last, loaded, mute_last.long)
 
 -- ---- who was told that the vault failed
 
@@ -183,22 +150,15 @@ refused_left why (x ∷ xs) ys (inl h) = inl h
 refused_left why (x ∷ xs) ys (inr h) = inr (refused_left why xs ys h)
 
 -- a call that was refused was told why
-pub was_refused : (used_up : Bool) (c : Call) (why : Refusal) (ds : List Deed) → IsRefusedBy used_up c why ds
+pub was_refused : {used_up : Bool} {c : Call} {why : Refusal} {ds : List Deed} → IsRefusedBy used_up c why ds
     → why ≡ refusal.VaultFault → WasRefused refusal.VaultFault ds
-was_refused used_up c why ds h is = ⊎_elim
-    (λ (x : (d : Deed) × (ds ≡ d ∷ []) × (d.call ≡ c) × (d.what ≡ Err why)).
-    subst (WasRefused refusal.VaultFault) (sym x.1) (inl (x.3 ∙ ap Err is)))
-    (λ (x : (ds ≡ []) × (why ≡ spent) × (used_up ≡ true)). let no : ⊥ = cc (sym x.1 ∙ is) in absurd no)
-    h
-
-faults_by : (why : Refusal) (xs ys : List Deed) (old new : ℕ)
-    → (WasRefused refusal.VaultFault xs → WasRefused refusal.VaultFault ys) → FaultsBy why xs old new
-    → FaultsBy why ys old new
-faults_by why xs ys old new f (inl h) = inl h
-faults_by why xs ys old new f (inr h) = inr (h.0, λ is. f (h.1 is))
+was_refused (inl (d, are, call, what)) is =
+    subst (WasRefused refusal.VaultFault) (sym are) (inl (what ∙ ap Err is))
+was_refused (inr (none, spent_is, found)) is = absurd (cc (sym spent_is ∙ is))
 
 pub faults_as : (what : Result ℕ Refusal) (xs ys : List Deed) (old new : ℕ)
     → (WasRefused refusal.VaultFault xs → WasRefused refusal.VaultFault ys) → FaultsOf what xs old new
     → FaultsOf what ys old new
 faults_as (Ok x) xs ys old new f h = h
-faults_as (Err why) xs ys old new f h = faults_by why xs ys old new f h
+faults_as (Err why) xs ys old new f (inl h) = inl h
+faults_as (Err why) xs ys old new f (inr h) = inr (h.0, λ is. f (h.1 is))

@@ -1,17 +1,11 @@
 -- What becomes of a sound, call by call.
-use Rattle.sound_bounce.proofs.Common.{◌≡◌, inl, inr, ℕ, ◌+◌, ◌≤◌, Bool, List, [], ◌++◌, length, take, Option, Some}
-use Rattle.sound_bounce.proofs.Common.{refl, sym, ◌∙◌, ap, subst, arith, append_assoc, Result, Ok, Err, MatchResult}
-use Rattle.sound_bounce.proofs.Common.{append-nil, take_all, take-add, take-append_seam, IsTrue, OnOk, OnErr}
-use Rattle.sound_bounce.proofs.Common.{SameElsewhere, MayHaveGrown, sound_bytes, IsThere, GrowFails, Grows, Keeps}
-use Rattle.sound_bounce.proofs.Common.{moved}
-use Rattle.std.proofs.Common.{length-append}
-use Rattle.std.proofs.lemmas.List.{take-append-le}
-use Rattle.std.proofs.Math.Seq.{drop-append_seam}
-use Rattle.pcm_base.specs.{Causes.HasCause}
+use Rattle.sound_bounce.proofs.Common.{◌≡◌, inl, inr, ℕ, ◌+◌, ◌≤◌, Bool, List, ◌++◌, length, take, Option, Some, refl}
+use Rattle.sound_bounce.proofs.Common.{sym, ◌∙◌, ap, subst, arith, append_assoc, Result, Ok, Err, MatchResult}
+use Rattle.sound_bounce.proofs.Common.{append-nil, take_all, take-append_seam, IsTrue, OnOk, OnErr, SameElsewhere}
+use Rattle.sound_bounce.proofs.Common.{MayHaveGrown, sound_bytes, IsThere, GrowFails, Grows, Keeps, moved, []}
+use Rattle.std.proofs.{Common.length-append, lemmas.List.take-append-le, Math.Seq.take-append-add}
+use Rattle.pcm_base.specs.Causes.{HasCause}
 use Rattle.edit_ports.specs.declared.vault.Vault as vault
-
-take_past : (xs ys : List ℕ) (n : ℕ) → take (length xs + n) (xs ++ ys) ≡ xs ++ take n ys
-take_past xs ys n = take-add (length xs) n (xs ++ ys) ∙ rw (take-append_seam xs ys, drop-append_seam xs ys)
 
 -- a part more may have come, or the front of it
 grown_after : (old mid new : Option (List ℕ)) (done buffer : List ℕ) → mid ≡ Some (sound_bytes old ++ done)
@@ -28,7 +22,7 @@ grown_after old mid new done buffer before (inr (n, le, is)) =
       omega (arith, le, length-append done buffer),
       is ∙ ap (λ o. Some (sound_bytes o ++ take n buffer)) before
           ∙ ap Some (append_assoc (sound_bytes old) done (take n buffer))
-          ∙ ap (λ xs. Some (sound_bytes old ++ xs)) (sym (take_past done buffer n)),
+          ∙ ap (λ xs. Some (sound_bytes old ++ xs)) (sym (take-append-add done buffer n)),
     )
 
 -- of what would have been a longer part
@@ -53,17 +47,18 @@ grown_all old new bytes is =
 pub there_of : (o : Option (List ℕ)) (bytes : List ℕ) → o ≡ Some bytes → IsThere o
 there_of o bytes is = subst IsThere (sym is) refl
 
-module _ {V : Type 0} (ghosts : vault.Ghosts V) (name : List ℕ) where
-  pub still : (a b : V) → ghosts.tells b ≡ ghosts.tells a → IsTrue (ghosts.tells a) → IsTrue (ghosts.tells b)
-  still a b same told = subst (λ (x : Bool). IsTrue x) (sym same) told
+-- what told of itself still does
+pub still : {x y : Bool} → y ≡ x → IsTrue x → IsTrue y
+still same told = subst (λ (b : Bool). IsTrue b) (sym same) told
 
+module _ {V : Type 0} {ghosts : vault.Ghosts V} {name : List ℕ} where
   pub keeps_self : (a : V) → Keeps (moved ghosts name a a)
   keeps_self a = record { others = λ told other differs. refl; tells = refl }
 
-  pub keeps_on : (a b c : V) → Keeps (moved ghosts name a b) → Keeps (moved ghosts name b c)
+  pub keeps_on : {a b c : V} → Keeps (moved ghosts name a b) → Keeps (moved ghosts name b c)
       → Keeps (moved ghosts name a c)
-  keeps_on a b c h k = record {
-    others = λ told other differs. k.others (still a b h.tells told) other differs ∙ h.others told other differs;
+  keeps_on h k = record {
+    others = λ told other differs. k.others (still h.tells told) other differs ∙ h.others told other differs;
     tells = k.tells ∙ h.tells;
   }
 
@@ -75,45 +70,45 @@ module _ {V : Type 0} (ghosts : vault.Ghosts V) (name : List ℕ) where
     faults = refl;
   }
 
-  pub grows_on : (a b c : V) (xs ys : List ℕ) → Grows (moved ghosts name a b) xs → Grows (moved ghosts name b c) ys
+  pub grows_on : {a b c : V} {xs ys : List ℕ} → Grows (moved ghosts name a b) xs → Grows (moved ghosts name b c) ys
       → Grows (moved ghosts name a c) (xs ++ ys)
-  grows_on a b c xs ys h k = record {
-    keeps = keeps_on a b c h.keeps k.keeps;
-    written = λ told. k.written (still a b h.keeps.tells told)
+  grows_on {a = a} {xs = xs} {ys = ys} h k = record {
+    keeps = keeps_on h.keeps k.keeps;
+    written = λ told. k.written (still h.keeps.tells told)
         ∙ ap (λ (o : Option (List ℕ)). Some (sound_bytes o ++ ys)) (h.written told)
         ∙ ap Some (append_assoc (sound_bytes (ghosts.holds a name)) xs ys);
     faults = k.faults ∙ h.faults;
   }
 
   -- a part more, which the vault did not take
-  pub grown_on : (a b c : V) (xs ys : List ℕ) → Grows (moved ghosts name a b) xs
+  pub grown_on : {a b c : V} {xs ys : List ℕ} → Grows (moved ghosts name a b) xs
       → GrowFails (moved ghosts name b c) ys → IsTrue (ghosts.tells a)
       → MayHaveGrown (xs ++ ys) (ghosts.holds a name) (ghosts.holds c name)
-  grown_on a b c xs ys h k told =
+  grown_on {a} {b} {c} {xs} {ys} h k told =
       grown_after (ghosts.holds a name) (ghosts.holds b name) (ghosts.holds c name) xs ys (h.written told)
-      (k.grown (still a b h.keeps.tells told))
+      (k.grown (still h.keeps.tells told))
 
-  pub grown_so : (a b : V) (xs : List ℕ) → Grows (moved ghosts name a b) xs → IsTrue (ghosts.tells a)
+  pub grown_so : {a b : V} {xs : List ℕ} → Grows (moved ghosts name a b) xs → IsTrue (ghosts.tells a)
       → MayHaveGrown xs (ghosts.holds a name) (ghosts.holds b name)
-  grown_so a b xs h told = grown_all (ghosts.holds a name) (ghosts.holds b name) xs (h.written told)
+  grown_so {a} {b} {xs} h told = grown_all (ghosts.holds a name) (ghosts.holds b name) xs (h.written told)
 
-  -- what an append says
-  pub grown_by : {T E : Type 0} (a b : V) (bytes : List ℕ) (result : Result T E)
-      → (IsTrue (ghosts.tells a)
-      → OnOk result (ghosts.holds b name ≡ Some (sound_bytes (ghosts.holds a name) ++ bytes)))
-      → (IsTrue (ghosts.tells a)
-      → OnErr result (MayHaveGrown bytes (ghosts.holds a name) (ghosts.holds b name)))
-      → (IsTrue (ghosts.tells a) → SameElsewhere name (ghosts.holds a) (ghosts.holds b))
-      → ghosts.tells b ≡ ghosts.tells a → HasCause (ghosts.fault_count a) (ghosts.fault_count b) result
-      → MatchResult result (λ _. Grows (moved ghosts name a b) bytes) (λ _. GrowFails (moved ghosts name a b) bytes)
-  grown_by a b bytes (Ok x) written grown others tells cause = record {
-    keeps = record { others = others; tells = tells };
-    written = written;
-    faults = cause.kept;
-  }
-  grown_by a b bytes (Err e) written grown others tells cause = record {
-    keeps = record { others = others; tells = tells };
-    grown = grown;
-    later = cause.later;
-    rose = cause.failed;
-  }
+-- what an append says
+pub grown_by : {V T E : Type 0} (ghosts : vault.Ghosts V) (name : List ℕ) (a b : V) (bytes : List ℕ)
+    (result : Result T E) → (IsTrue (ghosts.tells a)
+    → OnOk result (ghosts.holds b name ≡ Some (sound_bytes (ghosts.holds a name) ++ bytes)))
+    → (IsTrue (ghosts.tells a)
+    → OnErr result (MayHaveGrown bytes (ghosts.holds a name) (ghosts.holds b name)))
+    → (IsTrue (ghosts.tells a) → SameElsewhere name (ghosts.holds a) (ghosts.holds b))
+    → ghosts.tells b ≡ ghosts.tells a → HasCause (ghosts.fault_count a) (ghosts.fault_count b) result
+    → MatchResult result (λ _. Grows (moved ghosts name a b) bytes) (λ _. GrowFails (moved ghosts name a b) bytes)
+grown_by ghosts name a b bytes (Ok x) written grown others tells cause = record {
+  keeps = record { others = others; tells = tells };
+  written = written;
+  faults = cause.kept;
+}
+grown_by ghosts name a b bytes (Err e) written grown others tells cause = record {
+  keeps = record { others = others; tells = tells };
+  grown = grown;
+  later = cause.later;
+  rose = cause.failed;
+}

@@ -1,9 +1,9 @@
 -- The samples of several chunks, put together.
 use Rattle.studio_seats.proofs.Common.{◌≡◌, ◌⊎◌, inl, inr, ℕ, zero, suc, ◌+◌, ◌-◌, ◌*◌, ◌<◌, ◌≤◌, ℤ, List, [], ◌∷◌}
-use Rattle.studio_seats.proofs.Common.{◌++◌, length, take, drop, map, Result, Ok, Err, refl, sym, ◌∙◌, ap, subst, arith}
-use Rattle.studio_seats.proofs.Common.{length-append, length-map, length-take-le, IfErr, IfOk, MatchResult, OnOk}
-use Rattle.studio_seats.proofs.Common.{is_err, parts_of, pieces_in, pieces_of, Part, Refusal, AreTaken, numbered_pieces}
-use Rattle.studio_seats.proofs.Common.{samples_of}
+use Rattle.studio_seats.proofs.Common.{◌++◌, length, take, drop, Result, Ok, Err, refl, sym, ◌∙◌, ap}
+use Rattle.studio_seats.proofs.Common.{arith, length-append, length-map, length-take-le, IfErr, IfOk, MatchResult}
+use Rattle.studio_seats.proofs.Common.{OnOk, is_err, parts_of, pieces_in, pieces_of, Part, Refusal, AreTaken}
+use Rattle.studio_seats.proofs.Common.{numbered_pieces, samples_of}
 use Rattle.std.proofs.Common.{get_or}
 use Rattle.std.proofs.lemmas.List.{length-drop, take_all, take-map, take-take, take_more, take-append-drop, map-append}
 use Rattle.std.proofs.lemmas.Slice.{drop-put_mid, take-put_mid}
@@ -21,10 +21,12 @@ joined_more chunks d done joined count below len short parts is =
     let one : parts_of 256 1 piece ≡ piece ∷ [] = ap (λ (t : List ℤ). t ∷ []) (take_all 256 piece short) in
     ap (parts_of 256 (count + 1)) is ∙ parts_append 256 count 1 (count + 1) done piece refl len
     ∙ (λ i. parts i ++ one i)
-    ∙ sym (take-map (λ (c : Part). c.samples) (count + 1) chunks
-    ∙ ap (map (λ (c : Part). c.samples)) (take_more chunks count d below)
-    ∙ map-append (λ (c : Part). c.samples) (take count chunks) (get_or chunks count d ∷ [])
-    ∙ ap (λ (l : List (List ℤ)). l ++ piece ∷ []) (sym (take-map (λ (c : Part). c.samples) count chunks)))
+    ∙ sym (rw (
+      take-map (λ (c : Part). c.samples) (count + 1) chunks,
+      take_more chunks count d below,
+      map-append (λ (c : Part). c.samples) (take count chunks) (get_or chunks count d ∷ []),
+      ← (take-map (λ (c : Part). c.samples) count chunks),
+    ))
 
 -- it stands in the batch after the others
 pub joined_put : (chunks : List Part) (d : Part) (batch new : List ℤ) (count k n : ℕ) → count < length chunks
@@ -141,22 +143,21 @@ pub if_ok_as : {A : Type 0} (what : Result A Refusal) (P Q : A → Type 0) → (
 if_ok_as (Ok x) P Q f h = f x h
 if_ok_as (Err why) P Q f h = tt
 
-pub taken_ok : (what : Result ℕ Refusal) (result : Result Taken Refusal) (count : ℕ) → WithCount count what result
-    → (P : Taken → Type 0) → IfOk what (λ (last : ℕ). P record { count = count; last = last }) → IfOk result P
-taken_ok (Ok last) result count is P h = subst (λ (r : Result Taken Refusal). IfOk r P) (sym is) h
-taken_ok (Err why) result count is P h = subst (λ (r : Result Taken Refusal). IfOk r P) (sym is) tt
+module _ (result : Result Taken Refusal) (count : ℕ) where
+  pub taken_ok : (what : Result ℕ Refusal) → WithCount count what result → (P : Taken → Type 0)
+      → IfOk what (λ (last : ℕ). P record { count = count; last = last }) → IfOk result P
+  taken_ok (Ok last) is P h = rw is h
+  taken_ok (Err why) is P h = rw is tt
 
-pub taken_on : (what : Result ℕ Refusal) (result : Result Taken Refusal) (count : ℕ) → WithCount count what result
-    → (P : Type 0) → OnOk what P → OnOk result P
-taken_on (Ok last) result count is P h = subst (λ (r : Result Taken Refusal). OnOk r P) (sym is) h
-taken_on (Err why) result count is P h = subst (λ (r : Result Taken Refusal). OnOk r P) (sym is) tt
+  pub taken_on : (what : Result ℕ Refusal) → WithCount count what result → (P : Type 0) → OnOk what P → OnOk result P
+  taken_on (Ok last) is P h = rw is h
+  taken_on (Err why) is P h = rw is tt
 
-pub taken_err : (what : Result ℕ Refusal) (result : Result Taken Refusal) (count : ℕ) → WithCount count what result
-    → (P : Refusal → Type 0) → IfErr what P → IfErr result P
-taken_err (Ok last) result count is P h = subst (λ (r : Result Taken Refusal). IfErr r P) (sym is) tt
-taken_err (Err why) result count is P h = subst (λ (r : Result Taken Refusal). IfErr r P) (sym is) h
+  pub taken_err : (what : Result ℕ Refusal) → WithCount count what result → (P : Refusal → Type 0) → IfErr what P
+      → IfErr result P
+  taken_err (Ok last) is P h = rw is tt
+  taken_err (Err why) is P h = rw is h
 
-pub taken_is_err : (what : Result ℕ Refusal) (result : Result Taken Refusal) (count : ℕ) → WithCount count what result
-    → is_err result ≡ is_err what
-taken_is_err (Ok last) result count is = ap is_err is
-taken_is_err (Err why) result count is = ap is_err is
+  pub taken_is_err : (what : Result ℕ Refusal) → WithCount count what result → is_err result ≡ is_err what
+  taken_is_err (Ok last) is = rw is
+  taken_is_err (Err why) is = rw is

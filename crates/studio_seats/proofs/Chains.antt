@@ -1,14 +1,12 @@
 -- Deeds one after another.
-use Rattle.studio_seats.proofs.Common.{refl, subst, List, [], ◌∷◌, ◌++◌, Ghosts, Core, IsStudio, Deed, AllTell, Chain}
-use Rattle.studio_seats.proofs.Common.{Does, Origin, StandsFor}
-use Rattle.edit_ports.specs.declared.vault.Vault as vault
+use Rattle.studio_seats.proofs.Common.{refl, List, [], ◌∷◌, ◌++◌, Ghosts, Core, IsStudio, Deed, AllTell, Chain}
+use Rattle.studio_seats.proofs.Common.{Does, Origin, StandsFor, VaultGhosts}
 
-module _ {D V : Type 0} (disk : Ghosts D) (vaults : vault.Ghosts V) where
+module _ {D V : Type 0} (disk : Ghosts D) (vaults : VaultGhosts V) where
   -- one deed more
   chain_more : (old : Core D) (ds : List Deed) (mid : Core D) (d : Deed) (new : Core D)
       → Chain disk vaults old ds mid → Does disk (AllTell vaults) mid d new → Chain disk vaults old (ds ++ d ∷ []) new
-  chain_more old [] mid d new is does =
-      (new, subst (λ (z : Core D). Does disk (AllTell vaults) z d new) is does, refl)
+  chain_more old [] mid d new is does = (new, rw is at does, refl)
   chain_more old (x ∷ xs) mid d new chain does =
       (chain.0, chain.1, chain_more chain.0 xs mid d new chain.2 does)
 

@@ -43,3 +43,10 @@ pub use Rattle.studio_seats.specs.{Onward.EndsBy, Onward.Onward, Onward.worker, 
 pub use Rattle.studio_seats.specs.{Pieces.pieces_by, Recording.RecordsOn, Recording.asks_piece, Recording.recorder}
 pub use Rattle.studio_seats.specs.{Pins.after_what, Pins.makes_pin, Pins.pin_frames}
 pub use Rattle.studio_seats.specs.{declared.deed.Deed.Deed, declared.held.Held.Held, Pieces.piece_by, Pieces.piece_in}
+pub use Rattle.edit_ports.specs.declared.vault.Vault.{Ghosts as VaultGhosts}
+pub use Rattle.pcm_base.specs.Studio.{Studio}
+
+-- the deed of a turn whose call names no sound
+abbrev pub quiet : {D V : Type 0} {disk : Ghosts D} → View (Held D V disk) Deed → Call → Result Reply Refusal
+    → List Deed
+quiet v call what = deed v.number call what silent ∷ []

@@ -1,27 +1,24 @@
 -- Counts of faults along a run.
-use Rattle.studio_seats.proofs.Common.{◌≡◌, ◌⊎◌, inl, inr, sym, ap, ◌∙◌, subst, ℕ, ◌≤◌, IsTrue, None, List, [], ◌∷◌}
+use Rattle.studio_seats.proofs.Common.{◌≡◌, ◌⊎◌, inl, inr, ℕ, ◌≤◌, IsTrue, None, List, [], ◌∷◌}
 use Rattle.studio_seats.proofs.Common.{Result, Ok, Err, arith, IfErr, Answers, Run, outside, result_of, Reply, Call}
 use Rattle.studio_seats.proofs.Common.{Entry, SoundMove, Refusal, Each, Ghosts, reply_of, studio_of, carried_is}
-use Rattle.studio_seats.proofs.Common.{IsServed, Deed, entries_of, origin}
+use Rattle.studio_seats.proofs.Common.{IsServed, Deed, entries_of, origin, VaultGhosts, Studio}
 use Rattle.pcm_base.specs.Run.{Breaks, ChangeFailed, ReadFailed, may_change}
 use Rattle.pcm_base.specs.{Causes.Rose}
 use Rattle.studio_seats.specs.Faults.{AreServed, DesksServe, IsCalm, Serves}
-use Rattle.studio_seats.proofs.{Grown.leads, TestFaults.Tells, TestFaults.served_test, TestFaults.tested}
-use Rattle.pcm_base.specs.declared.refusal.Refusal.TheVariants as refusal
-use Rattle.pcm_base.specs.Studio as model
-use Rattle.edit_ports.specs.declared.vault.Vault as vault
+use Rattle.studio_seats.proofs.{Grown.leads, TestFaults.served_test, TestFaults.tested}
 
 -- ---- one step
 
 -- the counts fall never, and where none rises the store caused no refusal
-record Went (t u : model.Studio) (c : Call) (what : Result Reply Refusal) : Type 0 where
+record Went (t u : Studio) (c : Call) (what : Result Reply Refusal) : Type 0 where
   reads : t.read_faults ≤ u.read_faults
   changes : t.change_faults ≤ u.change_faults
   stays : t.stopped ≡ None → IsCalm t u → u.stopped ≡ None
   served : t.stopped ≡ None → IsCalm t u → IfErr what (IsServed c)
 
 -- the counts and whether it goes on are as before
-still : (t u : model.Studio) (c : Call) (what : Result Reply Refusal) → u.read_faults ≡ t.read_faults
+still : (t u : Studio) (c : Call) (what : Result Reply Refusal) → u.read_faults ≡ t.read_faults
     → u.change_faults ≡ t.change_faults
     → (t.stopped ≡ None → u.stopped ≡ None) → (t.stopped ≡ None → IfErr what (IsServed c)) → Went t u c what
 still t u c what reads changes stays served = record {
@@ -31,66 +28,54 @@ still t u c what reads changes stays served = record {
   served = λ going calm. served going;
 }
 
-same : (t u : model.Studio) (c : Call) (what : Result Reply Refusal) → u ≡ t
+same : (t u : Studio) (c : Call) (what : Result Reply Refusal) → u ≡ t
     → (t.stopped ≡ None → IfErr what (IsServed c)) → Went t u c what
-same t u c what is served =
-    still t u c what (ap (λ (z : model.Studio). z.read_faults) is) (ap (λ (z : model.Studio). z.change_faults) is)
-    (λ going. ap (λ (z : model.Studio). z.stopped) is ∙ going) served
+same t u c what is served = still t u c what (rw is) (rw is) (λ going. rw is going) served
 
-failed : (t u : model.Studio) (c : Call) → ReadFailed t u ⊎ (IsTrue (may_change c) × ChangeFailed t u)
-    → Went t u c (Err refusal.DiskFault)
+failed : (t u : Studio) (c : Call) → ReadFailed t u ⊎ (IsTrue (may_change c) × ChangeFailed t u)
+    → Went t u c (Err Refusal.DiskFault)
 failed t u c (inl read) = record {
   reads = read.later;
-  changes = let e = read.changes in omega (arith, e);
+  changes = omega (arith, read.changes);
   stays = λ is calm. absurd (calm.reads read.rose);
   served = λ is calm. absurd (calm.reads read.rose);
 }
 failed t u c (inr (may, change)) = record {
-  reads = let e = change.reads in omega (arith, e);
+  reads = omega (arith, change.reads);
   changes = change.later;
   stays = λ is calm. absurd (calm.changes change.rose);
   served = λ is calm. absurd (calm.changes change.rose);
 }
 
-broken : (t u : model.Studio) (c : Call) (sound : SoundMove) (why : Refusal) → Breaks t c sound why u
+broken : (t u : Studio) (c : Call) (sound : SoundMove) (why : Refusal) → Breaks t c sound why u
     → Went t u c (Err why)
-broken t u c sound (refusal.Damaged file at want have) h =
-    still t u c (Err (refusal.Damaged file at want have)) h.reads h.changes (λ going. h.stopped) (λ going. tt)
-broken t u c sound refusal.DiskFault h = failed t u c h.cause
-broken t u c sound refusal.VaultFault h =
-    still t u c (Err refusal.VaultFault) h.1.reads h.1.changes (λ going. h.1.stopped) (λ going. h.0)
-broken t u c sound refusal.NoMemory h = same t u c (Err refusal.NoMemory) h.same (λ going. tt)
+broken t u c sound (Refusal.Damaged file at want have) h =
+    still t u c (Err (Refusal.Damaged file at want have)) h.reads h.changes (λ going. h.stopped) (λ going. tt)
+broken t u c sound Refusal.DiskFault h = failed t u c h.cause
+broken t u c sound Refusal.VaultFault h =
+    still t u c (Err Refusal.VaultFault) h.1.reads h.1.changes (λ going. h.1.stopped) (λ going. h.0)
+broken t u c sound Refusal.NoMemory h = same t u c (Err Refusal.NoMemory) h.same (λ going. tt)
 broken t u c sound why h = absurd h
 
-went : (t u : model.Studio) (c : Call) (sound : SoundMove) (what : Result Reply Refusal) → Answers t c sound what u
+went : (t u : Studio) (c : Call) (sound : SoundMove) (what : Result Reply Refusal) → Answers t c sound what u
     → Went t u c what
 went t u c sound (Ok r) h =
     let is = carried_is t u c sound r h in
-    still t u c (Ok r) (ap (λ (z : model.Studio). z.read_faults) is) (ap (λ (z : model.Studio). z.change_faults) is)
-    (λ going. ap (λ (z : model.Studio). z.stopped) is ∙ going) (λ going. tt)
+    still t u c (Ok r) (rw is) (rw is) (λ going. rw is going) (λ going. tt)
 went t u c sound (Err why) (inl h) = same t u c (Err why) h.same
-    (λ going. served_test t.stopped c why going
-    (subst (Tells t.stopped) h.first (tested (outside t sound) t c h.blocks h.len)))
-went t u c sound (Err why) (inr (inl left)) = same t u c (Err why) left.same
-    (λ going. subst (IsServed c) (sym left.reason) tt)
+    (λ going. served_test t.stopped c why going (rw h.first at (tested (outside t sound) t c h.blocks h.len)))
+went t u c sound (Err why) (inr (inl left)) = same t u c (Err why) left.same (λ going. rw left.reason tt)
 went t u c sound (Err why) (inr (inr h)) = broken t u c sound why h
 
 -- ---- a run
 
-later : (t u : model.Studio) (es : List Entry) → Run t es u
+later : (t u : Studio) (es : List Entry) → Run t es u
     → (t.read_faults ≤ u.read_faults) × (t.change_faults ≤ u.change_faults)
-later t u [] run =
-    let reads = ap (λ (z : model.Studio). z.read_faults) run in
-    let changes = ap (λ (z : model.Studio). z.change_faults) run in
-    (omega (arith, reads), omega (arith, changes))
+later t u [] run = rw run (omega arith, omega arith)
 later t u (e ∷ es) run =
     let first = went t run.0 e.call e.sound (result_of e.reply) run.1 in
     let rest = later run.0 u es run.2 in
-    let a = first.reads in
-    let b = first.changes in
-    let c = rest.0 in
-    let d = rest.1 in
-    (omega (arith, a, c), omega (arith, b, d))
+    (omega (arith, first.reads, rest.0), omega (arith, first.changes, rest.1))
 
 -- a count that rose in a part of a run rose in all of it
 pub rose_first : (a b c : ℕ) → b ≤ c → Rose a b → Rose a c
@@ -99,9 +84,9 @@ rose_first a b c le rose = omega (arith, le, rose)
 pub rose_last : (a b c : ℕ) → a ≤ b → Rose b c → Rose a c
 rose_last a b c le rose = omega (arith, le, rose)
 
-pub faults_are_counted : (t u : model.Studio) (es : List Entry) → Run t es u → t.stopped ≡ None → IsCalm t u
+pub faults_are_counted : (t u : Studio) (es : List Entry) → Run t es u → t.stopped ≡ None → IsCalm t u
     → Serves t u es
-faults_are_counted t u [] run is calm = record { going = ap (λ (z : model.Studio). z.stopped) run ∙ is; served = tt }
+faults_are_counted t u [] run is calm = record { going = rw run is; served = tt }
 faults_are_counted t u (e ∷ es) run is calm =
     let mid = run.0 in
     let first = went t mid e.call e.sound (result_of e.reply) run.1 in
@@ -128,7 +113,7 @@ deeds_served : (ds : List Deed) → AreServed (entries_of ds) → Each (λ d. If
 deeds_served [] served = tt
 deeds_served (d ∷ ds) served = (deed_served d.call d.what served.0, deeds_served ds served.1)
 
-pub desks_serve : {D V : Type 0} (disk : Ghosts D) (vaults : vault.Ghosts V) → DesksServe disk vaults
+pub desks_serve : {D V : Type 0} (disk : Ghosts D) (vaults : VaultGhosts V) → DesksServe disk vaults
 desks_serve disk vaults start now deeds stands told held is calm =
     let led = leads (origin disk vaults start) now deeds stands in
     let serves = faults_are_counted (studio_of disk start) (studio_of disk now) (entries_of deeds) (led.run told held)

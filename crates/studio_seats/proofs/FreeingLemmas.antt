@@ -1,9 +1,9 @@
 -- Pieces and the reclaims between them, list by list.
-use Rattle.studio_seats.proofs.Common.{◌≡◌, ◌⊎◌, inl, inr, ℕ, ◌==◌, ◌&&◌, if◌then◌else◌, ℤ, Bool, true, false, List, []}
-use Rattle.studio_seats.proofs.Common.{◌∷◌, ◌++◌, refl, sym, ◌∙◌, ap, arith, nat_tests, Call, Entry, Each, entries_of}
-use Rattle.studio_seats.proofs.Common.{is_commit, raised_by, AreFreed, IsDue, IsFullReclaim, unfreed, Deed, by_seat}
-use Rattle.studio_seats.proofs.Common.{deeds_of, Asks, piece_in, pieces_by, asks_piece}
-use Rattle.studio_seats.specs.Freeing.{makes_piece, unfreed_by}
+use Rattle.studio_seats.proofs.Common.{◌≡◌, ◌⊎◌, inl, inr, ℕ, ◌==◌, ◌&&◌, if◌then◌else◌, Bool, true, false, List}
+use Rattle.studio_seats.proofs.Common.{[], ◌∷◌, ◌++◌, refl, sym, ap, arith, nat_tests, Call, Entry, Each}
+use Rattle.studio_seats.proofs.Common.{entries_of, is_commit, raised_by, AreFreed, IsDue, IsFullReclaim, unfreed, Deed}
+use Rattle.studio_seats.proofs.Common.{by_seat, deeds_of, Asks, piece_in, pieces_by, asks_piece}
+use Rattle.studio_seats.specs.Freeing.{unfreed_by}
 
 pub same_seat : (a b : ℕ) → (a == b) ≡ true → a ≡ b
 same_seat a b h = grind (arith, nat_tests)
@@ -58,7 +58,7 @@ reclaim_frees ended n d is due =
 pub no_piece_among : (ds : List Deed) → Each (λ d. IsFullReclaim d.call) ds → deeds_of asks_piece ds ≡ []
 no_piece_among [] h = refl
 no_piece_among (d ∷ ds) h =
-    ap (λ (c : Call). (if makes_piece c then d ∷ [] else []) ++ deeds_of asks_piece ds) h.0 ∙ no_piece_among ds h.1
+    rw h.0 (no_piece_among ds h.1)
 
 -- a seat that made reclaims alone added no pieces
 pub no_pieces_by : (to by seat n : ℕ) (ds : List Deed) → Asks IsFullReclaim seat ds → pieces_by to by seat n ds ≡ []
@@ -74,6 +74,5 @@ no_pieces_by to by seat n (d ∷ ds) h = at (seat == d.actor) refl (no_pieces_by
 
     at : (b : Bool) → (seat == d.actor) ≡ b → pieces_by to by seat m ds ≡ []
         → (if b && is_commit d then piece_in to by d.call n else []) ++ pieces_by to by seat m ds ≡ []
-    at true is later = ap (λ (l : List (List ℤ × ℕ)). l ++ pieces_by to by seat m ds)
-        (either (is_commit d) (h.0 (sym (same_seat seat d.actor is)))) ∙ later
+    at true is later = rw (either (is_commit d) (h.0 (sym (same_seat seat d.actor is)))) later
     at false is later = later

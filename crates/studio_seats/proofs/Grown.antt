@@ -1,10 +1,10 @@
 -- A list of deeds that is one longer.
-use Rattle.studio_seats.proofs.Common.{◌≡◌, ◌⊎◌, inl, inr, ⊎_elim, refl, sym, ap, ◌∙◌, subst, ℕ, IsSome, Option, Some}
-use Rattle.studio_seats.proofs.Common.{None, List, [], ◌∷◌, ◌++◌, append_assoc, Result, Ok, Err, append-nil, none-some}
-use Rattle.studio_seats.proofs.Common.{IfErr, Run, Step, name_in, Reply, Refused, Call, Entry, Refusal, Ghosts, IsHeld}
+use Rattle.studio_seats.proofs.Common.{◌≡◌, ◌⊎◌, inl, inr, refl, sym, ap, ◌∙◌, subst, ℕ, IsSome, Option, Some, None}
+use Rattle.studio_seats.proofs.Common.{List, [], ◌∷◌, ◌++◌, append_assoc, Result, Err, append-nil, none-some, IfErr}
+use Rattle.studio_seats.proofs.Common.{Answers, Step, name_in, Reply, Refused, Call, Entry, Refusal, Ghosts, IsHeld}
 use Rattle.studio_seats.proofs.Common.{IsStudio, shown, studio_of, Took, freeing, silent, reply_of, Core, lasts_took}
 use Rattle.studio_seats.proofs.Common.{Each-append, Deed, deed, entry_of, entries_of, number_after, raised_by, AllTell}
-use Rattle.studio_seats.proofs.Common.{Chain, Does, Origin, StandsFor}
+use Rattle.studio_seats.proofs.Common.{Chain, Does, Origin, StandsFor, VaultGhosts, Studio}
 use Rattle.disk_model.specs.{Disk.Files, MomentLaws.upto_refl, MomentLaws.upto_trans}
 use Rattle.disk_model.proofs.Moments.{each_on}
 use Rattle.project_journal.specs.Gate.{EachNow, EachSince}
@@ -17,9 +17,6 @@ use Rattle.pin_turn.proofs.Sums.{Each-left, Each-right}
 use Rattle.studio_seats.specs.Leads.{HadTurn, IsUnharmed, Leads, StopsInFlight}
 use Rattle.studio_seats.specs.Stands.{AreTold}
 use Rattle.studio_seats.proofs.{Refused.number_raised, Refused.stopped_not, Refused.stopped_shown, TestFaults.had_turn}
-use Rattle.pcm_base.specs.declared.refusal.Refusal.TheVariants as refusal
-use Rattle.pcm_base.specs.Studio as model
-use Rattle.edit_ports.specs.declared.vault.Vault as vault
 
 -- ---- lists
 
@@ -32,13 +29,13 @@ number_append n [] es = refl
 number_append n (d ∷ ds) es = number_append (raised_by d n) ds es
 
 -- where all vaults tell, they do for each deed
-pub all_told : {V : Type 0} (vaults : vault.Ghosts V) (deeds : List Deed) → AllTell vaults → AreTold vaults deeds
+pub all_told : {V : Type 0} (vaults : VaultGhosts V) (deeds : List Deed) → AllTell vaults → AreTold vaults deeds
 all_told vaults [] tell = tt
 all_told vaults (d ∷ ds) tell = (λ some. tell, all_told vaults ds tell)
 
 -- ---- one entry more
 
-flight_more : (t : model.Studio) (es : List Entry) (e : Entry) (c : Files) → StopsInFlight t es c
+flight_more : (t : Studio) (es : List Entry) (e : Entry) (c : Files) → StopsInFlight t es c
     → StopsInFlight t (es ++ e ∷ []) c
 flight_more t es e c h = record {
   front = h.front;
@@ -68,17 +65,16 @@ does_silent disk told old call what removed new none took = record {
   lasts = lasts_took disk old (freeing call what removed) new took;
 }
 
--- where the disk held the studio, no call tells a damaged file
+-- where the disk held the studio, no call returns a damaged file
 unharmed : {D : Type 0} (disk : Ghosts D) (old new : Core D) (what : Result Reply Refusal) → IsHeld disk old
     → IfErr what (Left disk old new) → IfErr what IsUnharmed
-unharmed disk old new (Ok r) held left = tt
-unharmed disk old new (Err (refusal.Damaged file at want have)) held left =
-    absurd (held_undamaged disk old new (refusal.Damaged file at want have) held left)
-unharmed disk old new (Err why) held left = tt
+unharmed disk old new (Err (Refusal.Damaged file at want have)) held left =
+    absurd (held_undamaged disk old new (Refusal.Damaged file at want have) held left)
+unharmed disk old new _ held left = tt
 
--- a call that stopped the studio told that the disk failed
+-- a call that stopped the studio returned that the disk failed
 failed : {D : Type 0} (disk : Ghosts D) (old new : Core D) (what : Result Reply Refusal) → old.stopped ≡ None
-    → IsSome new.stopped → Stops disk old what new → reply_of what ≡ Refused refusal.DiskFault
+    → IsSome new.stopped → Stops disk old what new → reply_of what ≡ Refused Refusal.DiskFault
 failed disk old new what still some (inl same) = absurd (stopped_not new.stopped some (same.0 ∙ still))
 failed disk old new what still some (inr stops) = ap reply_of stops.2
 
@@ -91,7 +87,7 @@ module _ {D V : Type 0} (o : Origin D V) (old new : Core D) (deeds : List Deed) 
   abbrev told : Type 0
   told = AreTold o.vaults (deeds ++ d ∷ [])
 
-  abbrev t : model.Studio
+  abbrev t : Studio
   t = studio_of disk start
 
   abbrev all : List Entry
@@ -103,9 +99,15 @@ module _ {D V : Type 0} (o : Origin D V) (old new : Core D) (deeds : List Deed) 
   took : told → Took disk old (exchange_of d.call d.sound d.what does.removed) new
   took tell = does.took (Each-right (λ (z : Deed). IsSome (name_in z.call) → AllTell o.vaults) deeds (d ∷ []) tell).0
 
+  -- the disk held the studio before it
+  kept : told → IsHeld disk start → IsHeld disk old
+  kept tell held = was.held (before tell) held
+
+  answers : told → IsHeld disk start → Answers (studio_of disk old) d.call d.sound d.what (studio_of disk new)
+  answers tell held = (took tell).step (kept tell held)
+
   step : told → IsHeld disk start → Step (studio_of disk old) d.call d.sound (entry_of d).reply (studio_of disk new)
-  step tell held =
-      step_of (studio_of disk old) (studio_of disk new) d.call d.sound d.what ((took tell).step (was.held (before tell) held))
+  step tell held = step_of (studio_of disk old) (studio_of disk new) d.call d.sound d.what (answers tell held)
 
   -- ---- at any moment
 
@@ -121,8 +123,8 @@ module _ {D V : Type 0} (o : Origin D V) (old new : Core D) (deeds : List Deed) 
     cut = refl;
     reached = studio_of disk old;
     run = was.run (before tell) held;
-    keeps = flies disk old new (exchange_of d.call d.sound d.what does.removed) (took tell) still
-        (was.held (before tell) held) c since;
+    keeps = flies disk old new (exchange_of d.call d.sound d.what does.removed) (took tell) still (kept tell held) c
+        since;
   }
 
   -- a studio that had stopped asks nothing more of the disk
@@ -131,10 +133,7 @@ module _ {D V : Type 0} (o : Origin D V) (old new : Core D) (deeds : List Deed) 
   stays None still tell going held =
       each_on (KeepsPrefix t all) (disk.clock start.store) (took tell).changed.images was.later
       (first tell going held) (second tell still held)
-  stays (Some faults) stopped tell going held =
-      let same = does.lasts.rests (subst IsSome (sym stopped) refl) in
-      subst (λ (z : D). EachSince disk start.store z (KeepsPrefix t all)) (sym (ap (λ (z : Core D). z.store) same))
-      (first tell going held)
+  stays (Some faults) stopped tell going held = rw (does.lasts.rests (rw stopped refl)) (first tell going held)
 
   -- ---- from now on, where it has stopped
 
@@ -146,38 +145,37 @@ module _ {D V : Type 0} (o : Origin D V) (old new : Core D) (deeds : List Deed) 
   stops tell still some held c now =
       let images = (took tell).changed.images in
       let since = images.fewer (disk.clock old.store) (disk.clock new.store) c images.later (upto_refl _) now in
-      let same = stopped_shown (studio_of disk old) (studio_of disk new) d.call d.sound d.what
-      ((took tell).step (was.held (before tell) held)) still some in
-      ⊎_elim
-      (λ kept. inl (subst (λ (z : _). Keeps c z) (sym same) kept))
-      (λ flight. inr record {
-        front = entries_of deeds;
-        last = entry_of d;
-        back = [];
-        cut = refl;
-        reached = studio_of disk old;
-        run = was.run (before tell) held;
-        going = still;
-        next = studio_of disk new;
-        step = step tell held;
-        stops = some;
-        fault = failed disk old new d.what still some (took tell).stops;
-        flight = flight;
-      })
-      ((took tell).any_moment still (was.held (before tell) held) c since)
+      let same = stopped_shown (studio_of disk old) (studio_of disk new) d.call d.sound d.what (answers tell held) still
+      some in
+      elim ((took tell).any_moment still (kept tell held) c since) [
+        | inl keeps ↦ inl (subst (Keeps c) (sym same) keeps)
+        | inr flight ↦ inr record {
+          front = entries_of deeds;
+          last = entry_of d;
+          back = [];
+          cut = refl;
+          reached = studio_of disk old;
+          run = was.run (before tell) held;
+          going = still;
+          next = studio_of disk new;
+          step = step tell held;
+          stops = some;
+          fault = failed disk old new d.what still some (took tell).stops;
+          flight = flight;
+        }
+      ]
 
   -- an earlier one did
   stopped_still : told → start.stopped ≡ None → IsSome old.stopped → IsHeld disk start
       → EachNow disk old.store (Ends old)
-  stopped_still tell going some held c now =
-      ⊎_elim (λ kept. inl kept) (λ flight. inr (flight_more t (entries_of deeds) (entry_of d) c flight))
-      (was.stopped (before tell) going some held c now)
+  stopped_still tell going some held c now = elim (was.stopped (before tell) going some held c now)
+      [ inl keeps ↦ inl keeps | inr flight ↦ inr (flight_more t (entries_of deeds) (entry_of d) c flight) ]
 
   ends : (o : Option ℕ) → old.stopped ≡ o → told → start.stopped ≡ None → IsSome new.stopped → IsHeld disk start
       → EachNow disk new.store (Ends new)
   ends None still tell going some held = stops tell still some held
   ends (Some faults) stopped tell going some held =
-      let some_old = subst IsSome (sym stopped) refl in
+      let some_old : IsSome old.stopped = rw stopped refl in
       subst (λ (z : Core D). EachNow disk z.store (Ends z)) (sym (does.lasts.rests some_old))
       (stopped_still tell going some_old held)
 
@@ -193,23 +191,16 @@ module _ {D V : Type 0} (o : Origin D V) (old new : Core D) (deeds : List Deed) 
         ∙ sym (number_append start.commit_number deeds (d ∷ []));
     later = upto_trans (disk.clock start.store) (disk.clock old.store) (disk.clock new.store) was.later
         does.lasts.changed.images.later;
-    held = λ tell held. (took tell).held (was.held (before tell) held);
-    run = λ tell held. subst (λ (es : List Entry). Run t es (studio_of disk new)) (sym more)
-        (run_more t (studio_of disk old) (studio_of disk new) (entries_of deeds) (entry_of d)
+    held = λ tell held. (took tell).held (kept tell held);
+    run = λ tell held. rw more (run_more t (studio_of disk old) (studio_of disk new) (entries_of deeds) (entry_of d)
         (was.run (before tell) held) (step tell held));
     whole = λ tell held. Each-append (λ (z : Deed). IfErr z.what IsUnharmed) deeds (d ∷ [])
-        (was.whole (before tell) held) (unharmed disk old new d.what (was.held (before tell) held) does.lasts.left, tt);
-    turns = λ tell held. Each-append HadTurn deeds (d ∷ []) (was.turns (before tell) held) (
-      had_turn (studio_of disk old) (studio_of disk new) d.call d.sound d.what
-          ((took tell).step (was.held (before tell) held)),
-      tt,
-    );
-    any_moment = λ tell going held. subst (λ (es : List Entry). EachSince disk start.store new.store (KeepsPrefix t es))
-        (sym more) (stays old.stopped refl tell going held);
-    going = λ tell still held. (took tell).now still (was.held (before tell) held);
-    stopped = λ tell going some held. subst (λ (es : List Entry).
-        EachNow disk new.store (λ c. Keeps c (shown (studio_of disk new)) ⊎ StopsInFlight t es c)) (sym more)
-        (ends old.stopped refl tell going some held);
+        (was.whole (before tell) held) (unharmed disk old new d.what (kept tell held) does.lasts.left, tt);
+    turns = λ tell held. Each-append HadTurn deeds (d ∷ []) (was.turns (before tell) held)
+        (had_turn (studio_of disk old) (studio_of disk new) d.call d.sound d.what (answers tell held), tt);
+    any_moment = λ tell going held. rw more (stays old.stopped refl tell going held);
+    going = λ tell still held. (took tell).now still (kept tell held);
+    stopped = λ tell going some held. rw more (ends old.stopped refl tell going some held);
   }
 
 -- no deed leads nowhere
@@ -237,10 +228,8 @@ led_none o is = record {
 -- the deeds after some
 led_by : {D V : Type 0} (o : Origin D V) (old : Core D) (front back : List Deed) (new : Core D) → Leads o old front
     → Chain o.disk o.vaults old back new → Leads o new (front ++ back)
-led_by {D} o old front [] new was is =
-    subst (λ (z : Core D × List Deed). Leads o z.0 z.1) (λ i. (sym is i, sym (append-nil front) i)) was
-led_by o old front (d ∷ back) new was chain =
-    subst (Leads o new) (append_assoc front (d ∷ []) back)
+led_by o old front [] new was is = rw (is, append-nil) was
+led_by o old front (d ∷ back) new was chain = rw append_assoc at
     (led_by o chain.0 (front ++ d ∷ []) back new (led_on o old chain.0 front was d chain.1) chain.2)
 
 -- what follows of the deeds for which a studio stands

@@ -1,22 +1,21 @@
 -- Deeds over vaults that do not report their bytes, as deeds over vaults that do.
-use Rattle.studio_seats.proofs.Common.{◌≡◌, inl, inr, ⊎_elim, ◌∙◌, refl, sym, ap, ℕ, true, IsSome, Option, Some, None}
-use Rattle.studio_seats.proofs.Common.{List, [], ◌∷◌, Result, Ok, Err, ◌⊎◌, subst, true≢false, Reply, Call, Line}
+use Rattle.studio_seats.proofs.Common.{◌≡◌, inl, inr, ◌∙◌, refl, sym, ap, ℕ, true, IsSome, Option, Some, None}
+use Rattle.studio_seats.proofs.Common.{List, [], ◌∷◌, Result, Ok, Err, ◌⊎◌, true≢false, Reply, Call, Line}
 use Rattle.studio_seats.proofs.Common.{Refusal, name_in, Ghosts, Each, Core, Took, lasts_took, Deed, AllTell, Chain}
-use Rattle.studio_seats.proofs.Common.{Does, origin}
-use Rattle.std.proofs.Common.{is_some, IfErr, IfOk}
+use Rattle.studio_seats.proofs.Common.{Does, origin, IfErr, IfOk, VaultGhosts}
+use Rattle.std.proofs.Common.{is_some}
 use Rattle.pcm_base.specs.{declared.command.Command.TheVariants.Import}
 use Rattle.editor_state.specs.Vaults.{IfCutShort, IsCutShort, left_as}
 use Rattle.editor_state.specs.{Exchanges.reads_sound, Took.with_sound}
 use Rattle.studio_seats.specs.Imports.{AreReadAs, ImportsLead, IsReadAs, IsReadable, telling}
 use Rattle.studio_seats.proofs.Grown.{all_told, leads}
-use Rattle.edit_ports.specs.declared.vault.Vault as vault
 
 -- a call that reads a sound is an import
 import_of : (c : Call) → reads_sound c ≡ true → (name : List ℕ) × (c ≡ Line (Import name))
 import_of (Line (Import name)) reads = (name, refl)
 import_of c reads = absurd (true≢false (sym reads))
 
-module _ {D V : Type 0} (disk : Ghosts D) (vaults : vault.Ghosts V) where
+module _ {D V : Type 0} (disk : Ghosts D) (vaults : VaultGhosts V) where
   -- ---- one deed
 
   -- as it was read
@@ -43,8 +42,7 @@ module _ {D V : Type 0} (disk : Ghosts D) (vaults : vault.Ghosts V) where
     by_sound : (name : List ℕ) → d.call ≡ Line (Import name) → (sound : Option (List ℕ))
         → Took disk old (with_sound (Line (Import name)) (left_as sound) d.what) new → ReadOne old d new
     by_sound name is sound step =
-        let took : Took disk old (with_sound d.call (left_as sound) d.what) new =
-        subst (λ (c : Call). Took disk old (with_sound c (left_as sound) d.what) new) (sym is) step in record {
+        let took : Took disk old (with_sound d.call (left_as sound) d.what) new = rw is step in record {
           read = record d { sound = left_as sound };
           is = record { same = refl; sound = λ silent. absurd (true≢false (sym (ap reads_sound is) ∙ silent)) };
           does = record {
@@ -67,13 +65,13 @@ module _ {D V : Type 0} (disk : Ghosts D) (vaults : vault.Ghosts V) where
 
     by_name : (name : Option (List ℕ)) → name_in d.call ≡ name → IsReadable vaults d → ReadOne old d new
     by_name None none readable = as_told (λ some. absurd (true≢false (sym some ∙ ap is_some none)))
-    by_name (Some name) named readable = ⊎_elim
-        (λ told. as_told (λ some. told))
-        (λ whole.
-        let named_by = import_of d.call whole.0 in
-        let imported = does.imported named_by.0 named_by.1 in
-        by_answer named_by.0 named_by.1 d.what whole.1 imported.some imported.reason)
-        (readable (ap is_some named))
+    by_name (Some name) named readable = elim (readable (ap is_some named)) [
+      | inl told ↦ as_told (λ some. told)
+      | inr whole ↦
+          let (name_by, is) = import_of d.call whole.0 in
+          let imported = does.imported name_by is in
+          by_answer name_by is d.what whole.1 imported.some imported.reason
+    ]
 
   -- ---- all of them
 

@@ -1,12 +1,12 @@
 -- What a line did, over a vault.
-use Rattle.studio_seats.proofs.Common.{◌≡◌, ◌∙◌, refl, sym, ap, subst, ℕ, IsTrue, List, Option, Some, None, Result, Ok}
+use Rattle.studio_seats.proofs.Common.{◌≡◌, ◌∙◌, refl, sym, ap, ℕ, IsTrue, List, Option, Some, None, Result, Ok}
 use Rattle.studio_seats.proofs.Common.{Err, IfErr, Heard, name_in_line, Answer, Reply, Refused, Line, Refusal, Ghosts}
 use Rattle.studio_seats.proofs.Common.{move_of, reply_of, as_reply, deed, Does}
 use Rattle.pcm_base.specs.{declared.command.Command.Command, Outside.Sounds}
 use Rattle.editor_state.specs.Applied.{Applies, EndsAlike, Span, sound_moved}
 
 module _ {R : Type 0} where
-  -- the answer and the result tell what the line was told
+  -- the answer and the result have what the line returned
   told_is : (told : Result Reply Refusal) (result : Result R Refusal) (reply : Reply) → reply ≡ reply_of told
       → EndsAlike told result → told ≡ as_reply (λ _. reply) result
   told_is (Ok r) (Ok x) reply is ends = ap Ok (sym is)
@@ -19,11 +19,8 @@ module _ {R : Type 0} where
       → Applies disk span (Line c) result answer
       → Does disk told span.old
       (deed actor (Line c) (as_reply (λ _. answer.reply) result) (sound_moved span (name_in_line c))) span.new
-  does_line {actor = actor} disk told span c result answer tell a =
-      subst (λ (z : Result Reply Refusal).
-      Does disk told span.old (deed actor (Line c) z (sound_moved span (name_in_line c))) span.new)
-      (told_is a.told result answer.reply a.reply a.ends)
-      (record {
+  does_line disk told span c result answer tell a =
+      rw (← (told_is a.told result answer.reply a.reply a.ends)) (record {
         removed = a.over.removed;
         took = λ may. a.over.took (λ some. tell (may some));
         imported = a.over.imported;

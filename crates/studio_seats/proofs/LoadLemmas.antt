@@ -2,20 +2,18 @@
 use Rattle.studio_seats.proofs.Common.{◌≡◌, ◌⊎◌, ℕ, List, ◌∷◌, ◌++◌, length, Some, None, subst, Result, Ok, Reply}
 use Rattle.studio_seats.proofs.Common.{Length, Loaded, Call, LoadPin, PinLen, LoadedTrack, Refusal, Frame, Project}
 use Rattle.studio_seats.proofs.Common.{loaded_of, mix_of, Answers, Ghosts, Core, IsHeld, studio_of, AllTell, StandsFor}
-use Rattle.studio_seats.proofs.Common.{origin, Deed, entries_of, ShowsPin, pin_frames}
+use Rattle.studio_seats.proofs.Common.{origin, Deed, entries_of, ShowsPin, pin_frames, VaultGhosts, Studio}
 use Rattle.studio_seats.proofs.PinLemmas.{load_tracks, pin_length, run_shows}
 use Rattle.studio_seats.proofs.{Chains.chain_cut, Grown.all_told, Grown.leads}
-use Rattle.pcm_base.specs.Studio as model
-use Rattle.edit_ports.specs.declared.vault.Vault as vault
 
 -- What a pin of these frames shows at a deed, or that it is gone, and the step that the deed is.
 record AtDeed (pin : ℕ) (all : List Frame) (d : Deed) : Type 0 where
-  t : model.Studio
-  u : model.Studio
+  t : Studio
+  u : Studio
   step : Answers t d.call d.sound d.what u
   shows : ShowsPin t.state pin all ⊎ (t.state.pins pin ≡ None)
 
-module _ {D V : Type 0} (disk : Ghosts D) (vaults : vault.Ghosts V) (start now : Core D) (front back : List Deed)
+module _ {D V : Type 0} (disk : Ghosts D) (vaults : VaultGhosts V) (start now : Core D) (front back : List Deed)
     (d : Deed) (stands : StandsFor (origin disk vaults start) now (front ++ d ∷ back)) (tell : AllTell vaults)
     (held : IsHeld disk start) (pin : ℕ) (all : List Frame)
     (frames : pin_frames (studio_of disk start).rate (studio_of disk start).state (entries_of front) pin ≡ Some all)
@@ -41,14 +39,12 @@ module _ {D V : Type 0} (disk : Ghosts D) (vaults : vault.Ghosts V) (start now :
         → (project : Project) × (all ≡ mix_of project) × (tracks ≡ loaded_of from most project)
     loads_at from most tracks call_is what_is =
         let at = at_deed in
-        load_tracks at.t at.u pin from most d.sound tracks all
-        (subst (λ (w : Result Reply Refusal). Answers at.t (LoadPin pin from most) d.sound w at.u) what_is
-        (subst (λ (c : Call). Answers at.t c d.sound d.what at.u) call_is at.step)) at.shows
+        load_tracks at.t at.u pin from most d.sound tracks all (subst (λ (z : Call × Result Reply Refusal).
+        Answers at.t z.0 d.sound z.1 at.u) (λ i. (call_is i, what_is i)) at.step) at.shows
 
     -- a length that was answered
     pub length_at : (n : ℕ) → d.call ≡ PinLen pin → d.what ≡ Ok (Length n) → n ≡ length all
     length_at n call_is what_is =
         let at = at_deed in
-        pin_length at.t at.u pin n d.sound all
-        (subst (λ (w : Result Reply Refusal). Answers at.t (PinLen pin) d.sound w at.u) what_is
-        (subst (λ (c : Call). Answers at.t c d.sound d.what at.u) call_is at.step)) at.shows
+        pin_length at.t at.u pin n d.sound all (subst (λ (z : Call × Result Reply Refusal).
+        Answers at.t z.0 d.sound z.1 at.u) (λ i. (call_is i, what_is i)) at.step) at.shows

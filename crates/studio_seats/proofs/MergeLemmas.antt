@@ -14,7 +14,6 @@ use Rattle.studio_seats.specs.Merge.{any_seat, numbers_if, numbers_of, Rises, on
 use Rattle.studio_seats.specs.Merge.{OnlyPieces, numbers_in, PieceNumbers, OwnOrder}
 use Rattle.studio_seats.proofs.PieceLemmas.{not_mine, pieces_append, pieces_others}
 use Rattle.studio_seats.proofs.{Grown.number_append, Turns.number_grows}
-use Rattle.pcm_base.specs.declared.command.Call.TheVariants as call
 
 -- the numbers of some commits are those that come next
 counted_next : (k n m : ℕ) → once_below k (n + 1) + times k (counted_from (n + 1) m) ≡ once_below k (n + m + 1)
@@ -91,19 +90,12 @@ merged_numbers first log seats commits h =
           let a = both_kinds any_seat no_seat first h.opening (splits_all h.opening) k in
           let none : times k (numbers_of no_seat first h.opening) ≡ 0 = ap (times k) (none_of first h.opening) in
           let b = both_kinds (by_seat seats.script) (by_seat seats.recorder) mid h.rest h.kinds k in
-          let o : times k commits.opening ≡ times k (numbers_of any_seat first h.opening) = ap (times k) h.opening_is in
-          let s : times k commits.script ≡ times k (numbers_of (by_seat seats.script) mid h.rest) =
-          ap (times k) h.script_is in
-          let p : times k commits.pieces ≡ times k (numbers_of (by_seat seats.recorder) mid h.rest) =
-          ap (times k) h.pieces_is in
-          let z : once_below k (number_after first log + 1) ≡ once_below k (number_after mid h.rest + 1) =
-          ap (λ (n : ℕ). once_below k (n + 1)) last in
-          omega (arith, a, none, b, o, s, p, z);
-      opening_rises = subst (Rises first) (sym h.opening_is) (numbers_rise any_seat first h.opening);
-      script_rises = subst (Rises first) (sym h.script_is) (rises_from first mid
-          (numbers_of (by_seat seats.script) mid h.rest) grown (numbers_rise (by_seat seats.script) mid h.rest));
-      pieces_rise = subst (Rises first) (sym h.pieces_is) (rises_from first mid
-          (numbers_of (by_seat seats.recorder) mid h.rest) grown (numbers_rise (by_seat seats.recorder) mid h.rest));
+          rw (h.opening_is, h.script_is, h.pieces_is, last) (omega (arith, a, none, b));
+      opening_rises = rw h.opening_is (numbers_rise any_seat first h.opening);
+      script_rises = rw h.script_is (rises_from first mid (numbers_of (by_seat seats.script) mid h.rest) grown
+          (numbers_rise (by_seat seats.script) mid h.rest));
+      pieces_rise = rw h.pieces_is (rises_from first mid (numbers_of (by_seat seats.recorder) mid h.rest) grown
+          (numbers_rise (by_seat seats.recorder) mid h.rest));
     }
 
 -- deeds of seats with lower numbers are by others
@@ -128,11 +120,10 @@ parts_many size (suc count) xs = ap suc (parts_many size count (drop size xs))
 
 piece_number : (to by : ℕ) (asked : Call) (n : ℕ) → is_piece to by asked ≡ true
     → numbers_in (piece_in to by asked n) ≡ counted_from (n + 1) (commits_of asked)
-piece_number to by (call.Piece track tag samples) n h =
-    ap (λ (b : Bool). numbers_in (if b then numbered_pieces n (pieces_of samples) else [])) h
-    ∙ (numbers_counted n (pieces_of samples)
+piece_number to by (Call.Piece track tag samples) n h =
+    rw h (numbers_counted n (pieces_of samples)
     ∙ ap (counted_from (n + 1)) (parts_many CHUNK_SAMPLES (pieces_in (length samples)) samples))
-piece_number to by _ n h = let e : false ≡ true = h in absurd (cc)
+piece_number to by _ n h = let e : false ≡ true = h in absurd cc
 
 -- of a deed that made commits they are those of its call, and of another there are none
 one_number : (to by : ℕ) (mine : Bool) (what : Result Reply Refusal) (asked : Call) (n : ℕ)
@@ -146,30 +137,29 @@ one_number to by true (Ok r) asked n h = some (commits_of asked) refl
     some : (m : ℕ) → commits_of asked ≡ m
         → numbers_in (if nat_lt 0 (commits_of asked) then piece_in to by asked n else [])
         ≡ counted_from (n + 1) (commits_of asked)
-    some zero is = ap (λ (z : ℕ). numbers_in (if nat_lt 0 z then piece_in to by asked n else [])) is
-        ∙ ap (counted_from (n + 1)) (sym is)
+    some zero is = rw is
     some (suc m) is =
         let yes : nat_lt 0 (commits_of asked) ≡ true = ap (nat_lt 0) is ∙ lt-ltb 0 (suc m) (omega arith) in
-        ap (λ (b : Bool). numbers_in (if b then piece_in to by asked n else [])) yes
-        ∙ piece_number to by asked n (h yes)
+        rw yes (piece_number to by asked n (h yes))
 
 piece_numbers : (to by seat n : ℕ) (es : List Deed) → OnlyPieces to by seat es
     → numbers_in (pieces_by to by seat n es) ≡ numbers_of (by_seat seat) n es
 piece_numbers to by seat n [] h = refl
 piece_numbers to by seat n (e ∷ es) h =
     pieces_numbers (piece_by to by seat e n) (pieces_by to by seat (raised_by e n) es)
-    ∙ (ap (λ (l : List ℕ). l ++ numbers_in (pieces_by to by seat (raised_by e n) es))
-    (one_number to by (by_seat seat e) e.what e.call n h.0)
-    ∙ ap (λ (l : List ℕ). numbers_if (by_seat seat e) (made e) n ++ l)
-    (piece_numbers to by seat (raised_by e n) es h.1))
+    ∙ (λ i. one_number to by (by_seat seat e) e.what e.call n h.0 i
+    ++ piece_numbers to by seat (raised_by e n) es h.1 i)
 
 pub pieces_are_chunks : PieceNumbers
 pieces_are_chunks to by seat first before seen more chunks numbers fresh took others only =
     let whole : pieces_by to by seat first (seen ++ more) ≡ zip (take (length numbers) chunks) numbers =
-    pieces_append to by seat first seen more ∙ (ap (λ (l : List (List ℤ × ℕ)). pieces_by to by seat first seen ++ l)
-    (pieces_others to by seat (number_after first seen) more others) ∙ (append-nil (pieces_by to by seat first seen)
-    ∙ (took ∙ ap (λ (l : List (List ℤ × ℕ)). l ++ zip (take (length numbers) chunks) numbers)
-    (pieces_others to by seat first before (lower_others seat before fresh))))) in
+    rw (
+      pieces_append to by seat first seen more,
+      pieces_others to by seat (number_after first seen) more others,
+      append-nil (pieces_by to by seat first seen),
+      took,
+      pieces_others to by seat first before (lower_others seat before fresh),
+    ) in
     (whole, sym (piece_numbers to by seat first (seen ++ more) only) ∙ ap numbers_in whole)
 
 pub deeds_append : (kind : Deed → Bool) (xs ys : List Deed)
@@ -182,8 +172,7 @@ pub deeds_others : (seat : ℕ) (more : List Deed) → ByOthers actor_of (seat �
     → deeds_of (by_seat seat) more ≡ []
 deeds_others seat [] h = refl
 deeds_others seat (e ∷ es) h =
-    ap (λ (b : Bool). (if b then e ∷ [] else []) ++ deeds_of (by_seat seat) es) (not_mine (by_seat seat e) h.0)
-    ∙ deeds_others seat es h.1
+    rw (not_mine (by_seat seat e) h.0) (deeds_others seat es h.1)
 
 pub numbers_append : (kind : Deed → Bool) (n : ℕ) (xs ys : List Deed)
     → numbers_of kind n (xs ++ ys) ≡ numbers_of kind n xs ++ numbers_of kind (number_after n xs) ys
@@ -199,13 +188,14 @@ pub numbers_others : (seat n : ℕ) (more : List Deed) → ByOthers actor_of (se
     → numbers_of (by_seat seat) n more ≡ []
 numbers_others seat n [] h = refl
 numbers_others seat n (e ∷ es) h =
-    ap (λ (b : Bool). numbers_if b (made e) n ++ numbers_of (by_seat seat) (raised_by e n) es)
-    (not_mine (by_seat seat e) h.0) ∙ numbers_others seat (raised_by e n) es h.1
+    rw (not_mine (by_seat seat e) h.0) (numbers_others seat (raised_by e n) es h.1)
 
 pub own_order : OwnOrder
-own_order seat seen between e mine others = deeds_append (by_seat seat) (seen ++ between) (e ∷ [])
-    ∙ (ap (λ (l : List Deed). l ++ deeds_of (by_seat seat) (e ∷ []))
-    (deeds_append (by_seat seat) seen between ∙ (ap (λ (l : List Deed). deeds_of (by_seat seat) seen ++ l)
-    (deeds_others seat between others) ∙ append-nil (deeds_of (by_seat seat) seen)))
-    ∙ ap (λ (b : Bool). deeds_of (by_seat seat) seen ++ ((if b then e ∷ [] else []) ++ []))
-    (eq-eqb seat e.actor (sym mine)))
+own_order seat seen between e mine others =
+    rw (
+      deeds_append (by_seat seat) (seen ++ between) (e ∷ []),
+      deeds_append (by_seat seat) seen between,
+      deeds_others seat between others,
+      append-nil (deeds_of (by_seat seat) seen),
+      eq-eqb seat e.actor (sym mine),
+    )

@@ -1,12 +1,11 @@
 -- A seat goes on, turn by turn.
-use Rattle.studio_seats.proofs.Common.{◌≡◌, ⊎_elim, ℕ, ◌+◌, if◌then◌else◌, ◌==◌, Bool, true, List, [], ◌∷◌, ◌++◌}
-use Rattle.studio_seats.proofs.Common.{length, refl, sym, ◌∙◌, ap, subst, arith, append_assoc, eq-eqb, Result}
+use Rattle.studio_seats.proofs.Common.{◌≡◌, ℕ, ◌+◌, if◌then◌else◌, ◌==◌, Bool, true, List, [], ◌∷◌, ◌++◌}
+use Rattle.studio_seats.proofs.Common.{length, refl, sym, ◌∙◌, ap, arith, append_assoc, eq-eqb, Result}
 use Rattle.studio_seats.proofs.Common.{true≢false, append-nil, length-append, Reply, Call, SoundMove, Refusal, Said}
-use Rattle.studio_seats.proofs.Common.{Ghosts, View, Each, ByOthers, Core, Says, Spends, Turned, asked, views, Held}
-use Rattle.studio_seats.proofs.Common.{Deed, actor_of, deed, by_seat, Onward, Asks, origin}
+use Rattle.studio_seats.proofs.Common.{Ghosts, View, Each, ByOthers, Core, Says, Turned, asked, views, Held}
+use Rattle.studio_seats.proofs.Common.{Deed, actor_of, deed, by_seat, Onward, Asks, origin, VaultGhosts, inl, inr}
 use Rattle.studio_seats.specs.{Onward.places_of}
 use Rattle.studio_seats.proofs.PieceLemmas.{not_mine}
-use Rattle.edit_ports.specs.declared.vault.Vault as vault
 
 pub each_append : (P : Deed → Type 0) (xs ys : List Deed) → Each P xs → Each P ys → Each P (xs ++ ys)
 each_append P [] ys h k = k
@@ -27,9 +26,7 @@ pub places_others : (seat k : ℕ) (more : List Deed) → ByOthers actor_of (sea
     → places_of (by_seat seat) k more ≡ []
 places_others seat k [] h = refl
 places_others seat k (e ∷ es) h =
-    ap (λ (b : Bool). (if b then k ∷ [] else []) ++ places_of (by_seat seat) (k + 1) es)
-    (not_mine (seat == e.actor) h.0)
-    ∙ places_others seat (k + 1) es h.1
+    rw (not_mine (seat == e.actor) h.0) (places_others seat (k + 1) es h.1)
 
 pub asks_others : (fits : Call → Type 0) (seat : ℕ) (more : List Deed) → ByOthers actor_of (seat ∷ []) more
     → Asks fits seat more
@@ -41,7 +38,7 @@ asks_others fits seat (e ∷ es) h = (
 
 pub one_place : (seat k : ℕ) (c : Call) (what : Result Reply Refusal) (sound : SoundMove)
     → places_of (by_seat seat) k (deed seat c what sound ∷ []) ≡ k ∷ []
-one_place seat k c what sound = ap (λ (b : Bool). (if b then k ∷ [] else []) ++ []) (eq-eqb seat seat refl)
+one_place seat k c what sound = rw (eq-eqb seat seat refl)
 
 module _ {D V : Type 0} (fits : Call → Type 0) where
   abbrev pub onward_self : {disk : Ghosts D} (v : View (Held D V disk) Deed) → Onward fits v v
@@ -61,21 +58,22 @@ module _ {D V : Type 0} (fits : Call → Type 0) where
     added = h.added ++ k.added;
     seen = k.seen ∙ (ap (λ (l : List Deed). l ++ k.added) h.seen ∙ append_assoc u.seen h.added k.added);
     asks = each_append (λ e. e.actor ≡ u.number → fits e.call) h.added k.added h.asks
-        (subst (λ (n : ℕ). Asks fits n k.added) h.number k.asks);
+        (rw h.number at k.asks);
     number = k.number ∙ h.number;
     away = k.away ∙ h.away;
-    mine =
-        let at : length v.seen ≡ length u.seen + length h.added = ap length h.seen ∙ length-append u.seen h.added in
-        let later : places_of (by_seat v.number) (length v.seen) k.added
-        ≡ places_of (by_seat u.number) (length u.seen + length h.added) k.added =
-        ap (λ (p : ℕ × ℕ). places_of (by_seat p.0) p.1 k.added) (λ i. (h.number i, at i)) in
-        k.mine ∙ (λ i. h.mine i ++ later i) ∙ append_assoc u.mine (places_of (by_seat u.number) (length u.seen) h.added)
-        (places_of (by_seat u.number) (length u.seen + length h.added) k.added)
-        ∙ ap (λ (l : List ℕ). u.mine ++ l) (sym (places_append (by_seat u.number) (length u.seen) h.added k.added));
+    mine = k.mine ∙ rw (
+      h.mine,
+      h.number,
+      h.seen,
+      length-append u.seen h.added,
+      places_append (by_seat u.number) (length u.seen) h.added k.added,
+    )
+        (append_assoc u.mine (places_of (by_seat u.number) (length u.seen) h.added)
+        (places_of (by_seat u.number) (length u.seen + length h.added) k.added));
     used_up = λ used. k.used_up (h.used_up used);
   }
 
-  module _ (disk : Ghosts D) (vaults : vault.Ghosts V) (start : Core D) (v w : View (Held D V disk) Deed) (c : Call)
+  module _ (disk : Ghosts D) (vaults : VaultGhosts V) (start : Core D) (v w : View (Held D V disk) Deed) (c : Call)
       (what : Result Reply Refusal) (sound : SoundMove) where
     -- a turn was taken
     abbrev pub onward_taken : (at : ℕ) → fits c → Turned (origin disk vaults start) (asked c what sound) at (views v w)
@@ -84,38 +82,38 @@ module _ {D V : Type 0} (fits : Call → Type 0) where
         let e : Deed = deed v.number c what sound in
         record {
           added = x.between ++ e ∷ [];
-          seen = ap (λ (z : View (Held D V disk) Deed). z.seen) x.view ∙ append_assoc v.seen x.between (e ∷ []);
+          seen = rw x.view (append_assoc v.seen x.between (e ∷ []));
           asks = each_append (λ e. e.actor ≡ v.number → fits e.call) x.between (e ∷ [])
               (asks_others fits v.number x.between x.by_others) ((λ is. fit), tt);
-          number = ap (λ (z : View (Held D V disk) Deed). z.number) x.view;
-          away = ap (λ (z : View (Held D V disk) Deed). z.away) x.view;
+          number = rw x.view;
+          away = rw x.view;
           mine =
               let k = length v.seen in
               let at : length (v.seen ++ x.between) ≡ k + length x.between = length-append v.seen x.between in
-              ap (λ (z : View (Held D V disk) Deed). z.mine) x.view ∙ ap (λ (l : List ℕ). v.mine ++ l)
-              (ap (λ (n : ℕ). n ∷ []) at
-              ∙ sym (places_append (by_seat v.number) k x.between (e ∷ []) ∙ (λ i. places_others v.number k x.between
-              x.by_others i ++ one_place v.number (k + length x.between) c what sound i)));
-          used_up = λ used. ap (λ (z : View (Held D V disk) Deed). z.used_up) x.view ∙ used;
+              rw (
+                x.view,
+                at,
+                places_append (by_seat v.number) k x.between (e ∷ []),
+                places_others v.number k x.between x.by_others,
+                one_place v.number (k + length x.between) c what sound,
+              );
+          used_up = λ used. rw x.view used;
         }
 
     -- none was left
     abbrev pub onward_spent : w ≡ record v { used_up = true } → Onward fits v w
     onward_spent is = record {
       added = [];
-      seen = ap (λ (z : View (Held D V disk) Deed). z.seen) is ∙ sym (append-nil v.seen);
+      seen = rw is (sym (append-nil v.seen));
       asks = tt;
-      number = ap (λ (z : View (Held D V disk) Deed). z.number) is;
-      away = ap (λ (z : View (Held D V disk) Deed). z.away) is;
-      mine = ap (λ (z : View (Held D V disk) Deed). z.mine) is ∙ sym (append-nil v.mine);
-      used_up = λ used. ap (λ (z : View (Held D V disk) Deed). z.used_up) is;
+      number = rw is;
+      away = rw is;
+      mine = rw is (sym (append-nil v.mine));
+      used_up = λ used. rw is;
     }
 
     -- one call
     pub onward_turn : {A : Type 0} (said : Said A) → fits c
         → Says (origin disk vaults start) (asked c what sound) said (views v w) → Onward fits v w
-    onward_turn said fit h = ⊎_elim
-        (λ (x : Turned (origin disk vaults start) (asked c what sound) said.at (views v w)).
-        onward_taken said.at fit x)
-        (λ (x : Spends v said w). onward_spent x.view)
-        h
+    onward_turn said fit (inl x) = onward_taken said.at fit x
+    onward_turn said fit (inr x) = onward_spent x.view

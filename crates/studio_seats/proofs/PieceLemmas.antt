@@ -1,21 +1,16 @@
 -- The pieces of a seat, turn by turn.
-use Rattle.studio_seats.proofs.Common.{◌≡◌, ⊎_elim, ℕ, ◌+◌, ◌-◌, ◌≤◌, ◌==◌, ◌&&◌, nat_lt, if◌then◌else◌, ℤ, Bool, true}
-use Rattle.studio_seats.proofs.Common.{false, List, [], ◌∷◌, ◌++◌, length, refl, sym, ◌∙◌, ap, subst, arith}
+use Rattle.studio_seats.proofs.Common.{◌≡◌, ℕ, ◌+◌, ◌-◌, ◌≤◌, ◌==◌, nat_lt, if◌then◌else◌, ℤ, Bool, true}
+use Rattle.studio_seats.proofs.Common.{false, List, [], ◌∷◌, ◌++◌, length, refl, sym, ◌∙◌, ap, arith}
 use Rattle.studio_seats.proofs.Common.{append_assoc, eq-eqb, Result, Ok, Err, lt-ltb, append-nil, MatchResult, IfOk}
 use Rattle.studio_seats.proofs.Common.{IfErr, pieces_in, pieces_of, Done, Piece, Refusal, Said, Ghosts, View, ByOthers}
-use Rattle.studio_seats.proofs.Common.{Core, silent, as_reply, numbered_pieces, actor_of, deed, is_commit, number_after}
-use Rattle.studio_seats.proofs.Common.{raised_by, Says, Spends, Turned, asked, views, piece_by, piece_in, pieces_by}
-use Rattle.studio_seats.proofs.Common.{Deed, Held, origin}
+use Rattle.studio_seats.proofs.Common.{Core, silent, as_reply, numbered_pieces, actor_of, deed, number_after}
+use Rattle.studio_seats.proofs.Common.{raised_by, Says, Turned, asked, views, piece_by, pieces_by}
+use Rattle.studio_seats.proofs.Common.{Deed, Held, origin, VaultGhosts, inl, inr}
 use Rattle.studio_seats.proofs.{Grown.number_append, Turns.number_on, Turns.turned_number}
-use Rattle.edit_ports.specs.declared.vault.Vault as vault
 
-ok_of : {A B : Type 0} (P : A → Type 0) (Q : B → Type 0) (r : Result A B) → MatchResult r P Q → IfOk r P
-ok_of P Q (Ok x) h = h
-ok_of P Q (Err y) h = tt
-
-err_of : {A B : Type 0} (P : A → Type 0) (Q : B → Type 0) (r : Result A B) → MatchResult r P Q → IfErr r Q
-err_of P Q (Ok x) h = tt
-err_of P Q (Err y) h = h
+both_of : {A B : Type 0} (P : A → Type 0) (Q : B → Type 0) (r : Result A B) → MatchResult r P Q → IfOk r P × IfErr r Q
+both_of P Q (Ok x) h = (h, tt)
+both_of P Q (Err y) h = (tt, h)
 
 pub pieces_append : (to by seat n : ℕ) (xs ys : List Deed)
     → pieces_by to by seat n (xs ++ ys) ≡ pieces_by to by seat n xs ++ pieces_by to by seat (number_after n xs) ys
@@ -35,8 +30,7 @@ pub pieces_others : (to by seat n : ℕ) (more : List Deed) → ByOthers actor_o
     → pieces_by to by seat n more ≡ []
 pieces_others to by seat n [] h = refl
 pieces_others to by seat n (d ∷ ds) h =
-    ap (λ (b : Bool). (if b && is_commit d then piece_in to by d.call n else []) ++ pieces_by to by seat
-    (raised_by d n) ds) (not_mine (seat == d.actor) h.0) ∙ pieces_others to by seat (raised_by d n) ds h.1
+    rw (not_mine (seat == d.actor) h.0) (pieces_others to by seat (raised_by d n) ds h.1)
 
 -- one turn of the seat
 one_turn : (to by seat n : ℕ) (seen between : List Deed) (d : Deed) → ByOthers actor_of (seat ∷ []) between
@@ -44,27 +38,25 @@ one_turn : (to by seat n : ℕ) (seen between : List Deed) (d : Deed) → ByOthe
     ++ pieces_by to by seat (number_after n (seen ++ between)) (d ∷ [])
 one_turn to by seat n seen between d others =
     pieces_append to by seat n (seen ++ between) (d ∷ [])
-    ∙ ap (λ (l : List (List ℤ × ℕ)). l ++ pieces_by to by seat (number_after n (seen ++ between)) (d ∷ []))
-    (pieces_append to by seat n seen between
-    ∙ (ap (λ (l : List (List ℤ × ℕ)). pieces_by to by seat n seen ++ l)
-    (pieces_others to by seat (number_after n seen) between others) ∙ append-nil (pieces_by to by seat n seen)))
+    ∙ rw (
+      pieces_append to by seat n seen between,
+      pieces_others to by seat (number_after n seen) between others,
+      append-nil (pieces_by to by seat n seen),
+    )
 
 piece_taken : (seat n track tag : ℕ) (samples : List ℤ)
     → pieces_by track tag seat n (deed seat (Piece track tag samples) (Ok Done) silent ∷ [])
     ≡ numbered_pieces n (pieces_of samples)
 piece_taken seat n track tag samples =
     let some : nat_lt 0 (pieces_in (length samples)) ≡ true = lt-ltb 0 (pieces_in (length samples)) (omega arith) in
-    (λ i. (if (eq-eqb seat seat refl) i && some i then
-    (if (eq-eqb track track refl) i && (eq-eqb tag tag refl) i then numbered_pieces n (pieces_of samples) else [])
-    else []) ++ []) ∙ append-nil (numbered_pieces n (pieces_of samples))
+    rw (eq-eqb seat seat refl, some, eq-eqb track track refl, eq-eqb tag tag refl)
+    (append-nil (numbered_pieces n (pieces_of samples)))
 
 piece_left : (seat n track tag : ℕ) (samples : List ℤ) (why : Refusal)
     → pieces_by track tag seat n (deed seat (Piece track tag samples) (Err why) silent ∷ []) ≡ []
-piece_left seat n track tag samples why =
-    ap (λ (b : Bool). (if b && false then piece_in track tag (Piece track tag samples) n else []) ++ [])
-    (eq-eqb seat seat refl)
+piece_left seat n track tag samples why = rw (eq-eqb seat seat refl)
 
-module _ {D V : Type 0} (disk : Ghosts D) (vaults : vault.Ghosts V) (start : Core D) (track tag : ℕ) (samples : List ℤ)
+module _ {D V : Type 0} (disk : Ghosts D) (vaults : VaultGhosts V) (start : Core D) (track tag : ℕ) (samples : List ℤ)
     (v w : View (Held D V disk) Deed) where
   abbrev Pieces : View (Held D V disk) Deed → List (List ℤ × ℕ)
   Pieces x = pieces_by track tag x.number start.commit_number x.seen
@@ -96,47 +88,30 @@ module _ {D V : Type 0} (disk : Ghosts D) (vaults : vault.Ghosts V) (start : Cor
       h.number ∙ turned_number h ∙ number_append start.commit_number (v.seen ++ h.between) (d ∷ []) in
       let from : before ≡ number - pieces_in (length samples) = omega (arith, is, counts) in (
         ap Pieces h.view ∙ (one_turn track tag v.number start.commit_number v.seen h.between d h.by_others
-            ∙ ap (λ (l : List (List ℤ × ℕ)). pieces_by track tag v.number start.commit_number v.seen ++ l)
-            (piece_taken v.number before track tag samples
-            ∙ ap (λ (n : ℕ). numbered_pieces n (pieces_of samples)) from)),
+            ∙ rw (piece_taken v.number before track tag samples, from)),
         omega (arith, is, counts),
       )
   taken (Err why) at h is =
       let d : Deed = deed v.number (Piece track tag samples) (Err why) silent in
       ap Pieces h.view ∙ (one_turn track tag v.number start.commit_number v.seen h.between d h.by_others
-      ∙ (ap (λ (l : List (List ℤ × ℕ)). pieces_by track tag v.number start.commit_number v.seen ++ l)
-      (piece_left v.number (number_after start.commit_number (v.seen ++ h.between)) track tag samples why)
-      ∙ append-nil (pieces_by track tag v.number start.commit_number v.seen)))
+      ∙ rw (piece_left v.number (number_after start.commit_number (v.seen ++ h.between)) track tag samples why)
+      (append-nil _))
 
   -- after a call at the desk the seat has those pieces more, or as many as before
   takes : (said : Said ℕ) → SaysPiece said → IfOk said.what (λ (number : ℕ). number ≡ said.at) → Then said.what
-  takes said h is = ⊎_elim
-      (λ (x : Took said.what said.at). taken said.what said.at x is)
-      (λ (x : Spends v said w). subst Then (sym x.what) (ap Pieces x.view))
-      h
+  takes said (inl x) is = taken said.what said.at x is
+  takes said (inr x) is = rw x.what (ap Pieces x.view)
 
-  pub takes_ok : (said : Said ℕ) → SaysPiece said → IfOk said.what (λ (number : ℕ). number ≡ said.at)
-      → IfOk said.what Added
-  takes_ok said h is = ok_of Added (λ (why : Refusal). Pieces w ≡ Pieces v) said.what (takes said h is)
-
-  pub takes_err : (said : Said ℕ) → SaysPiece said → IfOk said.what (λ (number : ℕ). number ≡ said.at)
-      → IfErr said.what (λ (why : Refusal). Pieces w ≡ Pieces v)
-  takes_err said h is = err_of Added (λ (why : Refusal). Pieces w ≡ Pieces v) said.what (takes said h is)
+  pub takes_both : (said : Said ℕ) → SaysPiece said → IfOk said.what (λ (number : ℕ). number ≡ said.at)
+      → IfOk said.what Added × IfErr said.what (λ (why : Refusal). Pieces w ≡ Pieces v)
+  takes_both said h is = both_of Added (λ (why : Refusal). Pieces w ≡ Pieces v) said.what (takes said h is)
 
   -- a number to which the deeds led that it had seen is no higher than that to which they lead now
   pub tagged : (said : Said ℕ) (least : ℕ) → SaysPiece said → least ≤ number_after start.commit_number v.seen
       → least ≤ number_after start.commit_number w.seen
-  tagged said least h low = ⊎_elim
-      (λ (x : Took said.what said.at).
+  tagged said least (inl x) low =
       let d : Deed = deed v.number (Piece track tag samples) (as_reply (λ _. Done) said.what) silent in
       let one = number_on start.commit_number v.seen x.between in
       let two = number_on start.commit_number (v.seen ++ x.between) (d ∷ []) in
-      let same : number_after start.commit_number w.seen
-      ≡ number_after start.commit_number ((v.seen ++ x.between) ++ d ∷ []) =
-      ap (λ (z : View (Held D V disk) Deed). number_after start.commit_number z.seen) x.view in
-      omega (arith, low, one, two, same))
-      (λ (x : Spends v said w).
-      let same : number_after start.commit_number w.seen ≡ number_after start.commit_number v.seen =
-      ap (λ (z : View (Held D V disk) Deed). number_after start.commit_number z.seen) x.view in
-      omega (arith, low, same))
-      h
+      rw x.view (omega (arith, low, one, two))
+  tagged said least (inr x) low = rw x.view low

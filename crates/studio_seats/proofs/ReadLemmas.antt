@@ -1,17 +1,16 @@
 -- A seat reads a pin on, call by call.
-use Rattle.studio_seats.proofs.Common.{◌≡◌, ⊎_elim, inl, inr, ℕ, ◌+◌, ◌<◌, ◌≤◌, nat_lt, if◌then◌else◌, Bool, true}
+use Rattle.studio_seats.proofs.Common.{◌≡◌, inl, inr, ℕ, ◌+◌, ◌<◌, ◌≤◌, nat_lt, if◌then◌else◌, Bool, true}
 use Rattle.studio_seats.proofs.Common.{false, List, [], ◌∷◌, ◌++◌, length, take, Option, refl, sym, ◌∙◌, ap, subst}
-use Rattle.studio_seats.proofs.Common.{arith, Result, Ok, Err, nat_tests, append-nil, length-take-le, IfOk, OnOk, Reply}
-use Rattle.studio_seats.proofs.Common.{Frames, Call, ReadPin, Refusal, Said, Frame, Ghosts, NextAt, after_read}
-use Rattle.studio_seats.proofs.Common.{first_refusal, View, Core, silent, as_reply, Says, Spends, Turned, asked, spent}
+use Rattle.studio_seats.proofs.Common.{arith, Result, Ok, Err, nat_tests, append-nil, length-take-le, IfOk, OnOk}
+use Rattle.studio_seats.proofs.Common.{Reply, Frames, Call, ReadPin, Refusal, Said, Frame, Ghosts, NextAt, after_read}
+use Rattle.studio_seats.proofs.Common.{first_refusal, View, Core, silent, as_reply, Says, Turned, asked, spent}
 use Rattle.studio_seats.proofs.Common.{views, Held, Deed, deed, by_seat, deeds_of, Onward, worker, origin, ReadsOn}
-use Rattle.std.proofs.Common.{IfErr}
+use Rattle.studio_seats.proofs.Common.{IfErr, VaultGhosts}
 use Rattle.edit_ports.specs.Answers.{AtEnd, Reading, RefusedAt}
 use Rattle.studio_seats.specs.{Onward.IsReadOf, Onward.Worker}
 use Rattle.studio_seats.specs.Reads.{AreFullReads, EndReads, IsAsked, ReadsTo}
 use Rattle.studio_seats.proofs.OnwardLemmas.{onward_on, onward_self, onward_spent, onward_taken}
 use Rattle.studio_seats.proofs.WorkLemmas.{own_turn}
-use Rattle.edit_ports.specs.declared.vault.Vault as vault
 
 -- one full read more
 full_more : (pin from to : ℕ) (ds : List Deed) (d : Deed) (frames : List Frame) → AreFullReads pin from to ds
@@ -20,9 +19,9 @@ full_more : (pin from to : ℕ) (ds : List Deed) (d : Deed) (frames : List Frame
 full_more pin from to [] d frames is few call what = (
   frames,
   few,
-  call ∙ ap (λ (n : ℕ). ReadPin pin n (length frames)) is,
+  rw is at call,
   what,
-  ap (λ (n : ℕ). n + length frames) is,
+  rw is,
 )
 full_more pin from to (x ∷ xs) d frames h few call what =
     (h.0, h.1, h.2, h.3, full_more pin (from + length h.0) to xs d frames h.4 few call what)
@@ -36,7 +35,7 @@ reads_self pin v = record {
 }
 
 -- one read more of a worker that nothing had refused since `a`
-module _ {D V : Type 0} (pin from : ℕ) (disk : Ghosts D) (vaults : vault.Ghosts V) (start : Core D)
+module _ {D V : Type 0} (pin from : ℕ) (disk : Ghosts D) (vaults : VaultGhosts V) (start : Core D)
     (a : Worker D V disk)
     (v w : View (Held D V disk) Deed) (old new : Option Refusal) (out out' : List Frame) (few : IsAsked (length out))
     (wide : length out' ≡ length out) (h : ReadsOn pin (NextAt from) a (worker v old)) where
@@ -136,15 +135,12 @@ module _ {D V : Type 0} (pin from : ℕ) (disk : Ghosts D) (vaults : vault.Ghost
       → IfErr r (λ why. new ≡ first_refusal old why) → ReadsOn pin (after_read from (length out) r) a (worker w new)
   taken (Ok count) at t bound same first = record {
     onward = goes (Ok count) at t;
-    reads = λ none. subst
-        (λ (l : List Deed). ReadsTo w.used_up pin new (after_read from (length out) (Ok count)) l)
-        (sym (own_turn (IsReadOf pin) a.view v h.onward t.between (done_of (Ok count)) refl t.by_others))
+    reads = λ none. rw (own_turn (IsReadOf pin) a.view v h.onward t.between (done_of (Ok count)) refl t.by_others)
         (gave count (nat_lt count (length out)) refl bound same (h.reads none));
   }
   taken (Err why) at t bound same first = record {
     onward = goes (Err why) at t;
-    reads = λ none. subst (λ (l : List Deed). ReadsTo w.used_up pin new (RefusedAt from) l)
-        (sym (own_turn (IsReadOf pin) a.view v h.onward t.between (done_of (Err why)) refl t.by_others))
+    reads = λ none. rw (own_turn (IsReadOf pin) a.view v h.onward t.between (done_of (Err why)) refl t.by_others)
         (refused why first (h.reads none));
   }
 
@@ -165,7 +161,7 @@ module _ {D V : Type 0} (pin from : ℕ) (disk : Ghosts D) (vaults : vault.Ghost
         b.ends.2,
         why,
         first ∙ ap (λ (o : Option Refusal). first_refusal o why) b.ends.0,
-        inr (refl, cc, ap (λ (z : View (Held D V disk) Deed). z.used_up) view),
+        inr (refl, cc, rw view),
       );
     };
   }
@@ -175,7 +171,5 @@ module _ {D V : Type 0} (pin from : ℕ) (disk : Ghosts D) (vaults : vault.Ghost
       → IfOk said.what (λ count. count ≤ length out') → OnOk said.what (new ≡ old)
       → IfErr said.what (λ why. new ≡ first_refusal old why)
       → ReadsOn pin (after_read from (length out) said.what) a (worker w new)
-  reads_turn said says bound same first = ⊎_elim
-      (λ (t : Taken said.what said.at). taken said.what said.at t bound same first)
-      (λ (x : Spends v said w). spends said.what x.what x.view first)
-      says
+  reads_turn said (inl t) bound same first = taken said.what said.at t bound same first
+  reads_turn said (inr x) bound same first = spends said.what x.what x.view first

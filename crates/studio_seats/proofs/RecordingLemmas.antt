@@ -1,13 +1,12 @@
 -- A recorder goes on, call by call.
-use Rattle.studio_seats.proofs.Common.{◌≡◌, ◌⊎◌, ⊎_elim, inl, inr, ℕ, ◌+◌, ◌≤◌, ℤ, Bool, true, false, List, [], ◌∷◌}
-use Rattle.studio_seats.proofs.Common.{◌++◌, length, Option, None, refl, sym, ◌∙◌, ap, subst, arith, Result, Ok, Err}
+use Rattle.studio_seats.proofs.Common.{◌≡◌, ◌⊎◌, inl, inr, ℕ, ◌+◌, ◌≤◌, ℤ, Bool, true, false, List, [], ◌∷◌}
+use Rattle.studio_seats.proofs.Common.{◌++◌, length, Option, None, refl, sym, ◌∙◌, ap, arith, Result, Ok, Err}
 use Rattle.studio_seats.proofs.Common.{true≢false, append-nil, is_err, OnOk, Line, Piece, pieces_in, Reply, Done, Call}
 use Rattle.studio_seats.proofs.Common.{Reclaim, Entry, Refusal, Said, Ghosts, first_refusal, View, Each, Each-append}
-use Rattle.studio_seats.proofs.Common.{Core, silent, as_reply, Says, Spends, Turned, asked, spent, views, RecordsOn}
+use Rattle.studio_seats.proofs.Common.{Core, silent, as_reply, Says, Turned, asked, spent, views, RecordsOn}
 use Rattle.studio_seats.proofs.Common.{asks_piece, recorder, Held, Deed, deed, entries_of, entry_of, number_after}
-use Rattle.studio_seats.proofs.Common.{AreFreed, IsDue, IsFullReclaim, unfreed, by_seat, deeds_of, Asks, EndsBy, Onward}
-use Rattle.studio_seats.proofs.Common.{pieces_by, origin}
-use Rattle.std.proofs.Common.{IfErr}
+use Rattle.studio_seats.proofs.Common.{AreFreed, IsDue, IsFullReclaim, unfreed, by_seat, deeds_of, EndsBy}
+use Rattle.studio_seats.proofs.Common.{Onward, pieces_by, origin, IfErr, VaultGhosts}
 use Rattle.std.specs.Prelude.{IsOk}
 use Rattle.studio_seats.specs.Recording.{Frees, FreesOnce, FreesTo, Recorder, RecorderAsks}
 use Rattle.studio_seats.specs.{Onward.AreDone}
@@ -16,21 +15,20 @@ use Rattle.studio_seats.proofs.FreeingLemmas.{none_by, reclaim_frees, unfreed_ap
 use Rattle.studio_seats.proofs.OnwardLemmas.{onward_on, onward_self, onward_spent, onward_taken}
 use Rattle.studio_seats.proofs.{Grown.entries_append, MergeLemmas.deeds_append, PieceLemmas.pieces_append}
 use Rattle.studio_seats.proofs.{Turns.number_on, WorkLemmas.ends_later, WorkLemmas.onward_as, WorkLemmas.own_turn}
-use Rattle.edit_ports.specs.declared.vault.Vault as vault
 
--- a recorder that was asked nothing
+-- a recorder that made no call
 pub records_self : {D V : Type 0} {disk : Ghosts D} (track tag : ℕ) (v : Recorder D V disk)
     → RecordsOn track tag false false v v
 records_self track tag v = record {
   onward = onward_self (RecorderAsks track tag) v.view;
   unrefused = λ going. refl;
-  ends = λ none. subst (λ (o : Option Refusal). EndsBy v.view.used_up o []) (sym none) tt;
+  ends = λ none. rw none tt;
   freed = tt;
   since = inl refl;
 }
 
 -- some pieces more of a recorder that nothing had refused since `a`
-module _ {D V : Type 0} (track tag : ℕ) (disk : Ghosts D) (vaults : vault.Ghosts V) (start : Core D)
+module _ {D V : Type 0} (track tag : ℕ) (disk : Ghosts D) (vaults : VaultGhosts V) (start : Core D)
     (a : Recorder D V disk)
     (v w : View (Held D V disk) Deed) (old new : Option Refusal) (since count : ℕ) (samples : List ℤ)
     (many : pieces_in (length samples) ≡ count) (few : since + count ≤ 64)
@@ -55,28 +53,16 @@ module _ {D V : Type 0} (track tag : ℕ) (disk : Ghosts D) (vaults : vault.Ghos
   none_yet none = h.unrefused refl ∙ none
 
   each_done : a.refused ≡ None → AreDone (deeds_of asks_piece own)
-  each_done none = subst (λ (o : Option Refusal). EndsBy v.used_up o (deeds_of asks_piece own)) (none_yet none)
-      (h.ends none)
+  each_done none = rw (none_yet none) at (h.ends none)
 
   -- its own deeds are one more
   own_more : (r : Result ℕ Refusal) (at : ℕ) (t : Taken r at)
       → deeds_of (by_seat a.view.number) (h.onward.added ++ (t.between ++ done_of r ∷ [])) ≡ own ++ done_of r ∷ []
   own_more r at t = own_turn (RecorderAsks track tag) a.view v h.onward t.between (done_of r) refl t.by_others
 
-  pieces_more : (r : Result ℕ Refusal) (at : ℕ) (t : Taken r at)
-      → deeds_of asks_piece (deeds_of (by_seat a.view.number) (h.onward.added ++ (t.between ++ done_of r ∷ [])))
-      ≡ deeds_of asks_piece own ++ done_of r ∷ []
-  pieces_more r at t = ap (deeds_of asks_piece) (own_more r at t) ∙ deeds_append asks_piece own (done_of r ∷ [])
-
-  entries_more : (r : Result ℕ Refusal) (at : ℕ) (t : Taken r at)
-      → entries_of (deeds_of (by_seat a.view.number) (h.onward.added ++ (t.between ++ done_of r ∷ [])))
-      ≡ entries_of own ++ entry_of (done_of r) ∷ []
-  entries_more r at t = ap entries_of (own_more r at t) ∙ entries_append own (done_of r ∷ [])
-
   -- as a turn was taken, one was left before
   counted : v.used_up ≡ false → unfreed a.since (entries_of own) ≡ since
-  counted unspent = ⊎_elim (λ (is : unfreed a.since (entries_of own) ≡ since). is)
-      (λ (used : v.used_up ≡ true). absurd (true≢false (sym used ∙ unspent))) h.since
+  counted unspent = elim h.since [ inl is ↦ is | inr used ↦ absurd (true≢false (sym used ∙ unspent)) ]
 
   goes : (r : Result ℕ Refusal) (at : ℕ) (t : Taken r at) → (new' : Option Refusal) (failed : Bool)
       → (failed ≡ false → new' ≡ a.refused)
@@ -86,16 +72,16 @@ module _ {D V : Type 0} (track tag : ℕ) (disk : Ghosts D) (vaults : vault.Ghos
       let e : Entry = entry_of (done_of r) in
       let is : unfreed a.since (entries_of own) ≡ since = counted t.unspent in
       let most : unfreed a.since (entries_of own) + pieces_in (length samples) ≤ 64 = omega (arith, is, many, few) in
+      let entries = ap entries_of (own_more r at t) ∙ entries_append own (done_of r ∷ []) in
       record {
         onward = onward_on (RecorderAsks track tag) a.view v w h.onward
             (onward_taken (RecorderAsks track tag) disk vaults start v w c (what_of r) silent at
             (inl (samples, refl)) t);
         unrefused = unrefused;
-        ends = λ none. subst (λ (l : List Deed). EndsBy w.used_up new' l) (sym (pieces_more r at t)) (ends none);
-        freed = subst (λ (l : List Entry). AreFreed false a.since l) (sym (entries_more r at t))
-            (freed_append false a.since (entries_of own) (e ∷ []) h.freed
+        ends = λ none. rw (own_more r at t, deeds_append asks_piece own (done_of r ∷ [])) (ends none);
+        freed = rw entries (freed_append false a.since (entries_of own) (e ∷ []) h.freed
             ((λ other. absurd (true≢false other)), most, tt));
-        since = inl (ap (unfreed a.since) (entries_more r at t)
+        since = inl (ap (unfreed a.since) entries
             ∙ (unfreed_append a.since (entries_of own) (e ∷ []) ∙ (λ i. is i + many i)));
       }
 
@@ -103,13 +89,10 @@ module _ {D V : Type 0} (track tag : ℕ) (disk : Ghosts D) (vaults : vault.Ghos
       → IfErr r (λ why. new ≡ first_refusal old why)
       → RecordsOn track tag false (is_err r) a (recorder w new (since + count))
   taken (Ok x) at t same first = goes (Ok x) at t new false (λ going. same ∙ h.unrefused refl)
-      (λ none. subst (λ (o : Option Refusal). EndsBy w.used_up o (deeds_of asks_piece own ++ done_of (Ok x) ∷ []))
-      (sym (same ∙ none_yet none))
+      (λ none. rw (same ∙ none_yet none)
       (Each-append (λ d. IsOk d.what) (deeds_of asks_piece own) (done_of (Ok x) ∷ []) (each_done none) (refl, tt)))
   taken (Err why) at t same first = goes (Err why) at t new true (λ going. absurd (true≢false going))
-      (λ none. subst (λ (o : Option Refusal). EndsBy w.used_up o (deeds_of asks_piece own ++ done_of (Err why) ∷ []))
-      (sym (first ∙ ap (λ (o : Option Refusal). first_refusal o why) (none_yet none)))
-      (inl record {
+      (λ none. rw (first, none_yet none) (inl record {
         done = deeds_of asks_piece own;
         last = done_of (Err why);
         are = refl;
@@ -122,17 +105,16 @@ module _ {D V : Type 0} (track tag : ℕ) (disk : Ghosts D) (vaults : vault.Ghos
       → RecordsOn track tag false (is_err r) a (recorder w new (since + count))
   spends (Ok x) is view first = cc
   spends (Err why) is view first =
-      let used : w.used_up ≡ true = ap (λ (z : View (Held D V disk) Deed). z.used_up) view in
+      let used : w.used_up ≡ true = rw view in
       let same : deeds_of (by_seat a.view.number) (h.onward.added ++ []) ≡ own =
       ap (deeds_of (by_seat a.view.number)) (append-nil h.onward.added) in
       record {
         onward = onward_on (RecorderAsks track tag) a.view v w h.onward
             (onward_spent (RecorderAsks track tag) disk vaults start v w c (what_of (Err why)) silent view);
         unrefused = λ going. absurd (true≢false going);
-        ends = λ none. subst (λ (z : Option Refusal × List Deed). EndsBy w.used_up z.0 (deeds_of asks_piece z.1))
-            (λ i. (sym (first ∙ ap (λ (o : Option Refusal). first_refusal o why) (none_yet none)) i, sym same i))
+        ends = λ none. rw (first, none_yet none, same)
             (inr record { each = each_done none; spent_is = cc; found = used });
-        freed = subst (λ (l : List Deed). AreFreed false a.since (entries_of l)) (sym same) h.freed;
+        freed = rw same h.freed;
         since = inr used;
       }
 
@@ -140,26 +122,22 @@ module _ {D V : Type 0} (track tag : ℕ) (disk : Ghosts D) (vaults : vault.Ghos
       → Says (origin disk vaults start) (asked c (what_of said.what) silent) said (views v w)
       → OnOk said.what (new ≡ old) → IfErr said.what (λ why. new ≡ first_refusal old why)
       → RecordsOn track tag false (is_err said.what) a (recorder w new (since + count))
-  records_turn said says same first = ⊎_elim
-      (λ (t : Taken said.what said.at). taken said.what said.at t same first)
-      (λ (x : Spends v said w). spends said.what x.what x.view first)
-      says
+  records_turn said (inl t) same first = taken said.what said.at t same first
+  records_turn said (inr x) same first = spends said.what x.what x.view first
 
 -- a reclaim
-pub frees_turn : {D V A : Type 0} (disk : Ghosts D) (vaults : vault.Ghosts V) (start : Core D)
+pub frees_turn : {D V A : Type 0} (disk : Ghosts D) (vaults : VaultGhosts V) (start : Core D)
     (v w : View (Held D V disk) Deed) (what : Result Reply Refusal) (said : Said A)
     → Says (origin disk vaults start) (asked (Line (Reclaim None)) what silent) said (views v w) → Frees v w
-frees_turn {D} {V} disk vaults start v w what said says = ⊎_elim
-    (λ (x : Turned (origin disk vaults start) (asked (Line (Reclaim None)) what silent) said.at (views v w)).
+frees_turn disk vaults start v w what said (inl x) =
     let e : Deed = deed v.number (Line (Reclaim None)) what silent in record {
       onward = onward_taken IsFullReclaim disk vaults start v w (Line (Reclaim None)) what silent said.at refl x;
       freed = inl (x.unspent, e, own_turn IsFullReclaim v v (onward_self IsFullReclaim v) x.between e refl x.by_others);
-    })
-    (λ (x : Spends v said w). record {
-      onward = onward_spent IsFullReclaim disk vaults start v w (Line (Reclaim None)) what silent x.view;
-      freed = inr (ap (λ (z : View (Held D V disk) Deed). z.used_up) x.view, refl);
-    })
-    says
+    }
+frees_turn disk vaults start v w what said (inr x) = record {
+  onward = onward_spent IsFullReclaim disk vaults start v w (Line (Reclaim None)) what silent x.view;
+  freed = inr (rw x.view, refl);
+}
 
 module _ {D V : Type 0} {disk : Ghosts D} (track tag : ℕ) (v w : View (Held D V disk) Deed) where
   -- what a recorder did before a reclaim, and that
@@ -173,25 +151,19 @@ module _ {D V : Type 0} {disk : Ghosts D} (track tag : ℕ) (v w : View (Held D 
 
     -- as a turn was taken, the count is right
     counted_before : v.used_up ≡ false → since_before ≡ since
-    counted_before unspent = ⊎_elim (λ (is : since_before ≡ since). is)
-        (λ (used : v.used_up ≡ true). absurd (true≢false (sym used ∙ unspent))) h.since
+    counted_before unspent = elim h.since [ inl is ↦ is | inr used ↦ absurd (true≢false (sym used ∙ unspent)) ]
 
     -- the entry of the reclaim, if one was made, was due
     freed_more : (ended : Bool) (more : List Deed) → Each (λ d. IsFullReclaim d.call) more → IsDue ended since
         → FreesOnce v w more → AreFreed ended since_before (entries_of more)
     freed_more ended more reclaims due (inl x) =
-        subst (λ (l : List Deed). AreFreed ended since_before (entries_of l)) (sym x.2)
-        (reclaim_frees ended since_before x.1
-        (subst (λ (l : List Deed). Each (λ d. IsFullReclaim d.call) l) x.2 reclaims).0
-        (subst (λ (n : ℕ). IsDue ended n) (sym (counted_before x.0)) due))
-    freed_more ended more reclaims due (inr x) =
-        subst (λ (l : List Deed). AreFreed ended since_before (entries_of l)) (sym x.1) tt
+        rw x.2 (reclaim_frees ended since_before x.1 (rw x.2 at reclaims).0 (rw (counted_before x.0) due))
+    freed_more ended more reclaims due (inr x) = rw x.1 tt
 
     -- and after it no piece stands
     none_more : (more : List Deed) → Each (λ d. IsFullReclaim d.call) more → FreesOnce v w more
         → (unfreed since_before (entries_of more) ≡ 0) ⊎ (w.used_up ≡ true)
-    none_more more reclaims (inl x) = inl (ap (λ (l : List Deed). unfreed since_before (entries_of l)) x.2
-        ∙ none_by since_before x.1.call (subst (λ (l : List Deed). Each (λ d. IsFullReclaim d.call) l) x.2 reclaims).0)
+    none_more more reclaims (inl x) = inl (rw x.2 (none_by since_before x.1.call (rw x.2 at reclaims).0))
     none_more more reclaims (inr x) = inr x.0
 
     frees : (ended : Bool) → IsDue ended since → Frees v w → RecordsOn track tag ended failed a (recorder w refused 0)
@@ -200,31 +172,26 @@ module _ {D V : Type 0} {disk : Ghosts D} (track tag : ℕ) (v w : View (Held D 
         let more : List Deed = deeds_of (by_seat n) f.onward.added in
         let own : deeds_of (by_seat n) (h.onward.added ++ f.onward.added) ≡ before ++ more =
         deeds_append (by_seat n) h.onward.added f.onward.added in
-        let reclaims : Each (λ d. IsFullReclaim d.call) more = asked_own IsFullReclaim n f.onward.added
-        (subst (λ (m : ℕ). Asks IsFullReclaim m f.onward.added) h.onward.number f.onward.asks) in
-        let once : FreesOnce v w more =
-        subst (λ (m : ℕ). FreesOnce v w (deeds_of (by_seat m) f.onward.added)) h.onward.number f.freed in
+        let reclaims : Each (λ d. IsFullReclaim d.call) more =
+        asked_own IsFullReclaim n f.onward.added (rw h.onward.number at f.onward.asks) in
+        let once : FreesOnce v w more = rw h.onward.number at f.freed in
         let pieces : deeds_of asks_piece (deeds_of (by_seat n) (h.onward.added ++ f.onward.added))
         ≡ deeds_of asks_piece before =
-        ap (deeds_of asks_piece) own ∙ (deeds_append asks_piece before more
-        ∙ (ap (λ (l : List Deed). deeds_of asks_piece before ++ l) (no_piece_among more reclaims)
-        ∙ append-nil (deeds_of asks_piece before))) in
+        rw (own, deeds_append asks_piece before more, no_piece_among more reclaims) (append-nil _) in
         let entries : entries_of (deeds_of (by_seat n) (h.onward.added ++ f.onward.added))
         ≡ entries_of before ++ entries_of more = ap entries_of own ∙ entries_append before more in
         record {
           onward = onward_on (RecorderAsks track tag) a.view v w h.onward
               (onward_as IsFullReclaim (RecorderAsks track tag) v w (λ c is. inr is) f.onward);
           unrefused = h.unrefused;
-          ends = λ none. subst (λ (l : List Deed). EndsBy w.used_up refused l) (sym pieces)
+          ends = λ none. rw pieces
               (ends_later v.used_up w.used_up refused (deeds_of asks_piece before) f.onward.used_up (h.ends none));
-          freed = subst (λ (l : List Entry). AreFreed ended a.since l) (sym entries)
-              (freed_append ended a.since (entries_of before) (entries_of more) h.freed
+          freed = rw entries (freed_append ended a.since (entries_of before) (entries_of more) h.freed
               (freed_more ended more reclaims due once));
-          since = ⊎_elim
-              (λ (none : unfreed since_before (entries_of more) ≡ 0). inl (ap (unfreed a.since) entries
-              ∙ (unfreed_append a.since (entries_of before) (entries_of more) ∙ none)))
-              (λ (used : w.used_up ≡ true). inr used)
-              (none_more more reclaims once);
+          since = elim (none_more more reclaims once) [
+            | inl none ↦ inl (rw entries (unfreed_append a.since (entries_of before) (entries_of more) ∙ none))
+            | inr used ↦ inr used
+          ];
         }
 
     -- it did nothing
@@ -240,34 +207,25 @@ module _ {D V : Type 0} {disk : Ghosts D} (track tag : ℕ) (v w : View (Held D 
     -- the same where it may have made none
     pub records_free : (ended : Bool) (left : ℕ) → FreesTo ended since v left w
         → RecordsOn track tag ended failed a (recorder w refused left)
-    records_free ended left (inl stays) =
-        subst (λ (z : ℕ × View (Held D V disk) Deed). RecordsOn track tag ended failed a (recorder z.1 refused z.0))
-        (λ i. (sym stays.0 i, sym stays.1 i)) (stays_freed ended)
-    records_free ended left (inr made) =
-        subst (λ (n : ℕ). RecordsOn track tag ended failed a (recorder w refused n)) (sym made.0)
-        (frees ended made.1 made.2)
+    records_free ended left (inl stays) = rw (stays.0, stays.1) (stays_freed ended)
+    records_free ended left (inr made) = rw made.0 (frees ended made.1 made.2)
 
   module _ (ended : Bool) (since left : ℕ) where
     -- its pieces are the same
     pub pieces_free : (first : ℕ) → FreesTo ended since v left w
         → pieces_by track tag w.number first w.seen ≡ pieces_by track tag v.number first v.seen
-    pieces_free first (inl stays) =
-        ap (λ (z : View (Held D V disk) Deed). pieces_by track tag z.number first z.seen) stays.1
+    pieces_free first (inl stays) = rw stays.1
     pieces_free first (inr made) =
         let on : Onward IsFullReclaim v w = made.2.onward in
         (λ i. pieces_by track tag (on.number i) first (on.seen i))
-        ∙ (pieces_append track tag v.number first v.seen on.added
-        ∙ (ap (λ (l : List (List ℤ × ℕ)). pieces_by track tag v.number first v.seen ++ l)
-        (no_pieces_by track tag v.number (number_after first v.seen) on.added on.asks)
-        ∙ append-nil (pieces_by track tag v.number first v.seen)))
+        ∙ rw (
+          pieces_append track tag v.number first v.seen on.added,
+          no_pieces_by track tag v.number (number_after first v.seen) on.added on.asks,
+        ) (append-nil _)
 
     -- a number to which the deeds led is no higher than that to which they lead now
     pub number_free : (first least : ℕ) → FreesTo ended since v left w → least ≤ number_after first v.seen
         → least ≤ number_after first w.seen
-    number_free first least (inl stays) low =
-        subst (λ (z : View (Held D V disk) Deed). least ≤ number_after first z.seen) (sym stays.1) low
+    number_free first least (inl stays) low = rw stays.1 low
     number_free first least (inr made) low =
-        let on = number_on first v.seen made.2.onward.added in
-        let same : number_after first w.seen ≡ number_after first (v.seen ++ made.2.onward.added) =
-        ap (number_after first) made.2.onward.seen in
-        omega (arith, low, on, same)
+        rw made.2.onward.seen (omega (arith, low, number_on first v.seen made.2.onward.added))

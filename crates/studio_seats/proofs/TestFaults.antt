@@ -1,8 +1,9 @@
 -- What a test may tell: of no device, and of no turn.
-use Rattle.studio_seats.proofs.Common.{◌≡◌, inl, inr, refl, sym, ap, ◌∙◌, subst, ℕ, ◌+◌, ◌-◌, ◌==◌, nat_lt, ◌&&◌, Bool}
+use Rattle.studio_seats.proofs.Common.{◌≡◌, inl, inr, refl, sym, ap, ◌∙◌, ℕ, ◌+◌, ◌-◌, ◌==◌, nat_lt, ◌&&◌, Bool}
 use Rattle.studio_seats.proofs.Common.{true, false, Option, Some, None, List, [], ◌∷◌, IsSome, length, map, take}
 use Rattle.studio_seats.proofs.Common.{Result, Ok, Err, COUNTER_LIMIT, commits_of, Answers, outside, result_of, Reply}
 use Rattle.studio_seats.proofs.Common.{Refused, Call, SoundMove, Refusal, State, current, reply_of, spent, IsServed}
+use Rattle.studio_seats.proofs.Common.{Studio}
 use Rattle.std.proofs.Common.{nat_le, ◌||◌, not, is_none}
 use Rattle.pcm_base.specs.declared.limits.TheConstants.{MAX_CELLS, MAX_TRACKS, MAX_VIEW}
 use Rattle.pcm_base.specs.Counters.{counter_tests, generations_of, no_room, pins_of, places_of, record_test, layouts_of}
@@ -20,18 +21,15 @@ use Rattle.pcm_base.specs.{declared.wav.WavFault.WavFault, Cells.cells_at, Cells
 use Rattle.pcm_base.specs.{Edits.source_count, Outside.Outside, State.clip_of, Wave.Sound, Wave.wav_of}
 use Rattle.editor_state.proofs.Calls.RunEntries.{plain, plain_result}
 use Rattle.studio_seats.proofs.Refused.{stopped_not}
-use Rattle.pcm_base.specs.declared.command.Call.TheVariants as call
-use Rattle.pcm_base.specs.declared.refusal.Refusal.TheVariants as refusal
-use Rattle.pcm_base.specs.Studio as model
 
 -- ---- what a test may tell
 
 -- no test tells of a device, or of a turn, and that the studio had stopped only where it had
 abbrev pub IsOfTest : Option ℕ → Refusal → Type 0
-IsOfTest stopped refusal.DiskFault = ⊥
-IsOfTest stopped refusal.VaultFault = ⊥
-IsOfTest stopped (refusal.Spent turns) = ⊥
-IsOfTest stopped (refusal.Stopped faults) = IsSome stopped
+IsOfTest stopped Refusal.DiskFault = ⊥
+IsOfTest stopped Refusal.VaultFault = ⊥
+IsOfTest stopped (Refusal.Spent turns) = ⊥
+IsOfTest stopped (Refusal.Stopped faults) = IsSome stopped
 IsOfTest stopped why = Unit {0}
 
 abbrev pub Tells : Option ℕ → Option Refusal → Type 0
@@ -50,17 +48,17 @@ module _ (stopped : Option ℕ) where
   lengths : (lens : List ℕ) → Tells stopped (length_limit lens)
   lengths [] = tt
   lengths (len ∷ lens) =
-      either (refused_if (nat_lt MAX_CELLS len) (refusal.LengthLimit len)) (length_limit lens) (one _ _ tt) (lengths lens)
+      either (refused_if (nat_lt MAX_CELLS len) (Refusal.LengthLimit len)) (length_limit lens) (one _ _ tt) (lengths lens)
 
   room : (have need : ℕ) → Tells stopped (no_room have need)
-  room have need = one (nat_lt COUNTER_LIMIT (have + need)) (refusal.SpaceSpent have need) tt
+  room have need = one (nat_lt COUNTER_LIMIT (have + need)) (Refusal.SpaceSpent have need) tt
 
   module _ (out : Outside) (s : State) where
     track : (id : ℕ) → Tells stopped (no_track s id)
     track id = one _ _ tt
 
     range : (from to len : ℕ) → Tells stopped (bad_range from to len)
-    range from to len = one (not (nat_lt from to && nat_le to len)) refusal.BadRange tt
+    range from to len = one (not (nat_lt from to && nat_le to len)) Refusal.BadRange tt
 
     insert : (id at n : ℕ) → Tells stopped (insert_tests s id at n)
     insert id at n =
@@ -70,7 +68,7 @@ module _ (stopped : Option ℕ) where
     ranged id from to = either (no_track s id) _ (track id) (range from to (length (cells_at id (current s))))
 
     narrow : (have need : ℕ) → Tells stopped (too_narrow have need)
-    narrow have need = one (nat_lt have need) (refusal.TooNarrow have need) tt
+    narrow have need = one (nat_lt have need) (Refusal.TooNarrow have need) tt
 
     run : (id n from to : ℕ) → Tells stopped (run_tests s id n from to)
     run id n from to =
@@ -84,15 +82,15 @@ module _ (stopped : Option ℕ) where
         let have = length here in
         let need = length (clip_of s) in
         either (no_track s id) _ (track id)
-        (either (empty_clipboard s) _ (one (is_none s.clipboard) refusal.EmptyClipboard tt)
+        (either (empty_clipboard s) _ (one (is_none s.clipboard) Refusal.EmptyClipboard tt)
         (either (too_narrow have need) _ (narrow have need) (lengths (pasted_lengths f (clip_of s) here))))
 
     more_tracks : (n : ℕ) → Tells stopped (track_limit s n)
-    more_tracks n = one (nat_lt MAX_TRACKS (length (current s) + n)) refusal.TrackLimit tt
+    more_tracks n = one (nat_lt MAX_TRACKS (length (current s) + n)) Refusal.TrackLimit tt
 
     channels : (sound : Sound) → Tells stopped (channel_tests out.rate s sound)
     channels sound =
-        either (refused_if (not (sound.rate == out.rate)) (refusal.RateDiffers sound.rate out.rate)) _ (one _ _ tt)
+        either (refused_if (not (sound.rate == out.rate)) (Refusal.RateDiffers sound.rate out.rate)) _ (one _ _ tt)
         (either (track_limit s (length sound.channels)) _ (more_tracks (length sound.channels))
         (lengths (map length sound.channels)))
 
@@ -105,7 +103,7 @@ module _ (stopped : Option ℕ) where
     imported (Some bytes) = wave (wav_of bytes)
 
     columned : (columns len : ℕ) → Tells stopped (bad_columns columns len)
-    columned columns len = one (columns == 0 || nat_lt MAX_VIEW columns || nat_lt len columns) refusal.BadColumns tt
+    columned columns len = one (columns == 0 || nat_lt MAX_VIEW columns || nat_lt len columns) Refusal.BadColumns tt
 
     view : (v : View) → Tells stopped (view_tests s v)
     view (Cells id from to) = either (no_track s id) (bad_view from to) (track id) (range from to (from + MAX_VIEW))
@@ -133,19 +131,19 @@ module _ (stopped : Option ℕ) where
     line _ = tt
 
     pin : (n : ℕ) → Tells stopped (no_pin s n)
-    pin n = one (is_none (s.pins n)) (refusal.NoPin n) tt
+    pin n = one (is_none (s.pins n)) (Refusal.NoPin n) tt
 
     own : (c : Call) → Tells stopped (call_tests out s c)
-    own (call.Line c) = line (shape_of c)
-    own (call.Piece to tag samples) =
+    own (Call.Line c) = line (shape_of c)
+    own (Call.Piece to tag samples) =
         either (no_track s to) _ (track to) (lengths ((length (cells_at to (current s)) + length samples) ∷ []))
-    own call.Pin = tt
-    own (call.PinLen n) = pin n
-    own (call.ReadPin n from count) = pin n
-    own (call.LoadPin n from count) = pin n
-    own (call.Unpin n) = pin n
+    own Call.Pin = tt
+    own (Call.PinLen n) = pin n
+    own (Call.ReadPin n from count) = pin n
+    own (Call.LoadPin n from count) = pin n
+    own (Call.Unpin n) = pin n
 
-  counters : (out : Outside) (t : model.Studio) (c : Call) (blocks len : ℕ) → Tells stopped (counter_tests out t c blocks len)
+  counters : (out : Outside) (t : Studio) (c : Call) (blocks len : ℕ) → Tells stopped (counter_tests out t c blocks len)
   counters out t c blocks len =
       either (no_room t.next_block blocks) _ (room t.next_block blocks)
       (either (no_room t.state.next_track (tracks_of out c)) _ (room t.state.next_track (tracks_of out c))
@@ -156,12 +154,12 @@ module _ (stopped : Option ℕ) where
       (room t.next_layout (layouts_of out t.state c)))))))
 
 pub going : (stopped : Option ℕ) (c : Call) → Tells stopped (stop_test stopped c)
-going (Some n) (call.Unpin pin) = tt
+going (Some n) (Call.Unpin pin) = tt
 going (Some n) _ = refl
-going None (call.Unpin pin) = tt
+going None (Call.Unpin pin) = tt
 going None _ = tt
 
-pub tested : (out : Outside) (t : model.Studio) (c : Call) (blocks len : ℕ)
+pub tested : (out : Outside) (t : Studio) (c : Call) (blocks len : ℕ)
     → Tells t.stopped (refusal_of out t c blocks len)
 tested out t c blocks len =
     either t.stopped (stop_test t.stopped c) _ (going t.stopped c)
@@ -171,23 +169,23 @@ tested out t c blocks len =
 
 pub served_test : (stopped : Option ℕ) (c : Call) (why : Refusal) → stopped ≡ None → IsOfTest stopped why
     → IsServed c why
-served_test stopped c refusal.DiskFault going is = absurd is
-served_test stopped c (refusal.Stopped faults) going is = absurd (stopped_not stopped is going)
-served_test stopped c refusal.VaultFault going is = absurd is
+served_test stopped c Refusal.DiskFault going is = absurd is
+served_test stopped c (Refusal.Stopped faults) going is = absurd (stopped_not stopped is going)
+served_test stopped c Refusal.VaultFault going is = absurd is
 served_test stopped c why going is = tt
 
 -- ---- that no turn was left is no answer of a call
 
-spent_never : (t u : model.Studio) (c : Call) (sound : SoundMove) → Answers t c sound (Err spent) u → ⊥
-spent_never t u c sound (inl h) = subst (Tells t.stopped) h.first (tested (outside t sound) t c h.blocks h.len)
+spent_never : (t u : Studio) (c : Call) (sound : SoundMove) → Answers t c sound (Err spent) u → ⊥
+spent_never t u c sound (inl h) = rw h.first at (tested (outside t sound) t c h.blocks h.len)
 spent_never t u c sound (inr (inl left)) = cc left.reason
 spent_never t u c sound (inr (inr h)) = h
 
-pub had_turn : (t u : model.Studio) (c : Call) (sound : SoundMove) (what : Result Reply Refusal)
+pub had_turn : (t u : Studio) (c : Call) (sound : SoundMove) (what : Result Reply Refusal)
     → Answers t c sound what u → reply_of what ≡ Refused spent → ⊥
 had_turn t u c sound (Ok r) h is =
     let told : Err spent ≡ Ok r = ap result_of (sym is)
     ∙ plain_result r (plain (outside t sound) t.state c r h.answers) in cc
 had_turn t u c sound (Err why) h is =
     let same : why ≡ spent = cc in
-    spent_never t u c sound (subst (λ (z : Refusal). Answers t c sound (Err z) u) same h)
+    spent_never t u c sound (rw same at h)

@@ -1,10 +1,10 @@
 -- One turn of a seat, put together.
-use Rattle.studio_seats.proofs.Common.{◌≡◌, inl, inr, ⊎_elim, refl, sym, ap, ◌∙◌, subst, ℕ, ◌≤◌, false, true, List, []}
+use Rattle.studio_seats.proofs.Common.{◌≡◌, inl, inr, refl, sym, ap, ◌∙◌, subst, ℕ, ◌≤◌, false, true, List, []}
 use Rattle.studio_seats.proofs.Common.{◌∷◌, ◌++◌, Result, Ok, Err, None, arith, true≢false, Reply, Call, SoundMove}
 use Rattle.studio_seats.proofs.Common.{Refusal, Said, name_in, Ghosts, View, ByOthers, Core, IsStudio, Took, freeing}
-use Rattle.studio_seats.proofs.Common.{silent, core_of, actor_of, deed, number_after, raised_by, Says, Spends, Turned}
-use Rattle.studio_seats.proofs.Common.{asked, spent, views, AllTell, Does, Origin, origin, Deed, Held}
-use Rattle.std.proofs.Common.{MatchResult}
+use Rattle.studio_seats.proofs.Common.{silent, core_of, actor_of, deed, number_after, raised_by, Says, Turned}
+use Rattle.studio_seats.proofs.Common.{asked, spent, views, AllTell, Does, Origin, origin, Deed, Held, MatchResult}
+use Rattle.studio_seats.proofs.Common.{VaultGhosts, quiet}
 use Rattle.std.specs.Fn.{Mut, CalledAtMut, Takes}
 use Rattle.pin_turn.specs.Calls.{TakesAtMut, FitsTurn, TookTurn, addition, called_as, meaning}
 use Rattle.pin_turn.specs.{declared.view.Spent.Spent}
@@ -12,14 +12,8 @@ use Rattle.studio_seats.specs.Desks.{Asked, Views, deed_of}
 use Rattle.studio_seats.specs.{Holding.HeldFor}
 use Rattle.studio_seats.proofs.{Chains.extends, Grown.does_silent, Grown.leads}
 use denote.Ref.{MutBor}
-use Rattle.edit_ports.specs.declared.vault.Vault as vault
 
--- the deed of a turn whose call names no sound
-abbrev pub quiet : {D V : Type 0} {disk : Ghosts D} → View (Held D V disk) Deed → Call → Result Reply Refusal
-    → List Deed
-quiet v call what = deed v.number call what silent ∷ []
-
-module _ {D V : Type 0} (disk : Ghosts D) (vaults : vault.Ghosts V) where
+module _ {D V : Type 0} (disk : Ghosts D) (vaults : VaultGhosts V) where
   -- the studio of a turn
   abbrev core : Held D V disk → Core D
   core x = core_of x.studio
@@ -27,17 +21,15 @@ module _ {D V : Type 0} (disk : Ghosts D) (vaults : vault.Ghosts V) where
   -- a call may be made of the studio that a turn finds, through a reference
   pub is_studio : (start x y : Held D V disk) (deeds : List Deed) → HeldFor disk vaults start x deeds → y ≡ x
       → IsStudio disk (core y)
-  is_studio start x y deeds stands is = subst (λ (z : Held D V disk). IsStudio disk (core z)) (sym is)
-      (leads (origin disk vaults (core start)) (core x) deeds stands).studio
+  is_studio start x y deeds stands is =
+      rw is (leads (origin disk vaults (core start)) (core x) deeds stands).studio
 
   -- what a call did, shown and left through a reference
   does_at : (s t s' t' : Held D V disk) (d : Deed) → Does disk (AllTell vaults) (core s') d (core t') → s' ≡ s → t' ≡ t
       → Does disk (AllTell vaults) (core s) d (core t)
-  does_at s t s' t' d does a b =
-      subst (λ (z : Held D V disk × Held D V disk). Does disk (AllTell vaults) (core z.0) d (core z.1))
-      (λ i. (a i, b i)) does
+  does_at s t s' t' d does a b = rw (a, b) at does
 
-  -- what is said of a turn
+  -- what a turn returns
   abbrev SaidBy : {A : Type 0} → Result (Said A) Spent → Said A → Type 0
   SaidBy result said = MatchResult result (λ s. said ≡ s) (λ _. (said.at ≡ 0) × (said.what ≡ Err spent))
 
@@ -86,27 +78,20 @@ module _ {D V : Type 0} (disk : Ghosts D) (vaults : vault.Ghosts V) where
         by_seat = λ s f'. (done s f', refl, refl);
       }
 
-      -- what the closure says of a call, which is told to the caller in other words
-      pub record Called (f' : F) (s : Said A) (x x' : Held D V disk) (said_call : Call)
-          (said_what : Said A → Result Reply Refusal) (said_sound : SoundMove) : Type 0 where
+      -- what the closure says of a call, and how the caller knows the call
+      pub record Called (f' : F) (s : Said A) (x x' : Held D V disk) (a : Asked) : Type 0 where
         pub does : Does disk (AllTell vaults) (core x) (done s f') (core x')
         pub number : s.at ≡ (core x').commit_number
-        pub call_is : call f' ≡ said_call
-        pub what_is : what s f' ≡ said_what s
-        pub sound_is : sound f' ≡ said_sound
+        pub is : asked (call f') (what s f') (sound f') ≡ a
 
-      turned : (s : Said A) (f' : F) (w : View (Held D V disk) Deed) (said_call : Call)
-          (said_what : Said A → Result Reply Refusal) (said_sound : SoundMove)
+      turned : (s : Said A) (f' : F) (w : View (Held D V disk) Deed) (a : Asked)
           (took : TookTurn (meaning (HeldFor disk vaults) actor_of start) g (called_as f s f')
-          (addition v (done s f' ∷ []) w))
-          → Called f' s took.called.shown.now took.called.left.now said_call said_what said_sound
-          → Turned (origin disk vaults (core start)) (asked said_call (said_what s) said_sound) s.at (views v w)
-      turned s f' w said_call said_what said_sound took at =
+          (addition v (done s f' ∷ []) w)) → Called f' s took.called.shown.now took.called.left.now a
+          → Turned (origin disk vaults (core start)) a s.at (views v w)
+      turned s f' w a took at =
           let does = does_at took.value took.value' took.called.shown.now took.called.left.now (done s f') at.does
           took.called.shows took.called.leaves in
-          subst (λ (z : Call × Result Reply Refusal × SoundMove).
-          Turned (origin disk vaults (core start)) (asked z.0 z.1 z.2) s.at (views v w))
-          (λ i. (at.call_is i, at.what_is i, at.sound_is i)) record {
+          subst (λ (z : Asked). Turned (origin disk vaults (core start)) z s.at (views v w)) at.is record {
             between = took.between;
             by_others = took.by_others;
             few = took.few;
@@ -122,18 +107,15 @@ module _ {D V : Type 0} (disk : Ghosts D) (vaults : vault.Ghosts V) where
           }
 
       -- what the seat then says
-      pub says : (f' : F) (said_call : Call) (said_what : Said A → Result Reply Refusal) (said_sound : SoundMove)
-          (w : View (Held D V disk) Deed) (result : Result (Said A) Spent) (said : Said A)
-          → Taken (λ s. done s f' ∷ []) f' w result → SaidBy result said
+      pub says : (f' : F) (a : Said A → Asked) (w : View (Held D V disk) Deed) (result : Result (Said A) Spent)
+          (said : Said A) → Taken (λ s. done s f' ∷ []) f' w result → SaidBy result said
           → ((s : Said A) (x x' : Held D V disk) (called : CalledAtMut g f x s f' x')
-          → Called f' s called.shown.now called.left.now said_call said_what said_sound)
-          → Says (origin disk vaults (core start)) (asked said_call (said_what said) said_sound) said (views v w)
-      says f' said_call said_what said_sound w (Ok s) said took same at =
-          inl (subst (λ (z : Said A).
-          Turned (origin disk vaults (core start)) (asked said_call (said_what z) said_sound) z.at (views v w))
-          (sym same) (turned s f' w said_call said_what said_sound took (at s took.value took.value' took.called)))
-      says f' said_call said_what said_sound w (Err y) said h none at =
-          inr record { at = none.0; what = none.1; view = h.0 }
+          → Called f' s called.shown.now called.left.now (a s))
+          → Says (origin disk vaults (core start)) (a said) said (views v w)
+      says f' a w (Ok s) said took same at =
+          inl (subst (λ (z : Said A). Turned (origin disk vaults (core start)) (a z) z.at (views v w)) (sym same)
+          (turned s f' w (a s) took (at s took.value took.value' took.called)))
+      says f' a w (Err y) said h none at = inr record { at = none.0; what = none.1; view = h.0 }
 
     -- a call that names no sound, and whose answer does not look at what the closure left
     module _ (call : Call) (what : Said A → Result Reply Refusal) (none : name_in call ≡ None) where
@@ -157,15 +139,10 @@ module _ {D V : Type 0} (disk : Ghosts D) (vaults : vault.Ghosts V) where
           → Made s called.shown.now called.left.now × (s.at ≡ (core called.left.now).commit_number))
           → Says (origin disk vaults (core start)) (asked call (what said) silent) said (views v w)
       says_quiet f' w result said took same met =
-          says (λ f'. call) (λ s f'. what s) (λ f'. silent) f' call what silent w result said took same
+          says (λ f'. call) (λ s f'. what s) (λ f'. silent) f' (λ s. asked call (what s) silent) w result said took same
           (λ s x x' called.
-          let h = met s x x' called in record {
-            does = does_silent disk _ _ call (what s) h.0.0 _ none h.0.1;
-            number = h.1;
-            call_is = refl;
-            what_is = refl;
-            sound_is = refl;
-          })
+          let h = met s x x' called in
+          record { does = does_silent disk _ _ call (what s) h.0.0 _ none h.0.1; number = h.1; is = refl })
 
 -- ---- the commit number to which deeds lead
 
@@ -179,7 +156,7 @@ pub number_on : (n : ℕ) (ds more : List Deed) → number_after n ds ≤ number
 number_on n [] more = number_grows n more
 number_on n (d ∷ ds) more = number_on (raised_by d n) ds more
 
--- the number that a turn tells is that to which the deeds lead
+-- the number that a turn returns is that to which the deeds lead
 pub turned_number : {D V : Type 0} {disk : Ghosts D} {o : Origin D V} {a : Asked} {at : ℕ} {seat : Views D V disk}
     (x : Turned o a at seat)
     → x.after.commit_number ≡ number_after o.start.commit_number
@@ -187,38 +164,26 @@ pub turned_number : {D V : Type 0} {disk : Ghosts D} {o : Origin D V} {a : Asked
 turned_number {o = o} x = (leads o x.after _ x.stands).number
 
 -- a tag that is no higher than a number to which deeds lead stays so
-pub tag_fits : {D V : Type 0} (disk : Ghosts D) (vaults : vault.Ghosts V) (start x y : Held D V disk) (tag : ℕ)
+pub tag_fits : {D V : Type 0} (disk : Ghosts D) (vaults : VaultGhosts V) (start x y : Held D V disk) (tag : ℕ)
     (ds more : List Deed)
     → tag ≤ number_after start.studio.commit_number ds → HeldFor disk vaults start x (ds ++ more) → y ≡ x
     → tag ≤ y.studio.commit_number
-tag_fits {D} {V} disk vaults start x y tag ds more low stands is =
+tag_fits disk vaults start x y tag ds more low stands is =
     let on = number_on start.studio.commit_number ds more in
     let at = (leads (origin disk vaults (core_of start.studio)) (core_of x.studio) (ds ++ more) stands).number in
-    let same : y.studio.commit_number ≡ x.studio.commit_number =
-    ap (λ (z : Held D V disk). z.studio.commit_number) is in
-    omega (arith, low, on, at, same)
+    rw is (omega (arith, low, on, at))
 
--- a call leaves the seat's number, and what is away from it
-pub seat_stays : {D V A : Type 0} (disk : Ghosts D) (vaults : vault.Ghosts V) (start : Core D)
+module _ {D V A : Type 0} (disk : Ghosts D) (vaults : VaultGhosts V) (start : Core D)
     (v w : View (Held D V disk) Deed) (call : Call) (what : Result Reply Refusal) (sound : SoundMove) (said : Said A)
-    → Says (origin disk vaults start) (asked call what sound) said (views v w)
-    → (w.number ≡ v.number) × (w.away ≡ v.away)
-seat_stays {D} {V} {A} disk vaults start v w call what sound said h = ⊎_elim
-    (λ (x : Turned (origin disk vaults start) (asked call what sound) said.at (views v w)).
-    (ap (λ (z : View (Held D V disk) Deed). z.number) x.view, ap (λ (z : View (Held D V disk) Deed). z.away) x.view))
-    (λ (x : Spends v said w).
-    (ap (λ (z : View (Held D V disk) Deed). z.number) x.view, ap (λ (z : View (Held D V disk) Deed). z.away) x.view))
-    h
+  where
+    -- a call leaves the seat's number, and what is away from it
+    pub seat_stays : Says (origin disk vaults start) (asked call what sound) said (views v w)
+        → (w.number ≡ v.number) × (w.away ≡ v.away)
+    seat_stays (inl x) = rw x.view (refl, refl)
+    seat_stays (inr x) = rw x.view (refl, refl)
 
--- the number that is told is none above that to which the deeds lead that the seat has seen
-pub said_number : {D V A : Type 0} (disk : Ghosts D) (vaults : vault.Ghosts V) (start : Core D)
-    (v w : View (Held D V disk) Deed) (call : Call) (what : Result Reply Refusal) (sound : SoundMove) (said : Said A)
-    → Says (origin disk vaults start) (asked call what sound) said (views v w)
-    → said.at ≤ number_after start.commit_number w.seen
-said_number {D} {V} {A} disk vaults start v w call what sound said h = ⊎_elim
-    (λ (x : Turned (origin disk vaults start) (asked call what sound) said.at (views v w)).
-    let same : said.at ≡ number_after start.commit_number w.seen = x.number ∙ turned_number x
-    ∙ sym (ap (λ (z : View (Held D V disk) Deed). number_after start.commit_number z.seen) x.view) in
-    omega (arith, same))
-    (λ (x : Spends v said w). let none = x.at in omega (arith, none))
-    h
+    -- the number that is returned is none above that to which the deeds lead that the seat has seen
+    pub said_number : Says (origin disk vaults start) (asked call what sound) said (views v w)
+        → said.at ≤ number_after start.commit_number w.seen
+    said_number (inl x) = rw x.view (omega (arith, x.number, turned_number x))
+    said_number (inr x) = omega (arith, x.at)

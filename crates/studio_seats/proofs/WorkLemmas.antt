@@ -1,6 +1,6 @@
 -- The own deeds of a seat that goes on, and how they end.
-use Rattle.studio_seats.proofs.Common.{◌≡◌, inl, inr, ℕ, Bool, true, List, [], ◌∷◌, ◌++◌, Option, Some, None, sym, ◌∙◌}
-use Rattle.studio_seats.proofs.Common.{ap, subst, append_assoc, Call, Refusal, Ghosts, View, ByOthers, Held, Deed}
+use Rattle.studio_seats.proofs.Common.{◌≡◌, inl, inr, ℕ, Bool, true, List, [], ◌∷◌, ◌++◌, Option, Some, None, ◌∙◌}
+use Rattle.studio_seats.proofs.Common.{append_assoc, Call, Refusal, Ghosts, View, ByOthers, Held, Deed}
 use Rattle.studio_seats.proofs.Common.{actor_of, by_seat, deeds_of, Asks, EndsBy, Onward}
 use Rattle.studio_seats.proofs.MergeLemmas.{own_order}
 
@@ -10,9 +10,8 @@ pub own_turn : {D V : Type 0} {disk : Ghosts D} (fits : Call → Type 0) (a v : 
     (between : List Deed) (d : Deed) → d.actor ≡ v.number → ByOthers actor_of (v.number ∷ []) between
     → deeds_of (by_seat a.number) (h.added ++ (between ++ d ∷ [])) ≡ deeds_of (by_seat a.number) h.added ++ d ∷ []
 own_turn fits a v h between d own others =
-    ap (deeds_of (by_seat a.number)) (sym (append_assoc h.added between (d ∷ [])))
-    ∙ own_order a.number h.added between d (own ∙ h.number)
-    (subst (λ (m : ℕ). ByOthers actor_of (m ∷ []) between) h.number others)
+    rw (← (append_assoc h.added between (d ∷ [])))
+    (own_order a.number h.added between d (own ∙ h.number) (rw h.number at others))
 
 -- what fits, fits in other words
 abbrev pub asks_as : (one two : Call → Type 0) → ((c : Call) → one c → two c) → (seat : ℕ) (ds : List Deed)

@@ -72,7 +72,7 @@ module _ {D V : Type 0} {disk : Ghosts D} where
     pub stands : StandsFor o after ((seat.before.seen ++ between) ++ deed_of seat.before.number a ∷ [])
     pub number : at ≡ after.commit_number
 
-  -- no turn was left, and nothing was asked
+  -- no turn was left, and no call was made
   pub record Spends {A : Type 0} (v : View (Held D V disk) Deed) (said : Said A)
       (w : View (Held D V disk) Deed) : Type 0 where
     pub at : said.at ≡ 0

@@ -16,8 +16,8 @@ pub record IsCalm (t u : model.Studio) : Type 0 where
   pub reads : Rose t.read_faults u.read_faults → ⊥
   pub changes : Rose t.change_faults u.change_faults → ⊥
 
--- The store did not cause this reason: neither did it fail, nor had the studio stopped. That the vault failed is told
--- only of a call that names a sound.
+-- The store did not cause this reason: neither did it fail, nor had the studio stopped. Only a call that
+-- names a sound may return that the vault failed.
 abbrev pub IsServed : Call → Refusal → Type 0
 IsServed c refusal.DiskFault = ⊥
 IsServed c (refusal.Stopped faults) = ⊥

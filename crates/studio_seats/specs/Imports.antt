@@ -13,7 +13,7 @@ use Rattle.edit_ports.specs.declared.vault.Vault as vault
 abbrev pub telling : vault.Ghosts (Unit {0})
 telling = record { tells = λ v. true; holds = λ v name. None; fault_count = λ v. 0 }
 
--- Where the deed names a sound, vaults report their bytes, or it is an import whose sound was not told to be cut short.
+-- Where the deed names a sound, vaults report their bytes, or it is an import that did not return a sound cut short.
 abbrev pub IsReadable : {V : Type 0} → vault.Ghosts V → Deed → Type 0
 IsReadable vaults d =
     IsSome (name_in d.call) → AllTell vaults ⊎ ((reads_sound d.call ≡ true) × (IfCutShort d.what → ⊥))

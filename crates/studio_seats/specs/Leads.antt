@@ -69,7 +69,7 @@ abbrev pub DeedsLead : {D V : Type 0} → Ghosts D → vault.Ghosts V → Type 0
 DeedsLead {D} disk vaults = (start now : Core D) (deeds : List Deed) → StandsFor (origin disk vaults start) now deeds
     → Leads (origin disk vaults start) now deeds
 
--- what the deeds of a chain asked of the disk at most, added up
+-- the room that the deeds of a chain take of the disk at most, added up
 abbrev pub chain_asks : {D V : Type 0} (disk : Ghosts D) (vaults : vault.Ghosts V) (old : Core D) (deeds : List Deed)
     (new : Core D) → Chain disk vaults old deeds new → Room
 chain_asks disk vaults old [] new chain = record { files = 0; bytes = 0; calls = 0 }
@@ -78,8 +78,8 @@ chain_asks disk vaults old (d ∷ ds) new chain = together
     (chain.0.next_block - old.next_block) chain.1.lasts.len (packed_by old d.call))
     (chain_asks disk vaults chain.0 ds new chain.2)
 
--- Of the disk no more was asked than by each deed, and no file changes but the journal and those of blocks, here and in
--- what a stop may leave, of moments before the start too.
+-- The deeds take no more room of the disk than each of them may, and no file changes but the journal and those of
+-- blocks, here and in what a stop may leave, of moments before the start too.
 abbrev pub DeedsAsk : {D V : Type 0} → Ghosts D → vault.Ghosts V → Type 0
 DeedsAsk {D} disk vaults = (start now : Core D) (deeds : List Deed)
     (stands : StandsFor (origin disk vaults start) now deeds)

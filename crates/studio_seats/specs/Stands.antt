@@ -30,7 +30,7 @@ abbrev pub AreTold : {V : Type 0} → vault.Ghosts V → List Deed → Type 0
 AreTold vaults deeds = Each (λ d. IsSome (name_in d.call) → AllTell vaults) deeds
 
 -- One deed is one call of the studio: a step, where its call names no sound, or `told` holds: vaults report their
--- bytes. Whatever they report, an import is a step by some sound, unless its sound is told to be cut short.
+-- bytes. Whatever they report, an import is a step by some sound, unless it returns that the sound is cut short.
 pub record Does {D : Type 0} (disk : Ghosts D) (told : Type 0) (old : Core D) (d : Deed) (new : Core D) : Type 0 where
   -- the ids of the blocks whose files went
   pub removed : List ℕ

@@ -14,7 +14,7 @@ pub fn deeds_lead<S: Store, V: Vault>()
 {}
 
 /// Where deeds lead over vaults that do not report their bytes: each import reads some sound, and with these sounds the
-/// deeds lead as over vaults that do. No deed may write a sound, and no sound may be told to be cut short.
+/// deeds lead as over vaults that do. No deed may write a sound, and none may return that a sound is cut short.
 pub fn imports_lead<S: Store, V: Vault>()
     ensures { ImportsLead S.Store V.Vault }
 {}
@@ -39,8 +39,8 @@ pub fn turns_keep_order()
     ensures { OwnOrder }
 {}
 
-/// A pin that was made in a run, and that nobody let go, shows the mix of the project that was current then, and all
-/// that is asked of it is answered so.
+/// A pin that was made in a run, and that nobody let go, shows the mix of the project that was current then, and each
+/// call that reads it answers so.
 pub fn pins_stay()
     ensures { PinsStay }
 {}

@@ -1,19 +1,17 @@
--- Damage that is told is that of a block that the studio names.
-use Rattle.editor_state.proofs.Common.{◌≡◌, inl, inr, subst, ap, ℕ, zero, suc, ◌<◌, Option, List, [], ◌∷◌, length}
-use Rattle.editor_state.proofs.Common.{Contains, Result, Ok, Err, arith, Old, Scaled, Zero, Given, BlockRef, Refusal}
-use Rattle.editor_state.proofs.Common.{Files, BlockFault, IsDamagedIn, AreAmong}
+-- Damage that a call returns is that of a block that the studio names.
+use Rattle.editor_state.proofs.Common.{◌≡◌, inl, inr, subst, ℕ, zero, suc, ◌<◌, List, [], ◌∷◌, length, Contains, Result}
+use Rattle.editor_state.proofs.Common.{Ok, Err, arith, Old, Scaled, Zero, Given, BlockRef, Refusal, Files, BlockFault}
+use Rattle.editor_state.proofs.Common.{IsDamagedIn, AreAmong, rules}
 use Rattle.std.proofs.Common.{get_or}
 use Rattle.std.specs.Prelude.{IfErr}
 use Rattle.pcm_base.specs.{declared.piece.Piece.Piece}
-use Rattle.disk_model.specs.Disk.{bytes_of}
 use Rattle.block_sequence.specs.Origins.{AllFrom}
-use Rattle.block_store.specs.{Reads.IsFault, Reads.IsFaultIn}
+use Rattle.block_store.specs.{Reads.IsFaultIn}
 use Rattle.edit_ops.specs.{declared.types.NewBlock.NewBlock, Plans.AllNewFrom}
 use Rattle.block_writer.specs.Reading.{IsFaultAmong}
 use Rattle.editor_state.specs.{Makes.IsDamageAmong}
 use Rattle.editor_state.proofs.Blocks.BlockLists.{contained}
 use Rattle.pcm_base.specs.declared.refusal.Refusal.TheVariants as refusal
-use Rattle.block_store.specs.declared.fault.BlockFault.TheVariants as fault
 
 -- ---- damage of some of its blocks
 
@@ -23,8 +21,7 @@ fault_among files every bs why among f = (f.0, contained (Contains every) bs f.0
 
 pub damage_among : (files : Files) (every bs : List BlockRef) (why : Refusal) → AreAmong every bs
     → IsDamagedIn files bs why → IsDamagedIn files every why
-damage_among files every bs (refusal.Damaged file at want have) among damage =
-    fault_among files every bs (fault.Damaged file (record { at = at; want = want; have = have })) among damage
+damage_among files every bs (refusal.Damaged file at want have) among damage = search (rules, fault_among)
 damage_among files every bs why among damage = tt
 
 pub part_among : (files : Files) (every bs : List BlockRef) (r : Result (Unit {0}) BlockFault) → AreAmong every bs
@@ -57,14 +54,11 @@ fault_named named count files (p ∷ ps) why all (inr f) = fault_named named cou
 fault_still : (named : List BlockRef) (old now : Files) (why : BlockFault)
     → ((b : BlockRef) → Contains named b → now b.id ≡ old b.id)
     → IsFaultIn now named why → IsFaultIn old named why
-fault_still named old now why same f =
-    let at = ap (λ (o : Option (List ℕ)). bytes_of o) (same f.0 f.1) in
-    (f.0, f.1, subst (λ (bytes : List ℕ). IsFault f.0.id f.0.len bytes why) at f.2)
+fault_still named old now why same f = search rules
 
 pub damage_named : (named : List BlockRef) (count : ℕ) (old now : Files) (ps : List Piece) (why : Refusal)
     → AllFrom named count ps
     → ((b : BlockRef) → Contains named b → now b.id ≡ old b.id) → IsDamageAmong now ps why → IsDamagedIn old named why
 damage_named named count old now ps (refusal.Damaged file at want have) all same damage =
-    let why : BlockFault = fault.Damaged file (record { at = at; want = want; have = have }) in
-    fault_still named old now why same (fault_named named count now ps why all damage)
+    search (rules, fault_still, fault_named)
 damage_named named count old now ps why all same damage = tt

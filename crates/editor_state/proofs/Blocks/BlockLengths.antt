@@ -1,6 +1,6 @@
 -- The blocks of sound tracks are no longer than the block size.
 use Rattle.editor_state.proofs.Common.{ℕ, ◌≤◌, List, [], ◌∷◌, AllByRecursion, BlockRef, Clip, layout_blocks, Track}
-use Rattle.editor_state.proofs.Common.{point_blocks, AllValidTracks, all_append}
+use Rattle.editor_state.proofs.Common.{point_blocks, AllValidTracks, all_append, rules}
 use Rattle.pcm_base.specs.{Blocks.AllFull, Blocks.IsHalfFull, Blocks.block_lens}
 use Rattle.clip_track.specs.{Clips.AllHalfFull}
 
@@ -17,12 +17,9 @@ clip_short m (b ∷ c ∷ bs) half = full_short m (b ∷ c ∷ bs) half
 layout_short : (m : ℕ) (cs : List Clip) → AllHalfFull m cs
     → AllByRecursion (λ (b : BlockRef). b.len ≤ m) (layout_blocks cs)
 layout_short m [] half = tt
-layout_short m (c ∷ cs) half = all_append (λ (b : BlockRef). b.len ≤ m) c.blocks (layout_blocks cs)
-    (clip_short m c.blocks half.0) (layout_short m cs half.1)
+layout_short m (c ∷ cs) half = search (rules, all_append, clip_short, layout_short m cs half.1)
 
 pub tracks_short : (m next track : ℕ) (ts : List Track) → AllValidTracks m next track ts
     → AllByRecursion (λ (b : BlockRef). b.len ≤ m) (point_blocks ts)
 tracks_short m next track [] s = tt
-tracks_short m next track (t ∷ ts) s =
-    all_append (λ (b : BlockRef). b.len ≤ m) (layout_blocks t.layout) (point_blocks ts)
-    (layout_short m t.layout s.0.half_full) (tracks_short m next track ts s.1)
+tracks_short m next track (t ∷ ts) s = search (rules, all_append, layout_short, tracks_short m next track ts s.1)

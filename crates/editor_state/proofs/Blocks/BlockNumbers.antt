@@ -1,10 +1,9 @@
 -- How many blocks there may be.
-use Rattle.editor_state.proofs.Common.{rules, ◌≡◌, ⊎_elim, refl, ap, ℕ, zero, suc, ◌+◌, ◌*◌, ◌^◌, ◌≤◌, ◌<◌, eqb, List}
-use Rattle.editor_state.proofs.Common.{[], ◌∷◌, length, flat_map, length-append, IsSome, if◌then◌else◌, false, arith}
-use Rattle.editor_state.proofs.Common.{Option, None, Some, eqb_tells, AllByRecursion, BlockRef, Clip, AreClips}
-use Rattle.editor_state.proofs.Common.{clip_end, layout_blocks, Track, point_blocks, history_blocks, AllValidTracks}
-use Rattle.editor_state.proofs.Common.{IsValidPoint, Ghosts, occurrences, IsStudio, named_blocks, pin_blocks, Core}
-use Rattle.editor_state.proofs.Common.{times_named}
+use Rattle.editor_state.proofs.Common.{rules, ◌≡◌, refl, ap, ℕ, zero, suc, ◌+◌, ◌*◌, ◌^◌, ◌≤◌, ◌<◌, eqb, List, [], ◌∷◌}
+use Rattle.editor_state.proofs.Common.{length, flat_map, length-append, IsSome, if◌then◌else◌, false, arith, Option}
+use Rattle.editor_state.proofs.Common.{None, Some, eqb_tells, AllByRecursion, BlockRef, Clip, AreClips, clip_end}
+use Rattle.editor_state.proofs.Common.{layout_blocks, Track, point_blocks, history_blocks, AllValidTracks, IsValidPoint}
+use Rattle.editor_state.proofs.Common.{Ghosts, occurrences, IsStudio, named_blocks, pin_blocks, Core, times_named}
 use Rattle.clip_track.specs.Clips.{IsLayout, end_of}
 use Rattle.editor_state.proofs.Blocks.NamedBlocks.{counted_most, named_counted, numbers_few}
 use Rattle.editor_state.proofs.Lists.{all_so}
@@ -16,10 +15,7 @@ some_count (Some n) h = refl
 
 pub named_most : (id : ℕ) (bs : List BlockRef) → times_named id bs ≤ length bs
 named_most id [] = omega arith
-named_most id (b ∷ bs) = ⊎_elim
-    (λ same. rw (same.0) (omega (arith, named_most id bs)))
-    (λ other. rw (other.0) (omega (arith, named_most id bs)))
-    (eqb_tells b.id id)
+named_most id (b ∷ bs) = search (rules, eqb_tells, named_most id bs)
 
 -- ---- of a point
 
@@ -27,9 +23,7 @@ clips_few : (from at : ℕ) (cs : List Clip) → AreClips from cs → at ≤ fro
     → length (layout_blocks cs) + at ≤ end_of at cs
 clips_few from at [] h le = omega arith
 clips_few from at (c ∷ cs) h le =
-    let here = blocks_few c.blocks h.2 in
-    let later = clips_few (clip_end c + 1) (clip_end c) cs h.3 (omega arith) in
-    omega (arith, here, later, h.0, le, length-append c.blocks (layout_blocks cs))
+    search (rules, blocks_few, length-append, h.2, h.3, clips_few (clip_end c + 1) (clip_end c) cs h.3 (omega arith))
 
 layout_few : (cs : List Clip) → IsLayout cs → length (layout_blocks cs) ≤ 2 ^ 32
 layout_few cs h = omega (arith, clips_few 0 0 cs h.apart (omega arith), h.few)
@@ -38,12 +32,7 @@ tracks_few : (m next_block next_track : ℕ) (ts : List Track) → AllValidTrack
     → length (point_blocks ts) ≤ length ts * 2 ^ 32
 tracks_few m next_block next_track [] h = omega arith
 tracks_few m next_block next_track (t ∷ ts) h =
-    omega (
-      arith,
-      layout_few t.layout h.0.layout,
-      tracks_few m next_block next_track ts h.1,
-      length-append (layout_blocks t.layout) (point_blocks ts),
-    )
+    search (rules, layout_few, length-append, tracks_few m next_block next_track ts h.1)
 
 pub point_few : (m next_block next_track : ℕ) (ts : List Track) → IsValidPoint m next_block next_track ts
     → length (point_blocks ts) ≤ 2 ^ 38
@@ -84,10 +73,7 @@ module _ {D : Type 0} (disk : Ghosts D) (s : Core D) (is : IsStudio disk s) wher
 pub absent : (id : ℕ) (bs : List BlockRef) → times_named id bs ≡ 0
     → AllByRecursion (λ (b : BlockRef). eqb b.id id ≡ false) bs
 absent id [] none = tt
-absent id (b ∷ bs) none = ⊎_elim
-    (λ same. absurd (omega (arith, none, ap {B = ℕ} (λ t. if t then 1 else 0) same.0)))
-    (λ other. (other.0, absent id bs (omega (arith, none))))
-    (eqb_tells b.id id)
+absent id (b ∷ bs) none = search (rules, eqb_tells, absent id bs (omega (arith, none)))
 
 none_of : (id : ℕ) (bs : List BlockRef) → AllByRecursion (λ (b : BlockRef). eqb b.id id ≡ false) bs
     → times_named id bs ≡ 0

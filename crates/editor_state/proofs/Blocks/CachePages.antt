@@ -1,7 +1,7 @@
 -- The pages that a studio keeps are of blocks that were given, and stay right of its disk.
 use Rattle.editor_state.proofs.Common.{ℕ, ◌+◌, ◌≤◌, List, Contains, IsTrue, arith, SameElsewhere, Changed, Room, Ghosts}
 use Rattle.editor_state.proofs.Common.{BlockRef, AllPass, Entries, IsGiven, IsStudio, is_given, named_blocks, Core}
-use Rattle.editor_state.proofs.Common.{AreAmong}
+use Rattle.editor_state.proofs.Common.{AreAmong, rules}
 use Rattle.std.proofs.lemmas.Bool.Decides.{nat_tests}
 use Rattle.block_cache.specs.Caches.{IsCacheOf, KeepsCache}
 use Rattle.block_cache.proofs.CacheLaws.{keeps_more, keeps_same, same_none}
@@ -49,14 +49,11 @@ pages_by_reads disk s is cache keeps =
 
 -- after new blocks
 pub pages_by_blocks : (next n : ℕ) (c : Entries) → AllPass (is_given next) c → AllPass (is_given (next + n)) c
-pages_by_blocks next n c pass =
-    pass_more (is_given next) (is_given (next + n)) c
-    (λ id given. let here = given_is next id given in is_from (next + n) id (here.0, omega (arith, here.1))) pass
+pages_by_blocks next n c pass = search (rules, pass_more, given_is, is_from)
 
 -- of blocks alone
 pub pages_of_blocks : (next : ℕ) (c : Entries) → AllPass (is_given next) c → AllPass is_block c
-pages_of_blocks next c pass =
-    pass_more (is_given next) is_block c (λ id given. block_from id (given_is next id given).0) pass
+pages_of_blocks next c pass = search (rules, pass_more, block_from, given_is)
 
 -- ---- they stay right
 

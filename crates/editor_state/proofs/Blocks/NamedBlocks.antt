@@ -23,17 +23,14 @@ tracks_blocks xs ys = flat_map-append (λ (t : Track). layout_blocks t.layout) x
 points_blocks : (ps : List (List Track × ℕ))
     → track_blocks (points_tracks (map (λ (p : List Track × ℕ). p.0) ps)) ≡ flat_map (λ p. point_blocks p.0) ps
 points_blocks [] = refl
-points_blocks (p ∷ ps) =
-    tracks_blocks p.0 (points_tracks (map (λ (q : List Track × ℕ). q.0) ps))
-    ∙ ap (λ (bs : List BlockRef). point_blocks p.0 ++ bs) (points_blocks ps)
+points_blocks (p ∷ ps) = search (rules, tracks_blocks, points_blocks ps)
 
 pub history_named : (h : History (List Track)) → track_blocks (history_tracks h) ≡ history_blocks h
 history_named h = points_blocks h.points
 
 pub pins_named : (pins : List Pin) → track_blocks (pin_tracks pins) ≡ pin_blocks pins
 pins_named [] = refl
-pins_named (p ∷ ps) = tracks_blocks p.point (pin_tracks ps)
-    ∙ ap (λ (bs : List BlockRef). point_blocks p.point ++ bs) (pins_named ps)
+pins_named (p ∷ ps) = search (rules, tracks_blocks, pins_named ps)
 
 -- of points, pins, and other blocks
 pub tracks_named : (h : History (List Track)) (pins : List Pin) (bs : List BlockRef)
@@ -66,16 +63,12 @@ among_back (x ∷ xs) ys zs all = (one x ys zs all.0, among_back xs ys zs all.1)
 among_points : (n : ℕ) (ps : List (List Track × ℕ))
     → AreAmong (first_tracks (drop n ps)) (points_tracks (map (λ (p : List Track × ℕ). p.0) ps))
 among_points zero [] = tt
-among_points zero (p ∷ ps) =
-    among_front p.0 p.0 (points_tracks (map (λ (q : List Track × ℕ). q.0) ps)) (among_self p.0)
+among_points zero (p ∷ ps) = search (rules, among_front, among_self)
 among_points (suc n) [] = tt
-among_points (suc n) (p ∷ ps) =
-    among_back (first_tracks (drop n ps)) p.0 (points_tracks (map (λ (q : List Track × ℕ). q.0) ps)) (among_points n ps)
+among_points (suc n) (p ∷ ps) = search (rules, among_back, among_points n ps)
 
 pub current_among : {D : Type 0} (s : Core D) → AreAmong (current_tracks s.history) (studio_tracks s)
-current_among s =
-    among_front (current_tracks s.history) (history_tracks s.history) (pin_tracks s.pins)
-    (among_points s.history.cursor s.history.points)
+current_among s = search (rules, among_front, among_points)
 
 -- ---- what is counted
 
@@ -121,14 +114,12 @@ others_moved ts before after uses counts new is moves = search (rules, times_cou
 -- a pin more
 pub tracks_more : (pins : List Pin) (p : Pin) → pin_tracks (pins ++ p ∷ []) ≡ pin_tracks pins ++ p.point
 tracks_more [] p = append-nil p.point
-tracks_more (q ∷ qs) p = ap (λ (ts : List Track). q.point ++ ts) (tracks_more qs p)
-    ∙ sym (append_assoc q.point (pin_tracks qs) p.point)
+tracks_more (q ∷ qs) p = search (rules, append_assoc, tracks_more qs p)
 
 -- pins on both sides
 pub tracks_around : (front back : List Pin) → pin_tracks (front ++ back) ≡ pin_tracks front ++ pin_tracks back
 tracks_around [] back = refl
-tracks_around (p ∷ ps) back = ap (λ (ts : List Track). p.point ++ ts) (tracks_around ps back)
-    ∙ sym (append_assoc p.point (pin_tracks ps) (pin_tracks back))
+tracks_around (p ∷ ps) back = search (rules, append_assoc, tracks_around ps back)
 
 pub points_few : (ps : List (List Track × ℕ)) → AllByRecursion (λ (p : List Track × ℕ). length p.0 ≤ 64) ps
     → length (points_tracks (map (λ (p : List Track × ℕ). p.0) ps)) ≤ length ps * 64

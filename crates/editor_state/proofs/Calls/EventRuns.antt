@@ -1,6 +1,6 @@
 -- Events that are carried out one after another are a run.
-use Rattle.editor_state.proofs.Common.{rules, ◌≡◌, inl, refl, sym, ap, ◌∙◌, subst, ℕ, ◌+◌, ◌≤◌, Bool, Option, Some}
-use Rattle.editor_state.proofs.Common.{None, List, [], ◌∷◌, ◌++◌, take, zero, suc, Result, Ok, Err, arith, none-some}
+use Rattle.editor_state.proofs.Common.{rules, ◌≡◌, inl, refl, sym, ap, subst, ℕ, ◌+◌, ◌≤◌, Bool, Option, Some, None}
+use Rattle.editor_state.proofs.Common.{List, [], ◌∷◌, ◌++◌, take, zero, suc, Result, Ok, Err, arith, none-some}
 use Rattle.editor_state.proofs.Common.{same_Some, Reply, Call, Command, Entry, Refusal, Sounds, Heard, name_in, Ghosts}
 use Rattle.editor_state.proofs.Common.{Changed, Room, Fewer, changed_none, EachSince, Span, TookOver, reply_of}
 use Rattle.editor_state.proofs.Common.{KeepsPrefix, IsHeld, IsStudio, studio_of, Core, LeavesForeign, number_behind}
@@ -21,8 +21,7 @@ use Rattle.pcm_base.specs.Studio as model
 
 follows_more : (old mid new : Sounds) (es : List Entry) (e : Entry) → Follows old es mid
     → Heard (name_in e.call) e.sound mid new → Follows old (es ++ e ∷ []) new
-follows_more old mid new [] e follows heard =
-    (new, subst (λ (z : Sounds). Heard (name_in e.call) e.sound z new) follows heard, refl)
+follows_more old mid new [] e follows heard = search rules
 follows_more old mid new (x ∷ xs) e follows heard =
     (follows.0, follows.1, follows_more follows.0 mid new xs e follows.2 heard)
 
@@ -56,13 +55,15 @@ chain_more disk tells old before [] [] mid here chain e told a new after applies
 )
 chain_more disk tells old before [] (b ∷ bs) mid here chain e told a new after applies = absurd chain
 chain_more disk tells old before (f ∷ fs) [] mid here chain e told a new after applies = absurd chain
-chain_more disk tells old before (f ∷ fs) (b ∷ bs) mid here chain e told a new after applies = (
-  chain.0,
-  chain.1,
-  chain.2,
-  chain.3,
-  chain_more disk tells chain.0 chain.1 fs bs mid here chain.4 e told a new after applies,
-)
+chain_more disk tells old before (f ∷ fs) (b ∷ bs) mid here chain e told a new after applies =
+    search (
+      rules,
+      chain.0,
+      chain.1,
+      chain.4,
+      chain_more disk tells chain.0 chain.1 fs bs mid here chain.4 e told a
+          new after applies,
+    )
 
 -- what the events leave of the disk, and what they ask of it
 chain_changed : {D : Type 0} (disk : Ghosts D) (fewer : (store : D) → Fewer disk store) (tells : Bool) (old : Core D)
@@ -195,15 +196,12 @@ pub take_item : {A : Type 0} (i : ℕ) (xs : List A) (x : A) → slice_get xs i 
     → take (i + 1) xs ≡ take i xs ++ x ∷ []
 take_item i [] x h = absurd (none-some x h)
 take_item zero (y ∷ ys) x h = ap (λ (z : _). z ∷ []) (same_Some y x h)
-take_item (suc i) (y ∷ ys) x h =
-    let next : suc i + 1 ≡ suc (i + 1) = omega arith in
-    ap (λ (k : ℕ). take k (y ∷ ys)) next ∙ ap (λ (z : List _). y ∷ z) (take_item i ys x h)
+take_item (suc i) (y ∷ ys) x h = search (rules, take_item i ys x h)
 
 -- the next call's step, where the vault told as at the start
 pub over_at : {D : Type 0} (disk : Ghosts D) (tells : Bool) (span : Span D) (c : Call) (told : Result Reply Refusal)
     → span.tells ≡ tells → TookOver disk span c told → TookOver disk (record span { tells = tells }) c told
-over_at disk tells span c told same over =
-    subst (λ (b : Bool). TookOver disk (record span { tells = b }) c told) same over
+over_at disk tells span c told same over = search rules
 
 -- ---- calls that are no lines
 

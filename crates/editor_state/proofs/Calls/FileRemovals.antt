@@ -1,9 +1,9 @@
 -- Calls that remove no file, and the ids that are counted after them.
 use Rattle.editor_state.proofs.Common.{rules, ◌≡◌, ◌↔◌, ◌∙◌, inl, ⊎_elim, refl, sym, subst, ℕ, suc, ◌+◌, IsSome, List}
-use Rattle.editor_state.proofs.Common.{[], true, Option, Some, None, Result, Ok, Err, Bool, false, if◌then◌else◌, ap}
-use Rattle.editor_state.proofs.Common.{arith, true≢false, IfOk, Reclaim, Reply, Call, Line, Refusal, commits_of}
-use Rattle.editor_state.proofs.Common.{name_in, Kept, Ghosts, Counts, is_broken_off, may_begin, may_have_begun}
-use Rattle.editor_state.proofs.Common.{reads_sound, Frees, Core, CountsIds, Records, NamesGiven}
+use Rattle.editor_state.proofs.Common.{[], true, Option, Some, None, Result, Ok, Err, Bool, false, if◌then◌else◌, arith}
+use Rattle.editor_state.proofs.Common.{true≢false, IfOk, Reclaim, Reply, Call, Line, Refusal, commits_of, name_in, Kept}
+use Rattle.editor_state.proofs.Common.{Ghosts, Counts, is_broken_off, may_have_begun, reads_sound, Frees, Core}
+use Rattle.editor_state.proofs.Common.{CountsIds, Records, NamesGiven}
 use Rattle.std.specs.Prelude.{Contains}
 use Rattle.pcm_base.specs.declared.command.Command.TheVariants.{Compact, Import}
 use Rattle.editor_state.specs.Exchanges.{is_cut_off}
@@ -49,8 +49,7 @@ frees_refused disk old c why new none = refl
 
 pub commit_frees : {D : Type 0} {more : ℕ} (disk : Ghosts D) (old : Core D) (c : Call) (told : Result Reply Refusal)
     (new : Core D) → commits_of c ≡ suc more → Frees disk old c told [] new
-commit_frees disk old c told new many =
-    frees_none disk old c told new (commit_removes_none c many) (commit_leaves_journal c many)
+commit_frees disk old c told new many = search (rules, frees_none, commit_removes_none, commit_leaves_journal)
 
 -- ---- the disk, where it broke the call off
 
@@ -72,14 +71,11 @@ if_both true c d one two = one
 if_both false c d one two = two
 
 pub broken_begins : (c : Call) (why : Refusal) → is_broken_off why ≡ true → may_have_begun c why ≡ true
-broken_begins c why off = if_both (reads_sound c) (may_begin why) (is_broken_off why)
-    (if_so (is_cut_off why) (is_broken_off why) off) off
+broken_begins c why off = search (rules, if_both, if_so)
 
 pub cut_begins : (c : Call) (why : Refusal) → reads_sound c ≡ true → is_cut_off why ≡ true
     → may_have_begun c why ≡ true
-cut_begins c why reads cut =
-    ap (λ (b : Bool). if b then may_begin why else is_broken_off why) reads
-    ∙ ap (λ (b : Bool). if b then true else is_broken_off why) cut
+cut_begins c why reads cut = search rules
 
 -- a call that reads a sound names it
 pub names_sound : (c : Call) → reads_sound c ≡ true → IsSome (name_in c)

@@ -28,8 +28,7 @@ module _ {D : Type 0} (disk : Ghosts D) (s : Core D) (c : Call) where
   pub idle_sees : {A : Type 0} (reply : List A → Reply) (out : List A) → Fewer disk s.store → (why : Refusal)
       → IsUndamaged why → IsNoWant why → Took disk s (quietly c (Err why)) s
       → Sees disk s (seen c reply out (Err why)) s
-  idle_sees reply out fewer why fine enough took =
-      record { looks = idle_looks fewer why fine took; count = tt; memory = enough }
+  idle_sees reply out fewer why fine enough took = search (rules, idle_looks)
 
   module _ (store : D) (kept : Kept disk s.store store) (cache : Entries) where
     pub read_looks : (r : Reply) → Took disk s (quietly c (Ok r)) (record s { store = store; cache = cache })

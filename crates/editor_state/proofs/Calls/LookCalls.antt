@@ -48,8 +48,7 @@ module _ {D : Type 0} (disk : Ghosts D) (s : Core D) (is : IsStudio disk s) (sto
       (d.files id least most))
 
   pub looked_studio : IsStudio disk looked
-  looked_studio =
-      studio_with disk s is store cache s.counts s.stopped is.counted is.given (pages_by_reads disk s is cache keeps)
+  looked_studio = search (rules, studio_with, pages_by_reads)
 
   pub looked_held : IsHeld disk s → IsHeld disk looked
   looked_held held = record {

@@ -1,4 +1,4 @@
--- The studio names other blocks, and nothing is asked of the disk.
+-- The studio names other blocks, and does not use the disk.
 use Rattle.editor_state.proofs.Common.{◌≡◌, ◌↔◌, inl, refl, ℕ, ◌^◌, ◌≤◌, IsSome, List, ◌++◌, length, Option, Ok, arith}
 use Rattle.editor_state.proofs.Common.{AllByRecursion, Reply, BlockRef, Call, CarriesOut, Ghosts, Fewer, changed_none}
 use Rattle.editor_state.proofs.Common.{IsWhole, Counts, Item, IsValidPoint, IsGiven, PinsRise, MayPaste, IsHeld}

@@ -1,7 +1,6 @@
 -- What a call leaves of other files, by what each of its parts leaves.
-use Rattle.editor_state.proofs.Common.{rules, inl, refl, sym, ◌∙◌, subst, ℕ, ◌+◌, ◌^◌, ◌≤◌, ◌<◌, IsSome, arith, Call}
-use Rattle.editor_state.proofs.Common.{Line, Reclaim, Files, SameElsewhere, Ghosts, LeavesForeign, MayRemove, Core}
-use Rattle.editor_state.proofs.Common.{IsStudio}
+use Rattle.editor_state.proofs.Common.{rules, inl, refl, ℕ, ◌+◌, ◌^◌, ◌≤◌, ◌<◌, Call, Line, Reclaim, Files}
+use Rattle.editor_state.proofs.Common.{SameElsewhere, Ghosts, LeavesForeign, MayRemove, Core, IsStudio}
 use Rattle.std.proofs.lemmas.Bool.{cases_lt}
 use Rattle.editor_state.specs.Left.{LeavesOthers}
 use Rattle.editor_state.specs.{Made.SameOutside}
@@ -30,14 +29,12 @@ others_wider first last low high Goes MayGo d c below above goes step = search r
 -- where more may go
 pub others_more : (first last : ℕ) (MayGo : ℕ → Type 0) (d c : Files) → Leaving first last d c
     → LeavesOthers first last MayGo d c
-others_more first last MayGo d c step =
-    others_wider first last first last NoneGoes MayGo d c (omega arith) (omega arith) (λ file none. absurd none) step
+others_more first last MayGo d c step = search (rules, others_wider)
 
 -- a record of the journal
 pub others_record : (at first last : ℕ) (MayGo : ℕ → Type 0) → at ≤ 1 → (d c : Files) → SameElsewhere at d c
     → LeavesOthers first last MayGo d c
-others_record at first last MayGo few d c same =
-    record { others = λ file other apart. inl (same file (λ e. absurd (omega (arith, e, other, few)))) }
+others_record at first last MayGo few d c same = search (rules, inl)
 
 -- blocks that were made, and that may be
 pub others_made : (first n last : ℕ) (MayGo : ℕ → Type 0) (d c : Files) → first + n ≤ last + 1 → first + n ≤ 2 ^ 62
@@ -50,9 +47,7 @@ others_made first n last MayGo d c few most same = search (rules, cases_lt)
 pub removed_block : {D : Type 0} (disk : Ghosts D) (s : Core D) → IsStudio disk s → (call : Call) (file : ℕ)
     → MayRemove call s.counts file
     → (16 ≤ file) × (file < 2 ^ 62)
-removed_block disk s is (Line (Reclaim limit)) file free =
-    let given = is.given file (subst IsSome (sym free) refl) in
-    (given.0, omega (arith, given.1, is.counters.block_most))
+removed_block disk s is (Line (Reclaim limit)) file free = search (rules, is.given)
 removed_block disk s is call file free = absurd free
 
 pub foreign_left : (first last : ℕ) (MayGo : ℕ → Type 0) (d c : Files) → 16 ≤ first
@@ -61,8 +56,7 @@ pub foreign_left : (first last : ℕ) (MayGo : ℕ → Type 0) (d c : Files) →
 foreign_left first last MayGo d c least goes step = search rules
 
 pub foreign_then : (d e c : Files) → LeavesForeign d e → LeavesForeign e c → LeavesForeign d c
-foreign_then d e c one two =
-    record { foreign = λ file other apart. two.foreign file other apart ∙ one.foreign file other apart }
+foreign_then d e c one two = search (rules, two.foreign, one.foreign)
 
 pub foreign_same : (c : Files) → LeavesForeign c c
 foreign_same c = record { foreign = λ file other apart. refl }
@@ -70,6 +64,4 @@ foreign_same c = record { foreign = λ file other apart. refl }
 -- what a call leaves, said of all files of others
 pub foreign_of : {D : Type 0} (disk : Ghosts D) (s new : Core D) (call : Call) → IsStudio disk s → (d c : Files)
     → LeavesOthers s.next_block new.next_block (MayRemove call s.counts) d c → LeavesForeign d c
-foreign_of disk s new call is d c step =
-    foreign_left s.next_block new.next_block (MayRemove call s.counts) d c is.counters.block_least
-    (removed_block disk s is call) step
+foreign_of disk s new call is d c step = search (rules, foreign_left, removed_block)

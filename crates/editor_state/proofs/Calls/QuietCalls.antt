@@ -131,9 +131,7 @@ module _ {D : Type 0} (disk : Ghosts D) (s : Core D) (c : Call) (quiet : IsQuiet
   -- refused
   pub refused_by : (why : Refusal) → refusal_of (outside t silent) t c 0 0 ≡ Some why → Needed disk s c silent why
       → Took disk s (quietly c (Err why)) s
-  refused_by why first needed =
-      refuses disk s c silent why is fewer (frees_refused disk s c why s none) refl 0 (λ off. omega arith) 0
-      (λ held. quiet.needs t) first needed
+  refused_by why first needed = search (rules, refuses, frees_refused, quiet.needs)
 
   -- it had stopped before
   pub refused_stopped : (faults : ℕ) → stop_test s.stopped c ≡ stop_of s.stopped → s.stopped ≡ Some faults

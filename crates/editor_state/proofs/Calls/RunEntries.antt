@@ -3,7 +3,7 @@ use Rattle.editor_state.proofs.Common.{◌≡◌, ◌⊎◌, inl, inr, ⊎_elim,
 use Rattle.editor_state.proofs.Common.{append_assoc, Result, Ok, Err, Answers, outside, Shape, Look, Compact, View}
 use Rattle.editor_state.proofs.Common.{Cells, Frames, Columns, Tracks, shape_of, Reply, Call, Entry, SoundMove, Refusal}
 use Rattle.editor_state.proofs.Common.{Outside, State, MayAnswer, Files, Ghosts, EachSince, Keeps, Exchange, KeepsOneOf}
-use Rattle.editor_state.proofs.Common.{Took, reply_of, Core, KeepsPrefix, Stops, IsHeld, shown, studio_of}
+use Rattle.editor_state.proofs.Common.{Took, reply_of, Core, KeepsPrefix, Stops, IsHeld, shown, studio_of, rules}
 use Rattle.std.specs.Prelude.{OnErr}
 use Rattle.pcm_base.specs.Run.{Run, Step, result_of}
 use Rattle.pcm_base.specs.Shape.{PurgeTo, Reclaim, Bounce}
@@ -51,9 +51,7 @@ plain_result _ h = refl
 pub step_of : (t u : model.Studio) (c : Call) (sound : SoundMove) (told : Result Reply Refusal) → Answers t c sound told u
     → Step t c sound (reply_of told) u
 step_of t u c sound (Err why) h = h
-step_of t u c sound (Ok r) h =
-    subst (λ (z : Result Reply Refusal). Answers t c sound z u)
-    (sym (plain_result r (plain (outside t sound) t.state c r h.answers))) h
+step_of t u c sound (Ok r) h = search (rules, plain_result, plain)
 
 -- ---- one entry more
 

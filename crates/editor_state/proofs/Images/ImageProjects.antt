@@ -1,10 +1,9 @@
 -- The project that each image keeps.
-use Rattle.editor_state.proofs.Common.{rules, ◌≡◌, ◌⊎◌, inl, inr, ⊎_elim, ap, ◌∙◌, sym, subst, ℕ, ◌≤◌, List, ◌++◌, None}
-use Rattle.editor_state.proofs.Common.{AllByRecursion, BlockRef, History, Sources, Files, SameElsewhere, Ghosts}
-use Rattle.editor_state.proofs.Common.{sources_of, IsWhole, AllWhole, Log, with_bodies, EachNow, EachSince, Track}
-use Rattle.editor_state.proofs.Common.{meant_history, history_blocks, Begins, Saved, LeadIn, Keeps, Core, form_at}
-use Rattle.editor_state.proofs.Common.{IsGiven, SameBlocks, IsDurable, IsHeld, shown, studio_of, named_blocks}
-use Rattle.editor_state.proofs.Common.{pin_blocks, clip_blocks}
+use Rattle.editor_state.proofs.Common.{rules, ◌≡◌, ◌⊎◌, inl, inr, ⊎_elim, subst, ℕ, ◌≤◌, List, None, AllByRecursion}
+use Rattle.editor_state.proofs.Common.{BlockRef, History, Sources, Files, SameElsewhere, Ghosts, sources_of, IsWhole}
+use Rattle.editor_state.proofs.Common.{AllWhole, Log, with_bodies, EachNow, EachSince, Track, meant_history}
+use Rattle.editor_state.proofs.Common.{history_blocks, Begins, Saved, LeadIn, Keeps, Core, form_at, IsGiven, SameBlocks}
+use Rattle.editor_state.proofs.Common.{IsDurable, IsHeld, shown, studio_of, named_blocks}
 use Rattle.disk_model.specs.{Disk.Follows}
 use Rattle.project_journal.specs.Journal.{HasLog, HasOneOf}
 use Rattle.project_journal.specs.{Header.Form, Header.IsForm}
@@ -81,9 +80,7 @@ module _ {D : Type 0} (disk : Ghosts D) (s : Core D) where
   shown_is d = search (rules, history_meant_alike)
 
   pub covers_kept : (d : IsDurable disk s) → Covers (named_blocks s) d.kept.history
-  covers_kept d P all =
-      subst (AllByRecursion P) (sym (ap history_blocks d.history ∙ history_blocks_alike s.history))
-      (all_left P (history_blocks s.history) (pin_blocks s.pins ++ clip_blocks s.clipboard) all)
+  covers_kept d P all = search (rules, history_blocks_alike, all_left)
 
   pub keeps_now : s.file ≤ 1 → s.stopped ≡ None → IsHeld disk s
       → EachNow disk s.store (λ c. Keeps c (shown (studio_of disk s)))

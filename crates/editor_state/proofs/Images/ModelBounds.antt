@@ -1,5 +1,5 @@
 -- What a studio stands for is within the bounds of the model.
-use Rattle.editor_state.proofs.Common.{rules, ◌≡◌, ◌∙◌, ⊎_elim, refl, sym, ap, subst, ℕ, ◌+◌, ◌-◌, ◌^◌, ◌≤◌, ◌<◌, ℤ}
+use Rattle.editor_state.proofs.Common.{rules, ◌≡◌, ◌∙◌, ⊎_elim, refl, sym, ap, subst, ℕ, ◌+◌, ◌^◌, ◌≤◌, ◌<◌, ℤ}
 use Rattle.editor_state.proofs.Common.{if◌then◌else◌, Option, Some, None, List, [], ◌∷◌, ◌++◌, append_assoc, length}
 use Rattle.editor_state.proofs.Common.{map, arith, none-some, same_Some, eqb_tells, All-from_recursion, unwrap_or}
 use Rattle.editor_state.proofs.Common.{AllByRecursion, Project, Sources, Ghosts, AreClips, clip_end, Clip, Item}
@@ -9,7 +9,7 @@ use Rattle.std.proofs.Common.{replicate}
 use Rattle.std.proofs.{lemmas.List.length-map}
 use Rattle.pcm_base.specs.declared.sound.Cell.TheVariants.{Gap, Sample}
 use Rattle.pcm_base.specs.Cells.{trimmed}
-use Rattle.pcm_base.specs.{declared.sound.Cell.Cell, Blocks.block_samples, History.IsHistory}
+use Rattle.pcm_base.specs.{declared.sound.Cell.Cell, History.IsHistory}
 use Rattle.block_sequence.proofs.Whole.{length-blocks}
 use Rattle.clip_track.specs.Clips.{cells_from}
 use Rattle.clip_track.specs.{Items.strip_len}
@@ -31,8 +31,7 @@ module _ (src : Sources) where
   layout_ends : (at from : ℕ) (cs : List Clip) → AreClips from cs → trimmed (cells_from src at cs) ≡ cells_from src at cs
   layout_ends at from [] clips = refl
   layout_ends at from (c ∷ cs) clips =
-      clip_ends (c.start - at) (block_samples src c.blocks) (cells_from src (clip_end c) cs)
-      (omega (arith, clips.1, length-blocks src c.blocks)) (layout_ends (clip_end c) (clip_end c + 1) cs clips.3)
+      search (rules, clip_ends, length-blocks, layout_ends (clip_end c) (clip_end c + 1) cs clips.3)
 
   -- ---- projects
 
@@ -46,16 +45,7 @@ module _ (src : Sources) where
       → AllByRecursion IsTrack (meant src ts)
   tracks m block next [] valid = tt
   tracks m block next (t ∷ ts) valid =
-      let layout = valid.0.layout in (
-        record {
-          gain = valid.0.gain;
-          cells = record {
-            few = omega (arith, length-layout src t.layout layout.apart, layout.few);
-            ended = layout_ends 0 0 t.layout layout.apart;
-          };
-        },
-        tracks m block next ts valid.1,
-      )
+      search (rules, length-layout, layout_ends, tracks m block next ts valid.1)
 
   project : (m block next : ℕ) (ts : List Track) → IsValidPoint m block next ts → IsProject next (meant src ts)
   project m block next ts point = record {
@@ -68,8 +58,7 @@ module _ (src : Sources) where
       → AllByRecursion (IsValidTagged m block next commit) ps
       → AllByRecursion (IsPoint next commit) (map (λ p. (meant src p.0, p.1)) ps)
   points m block next commit [] all = tt
-  points m block next commit (p ∷ ps) all =
-      (record { project = project m block next p.0 all.0.0; tag = all.0.1 }, points m block next commit ps all.1)
+  points m block next commit (p ∷ ps) all = search (rules, project, points m block next commit ps all.1)
 
   -- ---- pins and the clipboard
 

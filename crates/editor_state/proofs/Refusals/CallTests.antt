@@ -1,9 +1,8 @@
 -- The tests of a call tell nothing of the disk, and its own tests nothing of a counter.
-use Rattle.editor_state.proofs.Common.{◌≡◌, ℕ, ◌+◌, ◌*◌, ◌==◌, nat_lt, not, Bool, Option, Some, None, List, [], ◌∷◌}
-use Rattle.editor_state.proofs.Common.{length, Result, Ok, Err, rules, ◌otherwise◌, bad_range, call_tests, length_limit}
-use Rattle.editor_state.proofs.Common.{refused_if, Shape, Look, View, Cells, Frames, Columns, Tracks, shape_of, Call}
-use Rattle.editor_state.proofs.Common.{Refusal, Outside, refusal_of, stop_of, stop_test, State, Outgrows, Core}
-use Rattle.editor_state.proofs.Common.{NotPrepared}
+use Rattle.editor_state.proofs.Common.{◌≡◌, ℕ, ◌+◌, ◌==◌, nat_lt, not, Bool, Option, Some, None, List, length, Result}
+use Rattle.editor_state.proofs.Common.{Ok, Err, rules, ◌otherwise◌, bad_range, call_tests, length_limit, refused_if}
+use Rattle.editor_state.proofs.Common.{Shape, Look, View, Cells, Frames, Columns, Tracks, shape_of, Call, Refusal}
+use Rattle.editor_state.proofs.Common.{Outside, refusal_of, stop_of, stop_test, State, Outgrows, Core, NotPrepared}
 use Rattle.std.specs.Prelude.{◌&&◌, nat_le, is_none}
 use Rattle.pcm_base.specs.declared.limits.TheConstants.{MAX_TRACKS, MAX_VIEW}
 use Rattle.pcm_base.specs.Refusals.{channel_tests, file_tests, import_tests, insert_tests, is_empty, no_pin, no_track}
@@ -11,8 +10,8 @@ use Rattle.pcm_base.specs.Refusals.{paste_tests, placed_length, range_tests, run
 use Rattle.pcm_base.specs.Refusals.{track_limit, view_tests}
 use Rattle.pcm_base.specs.Shape.{NewTrack, DropTrack, SetTrack, PutIn, EditRange, CutRun, CopyRun, PasteRun, MoveTo}
 use Rattle.pcm_base.specs.Shape.{Purge, Import, Export, Back, Forward}
-use Rattle.pcm_base.specs.{declared.wav.WavFault.WavFault, Cells.cells_at, Cells.tracks_from, Edits.source_count}
-use Rattle.pcm_base.specs.{Mix.mix_length, State.current, Wave.Sound, Wave.wav_of}
+use Rattle.pcm_base.specs.{declared.wav.WavFault.WavFault, Cells.tracks_from, Edits.source_count, State.current}
+use Rattle.pcm_base.specs.{Wave.Sound, Wave.wav_of}
 use Rattle.editor_state.proofs.Refusals.RefusalEffects.{IsOwn, IsPlain, own_plain}
 use Rattle.pcm_base.specs.declared.command.Call.TheVariants as call
 use Rattle.pcm_base.specs.declared.refusal.Refusal.TheVariants as refusal
@@ -80,8 +79,7 @@ imports rate s (Some bytes) = file rate s (wav_of bytes)
 -- ---- each call
 
 views : (s : State) (view : View) → IsOwnTest (view_tests s view)
-views s (Cells id from to) =
-    either (no_track s id) (bad_range from to (from + MAX_VIEW)) (track s id) (range from to (from + MAX_VIEW))
+views s (Cells id from to) = search (rules, either, track, range)
 views s (Frames from to) = range from to (from + MAX_VIEW)
 views s (Columns id from to columns) = search (rules, either, ranges, one)
 views s Tracks = tt
@@ -100,15 +98,12 @@ line out s (MoveTo Forward) = one (s.history.cursor + 1 == length s.history.poin
 line out s (Purge n) = range 0 n s.history.cursor
 line out s (Look view) = views s view
 line out s (Import name) = imports out.rate s out.sound
-line out s (Export name) =
-    one (nat_lt 4294967295 (36 + 4 * mix_length (current s))) (refusal.TooLong (mix_length (current s))) tt
+line out s (Export name) = search (rules, one)
 line out s _ = tt
 
 pub own : (out : Outside) (s : State) (c : Call) → IsOwnTest (call_tests out s c)
 own out s (call.Line c) = line out s (shape_of c)
-own out s (call.Piece id tag samples) =
-    let lens = (length (cells_at id (current s)) + length samples) ∷ [] in
-    either (no_track s id) (length_limit lens) (track s id) (lengths lens)
+own out s (call.Piece id tag samples) = search (rules, either, track, lengths)
 own out s call.Pin = tt
 own out s (call.PinLen id) = pin s id
 own out s (call.ReadPin id from count) = pin s id

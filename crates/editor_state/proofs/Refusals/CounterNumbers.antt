@@ -50,8 +50,7 @@ module _ {D : Type 0} (disk : Ghosts D) (s : Core D) (c : Call) (sound : SoundMo
 
   pub early_needed : (why : Refusal) → (stop_of s.stopped) otherwise (call_tests out t.state c) ≡ Some why
       → Needed disk s c sound why
-  early_needed why h = ⊎_elim (stop_needed why) (tests_needed why)
-      (either_of (stop_of s.stopped) (call_tests out t.state c) why h)
+  early_needed why h = search (rules, stop_needed, tests_needed, either_of)
 
   -- ---- one of the numbers is spent
 
@@ -59,9 +58,7 @@ module _ {D : Type 0} (disk : Ghosts D) (s : Core D) (c : Call) (sound : SoundMo
       → (IsSpent have need (refusal.SpaceSpent have need)
       → IsNumberSpent disk s c sound (refusal.SpaceSpent have need))
       → Needed disk s c sound why
-  number_needed have need why h by =
-      let is = room_is have need why h in
-      subst (Needed disk s c sound) (sym is) (inl (by (h ∙ ap Some is)))
+  number_needed have need why h by = search (rules, room_is, inl)
 
   module _ (tracks : ℕ) {more : ℕ} (call : IsCommitCall c sound tracks more) where
     numbers_needed : (why : Refusal)

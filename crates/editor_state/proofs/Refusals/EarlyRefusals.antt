@@ -1,10 +1,10 @@
 -- A call that is refused before the disk is asked, and what a record asks of it.
-use Rattle.editor_state.proofs.Common.{◌≡◌, inl, inr, refl, sym, ℕ, suc, ◌+◌, ◌≤◌, List, [], Option, Some, None, IsSome}
-use Rattle.editor_state.proofs.Common.{Err, true, arith, true≢false, none-some, AllByRecursion, BlockRef, Call}
-use Rattle.editor_state.proofs.Common.{SoundMove, Refusal, LONGEST_BODY, Needs, commits_of, places_of, Answers, outside}
-use Rattle.editor_state.proofs.Common.{refusal_of, Ghosts, Fewer, changed_none, kept_none, AllWhole, EachNow, IsGiven}
-use Rattle.editor_state.proofs.Common.{IsHeld, IsStudio, SameBlocks, studio_of, Core, may_begin, MayRemove, Purges}
-use Rattle.editor_state.proofs.Common.{Frees, Needed, Exchange, Took, asks, with_sound}
+use Rattle.editor_state.proofs.Common.{◌≡◌, inl, inr, refl, sym, ℕ, suc, ◌≤◌, List, [], Option, Some, None, IsSome, Err}
+use Rattle.editor_state.proofs.Common.{true, true≢false, none-some, AllByRecursion, BlockRef, Call, SoundMove, Refusal}
+use Rattle.editor_state.proofs.Common.{LONGEST_BODY, Needs, commits_of, Answers, outside, refusal_of, Ghosts, Fewer}
+use Rattle.editor_state.proofs.Common.{changed_none, kept_none, AllWhole, EachNow, IsGiven, IsHeld, IsStudio}
+use Rattle.editor_state.proofs.Common.{SameBlocks, studio_of, Core, may_begin, MayRemove, Purges, Frees, Needed}
+use Rattle.editor_state.proofs.Common.{Exchange, Took, asks, with_sound, rules}
 use Rattle.disk_model.specs.{Room.IsWithin}
 use Rattle.project_journal.specs.{Rooms.append_room}
 use Rattle.editor_state.proofs.Refusals.RefusalEffects.{IsPlain, left_plain}
@@ -25,9 +25,7 @@ stopped_not (Some n) some none = some_none n none
 pub record_within : {more : ℕ} (exchange : Exchange) (journal : Option (List ℕ)) (m blocks len packed : ℕ)
     → commits_of exchange.call ≡ suc more
     → IsWithin (append_room journal len) (asks exchange journal m blocks len packed)
-record_within exchange journal m blocks len packed many =
-    let places : places_of exchange.call len ≡ 6 + len = commit_places exchange.call len many in
-    record { files = omega arith; bytes = omega (arith, places); calls = omega arith }
+record_within exchange journal m blocks len packed many = search (rules, commit_places)
 
 -- Blocks that were made for a commit: where `Has`, each is on the disk, in each image.
 pub record HasMade {D : Type 0} (Has : Type 0) (disk : Ghosts D) (s : Core D) (made : List BlockRef) : Type 0 where

@@ -35,7 +35,7 @@ begun_range : (why : Refusal) → is_broken_off why ≡ true → IsNoRange why
 begun_range refusal.BadRange off = absurd (true≢false (sym off))
 begun_range why off = tt
 
--- ---- what is said of the points
+-- ---- the points
 
 module _ (h : History (List Track)) where
   -- a refusal of no range says nothing
@@ -50,8 +50,7 @@ module _ (h : History (List Track)) where
   -- a test refused the call
   pub tested_purges : (out : Outside) (t : model.Studio) (c : Call) (blocks len : ℕ) (why : Refusal)
       → refusal_of out t c blocks len ≡ Some why → Purges h c (Err why)
-  tested_purges out t (Line (PurgeTo bytes)) blocks len why first =
-      other_to bytes why (tests.told IsNoRange _ why (sized out t bytes blocks len) first)
+  tested_purges out t (Line (PurgeTo bytes)) blocks len why first = search (rules, other_to, sized)
   tested_purges out t c blocks len why first = tt
 
   -- a device did

@@ -3,7 +3,7 @@ use Rattle.editor_state.proofs.Common.{inr, refl, Refusal, Ghosts, Core, IsSoOf,
 use Rattle.editor_state.specs.{Adding.HasFailed, Adding.stopped_by}
 use Rattle.pcm_base.specs.declared.refusal.Refusal.TheVariants as refusal
 
--- nothing is told of the disk
+-- it says nothing of the disk
 abbrev pub IsPlain : Refusal → Type 0
 IsPlain refusal.DiskFault = ⊥
 IsPlain (refusal.Damaged file at want have) = ⊥

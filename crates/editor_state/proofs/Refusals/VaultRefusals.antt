@@ -1,6 +1,6 @@
 -- No vault refuses what is prepared for an edit that makes blocks, nor its records.
-use Rattle.editor_state.proofs.Common.{◌≡◌, refl, sym, subst, ℕ, false, List, Result, Ok, Err, IfErr, Refusal, Ghosts}
-use Rattle.editor_state.proofs.Common.{Outgrows, Core, NotPrepared, may_begin}
+use Rattle.editor_state.proofs.Common.{◌≡◌, refl, ℕ, false, List, Result, Ok, Err, IfErr, Refusal, Ghosts, Outgrows}
+use Rattle.editor_state.proofs.Common.{Core, NotPrepared, may_begin, rules}
 use Rattle.block_writer.specs.Brought.{Brought}
 use Rattle.editor_state.specs.{Adding.Adds, Vaults.IsInside, Vaults.IsInsideOr, Makes.RefusedBrought}
 use Rattle.editor_state.specs.{Makes.RefusedBroughtBy}
@@ -50,13 +50,11 @@ pub adds_inside : {D R : Type 0} (disk : Ghosts D) (old new : Core D) (bodies : 
     (b : Brought) (result : Result R Refusal) → Adds disk old bodies count whole result new
     → IfErr result (IsInsideOr b)
 adds_inside disk old new bodies count whole b (Ok done) adds = tt
-adds_inside disk old new bodies count whole b (Err why) adds =
-    inside_or b why (adds_asks disk old new bodies count whole why adds)
+adds_inside disk old new bodies count whole b (Err why) adds = search (rules, inside_or, adds_asks)
 
 pub adds_counted : {D R : Type 0} (disk : Ghosts D) (old new : Core D) (bodies : List (List ℕ)) (count whole : ℕ)
     (result : Result R Refusal) (before after : ℕ) → Adds disk old bodies count whole result new → after ≡ before
     → RefusedBrought result before after
 adds_counted disk old new bodies count whole (Ok done) before after adds same = same
 adds_counted disk old new bodies count whole (Err why) before after adds same =
-    subst (λ (n : ℕ). RefusedBroughtBy why before n) (sym same)
-    (inside_counted why before (adds_asks disk old new bodies count whole why adds))
+    search (rules, inside_counted, adds_asks)

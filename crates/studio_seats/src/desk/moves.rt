@@ -87,7 +87,7 @@ impl<S: Store, V: Vault> Desk<S, V> {
         )
     }
 
-    /// Forgets the oldest points, as many as are asked for, and answers the commit number. It takes no memory.
+    /// Forgets the `count` oldest points, and answers the commit number. It takes no memory.
     ///
     /// # Errors
     ///
@@ -119,8 +119,8 @@ impl<S: Store, V: Vault> Desk<S, V> {
         )
     }
 
-    /// Forgets so many of the oldest points that the block files of the others have at most this many bytes, and answers
-    /// how many.
+    /// Forgets the oldest points until the block files of the others have at most this many bytes, and answers how many
+    /// points went.
     ///
     /// # Errors
     ///

@@ -1,7 +1,7 @@
 -- One block after another.
-use Rattle.editor_recovery.proofs.Common.{List, take, subst, arith, BlockRef, core_of}
+use Rattle.editor_recovery.proofs.Common.{take, arith, core_of}
 use Rattle.std.proofs.{lemmas.List.take_all}
-use Rattle.editor_recovery.proofs.Checked.{SoFar, far_all, far_ends, far_more, far_named, far_none, far_studio}
+use Rattle.editor_recovery.proofs.Checked.{far_all, far_ends, far_more, far_named, far_none, far_studio}
 use Rattle.editor_recovery.proofs.checking.scan_all.Goals as goal
 
 pub loop-i-init : goal.loop-i-init
@@ -36,6 +36,5 @@ pub returns : goal.returns
 returns g c =
     let old = core_of c.args.studio.now in
     let now = core_of c.loop-i.studio in
-    let all = take_all c.loop-i.i c.args.blocks.now (omega (arith, c.loop-i-test.false)) in
     far_all g.S.Store old c.requires.studio c.requires.going c.args.blocks.now now
-    (subst (λ (bs : List BlockRef). SoFar g.S.Store old bs now) all c.loop-i.invariant) tt
+    (rw (take_all c.loop-i.i c.args.blocks.now (omega (arith, c.loop-i-test.false))) at c.loop-i.invariant) tt

@@ -1,6 +1,5 @@
 -- A look at one file, and then at the other.
-use Rattle.editor_recovery.proofs.Common.{◌∙◌, Bool, sym, subst, ◌↔◌, IsTrue, Files, bytes_of, kept_turn, IsProject}
-use Rattle.editor_recovery.proofs.Common.{HasSome}
+use Rattle.editor_recovery.proofs.Common.{◌∙◌, kept_turn}
 use Rattle.editor_recovery.proofs.Alone.{either_there}
 use Rattle.editor_recovery.proofs.creating.is_there.Goals as goal
 
@@ -8,10 +7,9 @@ pub returns-clause-there : goal.returns-clause-there
 returns-clause-there g c = λ tells.
     let files = g.S.Store.reads c.args.store.now in
     let kept = c.in_ok-first.ensures.kept in
-    subst (λ (b : Bool). IsTrue b ↔ HasSome files) (sym c.one_of.ensures)
+    rw c.one_of.ensures
     (either_there files c.in_ok-first.first c.in_ok-second.second (c.in_ok-first.ensures.there tells)
-    (subst (λ (f : Files). IsTrue c.in_ok-second.second ↔ IsProject (bytes_of (f 1))) kept.same_reads
-    (c.in_ok-second.ensures.there (kept.same_tells ∙ tells))))
+    (rw kept.same_reads at (c.in_ok-second.ensures.there (kept.same_tells ∙ tells))))
 
 pub returns-clause-kept : goal.returns-clause-kept
 returns-clause-kept g c = kept_turn c.in_ok-first.ensures.kept c.in_ok-second.ensures.kept

@@ -1,5 +1,5 @@
 -- A look, and then a listing.
-use Rattle.editor_recovery.proofs.Common.{◌∙◌, subst, Files, kept_turn, HasNoForeign}
+use Rattle.editor_recovery.proofs.Common.{◌∙◌, kept_turn}
 use Rattle.editor_recovery.proofs.{Alone.none_false, Counted.causes_turn, Created.none_there}
 use Rattle.editor_recovery.proofs.creating.may_create.Goals as goal
 
@@ -16,5 +16,4 @@ returns-in-Ok-false-clause-answer g c = λ tells.
     none_there (g.S.Store.reads c.args.store.now) c.list_none.result
     (none_false (g.S.Store.reads c.args.store.now) c.in-Ok-false.field-0 c.in-Ok-false.field-0-test
     (c.in-Ok-false.ensures.there tells))
-    (subst (λ (f : Files). HasNoForeign f c.list_none.result) kept.same_reads
-    (c.list_none.ensures.lists (kept.same_tells ∙ tells)))
+    (rw kept.same_reads at (c.list_none.ensures.lists (kept.same_tells ∙ tells)))

@@ -1,7 +1,5 @@
 -- The fold of the journal, and then the sizes and the parts.
-use Rattle.editor_recovery.proofs.Common.{◌∙◌, List, ℕ, sym, subst, Files, kept_turn, reader_form, answer_in, AreFiles}
-use Rattle.editor_recovery.proofs.Common.{Opens}
-use Rattle.editor_recovery.specs.{Reading.IsRead}
+use Rattle.editor_recovery.proofs.Common.{◌∙◌, kept_turn, reader_form, AreFiles}
 use Rattle.editor_recovery.proofs.{Counted.causes_turn, Opens.not_folded, Opens.stored_read, Resting.rest_after}
 use Rattle.editor_recovery.proofs.{Resting.still_durable}
 use Rattle.editor_recovery.proofs.finding.find_parts.Goals as goal
@@ -14,12 +12,10 @@ returns-in-Ok-clause-opens g c = λ tells are foreign opened.
     let told = kept.same_tells ∙ tells in
     let form = reader_form c.args.disk.reader in
     let fold = c.in-Ok.ensures.folds in
-    let listed = subst (λ (l : List ℕ). AreFiles old l) (sym c.deref.ensures.value) are in
+    let listed : AreFiles old c.deref.result.now = rw c.deref.ensures.value are in
     let is = stored_read g.S.Store mid old form fold.0 c.deref.result.now kept.same_reads told fold.1 opened.picked listed
     foreign in
-    subst (λ (f : Files). Opens f (answer_in c.size_parts.result)) kept.same_reads
-    (c.size_parts.ensures.opens form fold.0 told
-    (subst (λ (f : Files). IsRead f form fold.0 c.deref.result.now) (sym kept.same_reads) is) fold.2)
+    rw kept.same_reads at (c.size_parts.ensures.opens form fold.0 told (rw kept.same_reads is) fold.2)
 
 pub returns-in-Ok-clause-at_rest : goal.returns-in-Ok-clause-at_rest
 returns-in-Ok-clause-at_rest g c = λ tells here other opened.

@@ -1,5 +1,5 @@
 -- What the fold says of the journal, told of the disk.
-use Rattle.editor_recovery.proofs.Common.{Ok, ap, subst, ℕ, Form, Base, Project, Folded, FoldsDisk}
+use Rattle.editor_recovery.proofs.Common.{ap, ℕ, Base, Project, Folded}
 use Rattle.editor_recovery.proofs.Folding.{folds, folded_valid, later_form, unfolded_as}
 use Rattle.editor_recovery.proofs.finding.fold_disk.Goals as goal
 
@@ -20,8 +20,7 @@ returns-in-Ok-clause-folds g c =
     let r = c.fold_journal.new.reader in
     let f : Folded = folded c.rate.result c.block_size.result c.file.result c.version_in.result
     c.base.result.generation c.end.result c.in-Ok.project in
-    subst (λ (form : Form). FoldsDisk g.S.Store c.fold_journal.new.store form (Ok f))
-    (later_form c.args.reader r c.in-Ok.ensures.later)
+    rw (later_form c.args.reader r c.in-Ok.ensures.later) at
     (folds g.S.Store c.fold_journal.new.store r f c.in-Ok.ensures.folds c.rate.ensures c.block_size.ensures c.end.ensures
     c.file.ensures c.version_in.ensures (ap (λ (b : Base). b.generation) c.base.ensures))
 

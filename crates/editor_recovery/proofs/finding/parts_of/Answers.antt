@@ -1,7 +1,7 @@
 -- The history names no more blocks than can be counted.
-use Rattle.editor_recovery.proofs.Common.{◌≤◌, ◌<◌, ◌^◌, ℕ, List, length, arith, recursion_from_All, Contains, BlockRef}
-use Rattle.editor_recovery.proofs.Common.{History, Track, history_blocks, history_tracks, times_named, IsValidTagged}
-use Rattle.editor_recovery.proofs.Common.{Folded, IsValidFolded}
+use Rattle.editor_recovery.proofs.Common.{◌≤◌, ◌<◌, ◌^◌, ℕ, List, length, arith, recursion_from_All, Contains}
+use Rattle.editor_recovery.proofs.Common.{BlockRef, History, Track, history_blocks, history_tracks, times_named}
+use Rattle.editor_recovery.proofs.Common.{IsValidTagged, Folded, IsValidFolded}
 use Rattle.editor_recovery.proofs.{Ledgers.counts_fit, Plain.valid_back, Points.all_flat}
 use Rattle.editor_recovery.proofs.finding.parts_of.Goals as goal
 

@@ -19,12 +19,12 @@ test_files-requires-clause-numbered g c = c.requires.valid.numbers.numbered
 
 pub returns-in-Ok-clause-opens : goal.returns-in-Ok-clause-opens
 returns-in-Ok-clause-opens g c = λ form j tells is fold.
-    parts_result (g.S.Store.reads c.args.store.now) form j c.args.files.now c.args.folded c.parts_of.result is fold
+    parts_result (g.S.Store.reads c.args.store.now) form j c.args.files.now c.args.folded is fold c.parts_of.result
     c.requires.valid (c.in-Ok.ensures.tests tells is.listed) c.parts_of.ensures.parts c.parts_of.ensures.memory
 
 pub returns-in-Err-clause-opens : goal.returns-in-Err-clause-opens
 returns-in-Err-clause-opens g c = λ form j tells is fold.
-    unsized (g.S.Store.reads c.args.store.now) form j c.args.files.now c.args.folded c.in-Err.fault is fold
+    unsized (g.S.Store.reads c.args.store.now) form j c.args.files.now c.args.folded is fold c.in-Err.fault
     (c.in-Err.ensures.tests tells is.listed)
 
 pub returns-in-Ok-clause-valid : goal.returns-in-Ok-clause-valid

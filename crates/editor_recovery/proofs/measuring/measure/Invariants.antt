@@ -1,6 +1,6 @@
 -- The files so far are measured, and nothing else.
 use Rattle.editor_recovery.proofs.Common.{◌≡◌, ℕ, ◌<◌, get_or, Contains, IsTrue, Kept, NoFault, size_in, file_size}
-use Rattle.std.specs.Prelude.{◌⊎◌}
+use Rattle.editor_recovery.proofs.Common.{◌⊎◌}
 use Rattle.editor_recovery.proofs.measuring.measure.Given as goal
 
 abbrev pub invariant-loop-i : goal.invariant-loop-i

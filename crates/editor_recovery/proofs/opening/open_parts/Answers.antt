@@ -1,24 +1,19 @@
 -- The journal's header and the files, and then what they amount to.
-use Rattle.editor_recovery.proofs.Common.{◌∙◌, ◌≤◌, sym, subst, IfOk, Files, Log, HasLog, IsAt, Form, IsForm, IsOpened}
-use Rattle.editor_recovery.proofs.Common.{NoForeign, answer_in, AreFiles, Opens}
+use Rattle.editor_recovery.proofs.Common.{◌∙◌}
 use Rattle.editor_recovery.proofs.{Counted.causes_turn, Resting.changed_after, Resting.durable_after}
 use Rattle.editor_recovery.proofs.opening.open_parts.Goals as goal
 
 pub returns-in-Ok-clause-opens : goal.returns-in-Ok-clause-opens
 returns-in-Ok-clause-opens g c = λ tells.
     let read = c.in-Ok.ensures.reads tells in
-    subst (λ (f : Files). AreFiles f c.in-Ok.disk.files.items → NoForeign f
-    → IsOpened f c.in-Ok.disk.reader → Opens f (answer_in c.find_parts.result)) c.read_disk.ensures.reads_same
-    (c.find_parts.ensures.opens (c.read_disk.ensures.changed.tells ∙ tells)) read.1 read.2 read.0
+    (rw c.read_disk.ensures.reads_same at
+    (c.find_parts.ensures.opens (c.read_disk.ensures.changed.tells ∙ tells))) read.1 read.2 read.0
 
 pub returns-in-Ok-clause-at_rest : goal.returns-in-Ok-clause-at_rest
 returns-in-Ok-clause-at_rest g c = λ tells.
     let same = c.read_disk.ensures.reads_same in
-    subst (λ (f : Files). IfOk c.find_parts.result (λ p. (form : Form) (log : Log) → IsForm form → form.file ≤ 1
-    → HasLog form log f → IsAt form g.S.Store c.find_parts.new.store p.journal_end log)) same
-    (c.find_parts.ensures.at_rest (c.read_disk.ensures.changed.tells ∙ tells) c.in-Ok.ensures.durable
-    c.in-Ok.ensures.other
-    (subst (λ (f : Files). IsOpened f c.in-Ok.disk.reader) (sym same) (c.in-Ok.ensures.reads tells).0))
+    rw same at (c.find_parts.ensures.at_rest (c.read_disk.ensures.changed.tells ∙ tells) c.in-Ok.ensures.durable
+    c.in-Ok.ensures.other (rw same (c.in-Ok.ensures.reads tells).0))
 
 pub returns-in-Ok-clause-durable : goal.returns-in-Ok-clause-durable
 returns-in-Ok-clause-durable g c = durable_after c.read_disk.new.store c.find_parts.new.store 0 c.find_parts.result

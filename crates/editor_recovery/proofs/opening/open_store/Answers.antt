@@ -1,8 +1,8 @@
 -- A studio of what was found, and what an honest disk has of it.
-use Rattle.editor_recovery.proofs.Common.{◌≤◌, Ok, Err, sym, ap, subst, ◌∙◌, StaysStep, Changed, Log, HasLog, IsAt}
+use Rattle.editor_recovery.proofs.Common.{◌≤◌, Ok, Err, subst, Log, HasLog, IsAt}
 use Rattle.editor_recovery.proofs.Common.{EachNow, IsDurable, Form, IsForm, each_has, Keeps, history_blocks, assembled}
-use Rattle.editor_recovery.proofs.Common.{HaveOneLength, shown, studio_of, IsHonest, OpensHonest, Causes, IsNew}
-use Rattle.editor_recovery.proofs.Common.{found_in, Opens, answer_of}
+use Rattle.editor_recovery.proofs.Common.{HaveOneLength, shown, studio_of, OpensHonest, Causes, IsNew}
+use Rattle.editor_recovery.proofs.Common.{found_in, Opens}
 use Rattle.editor_recovery.specs.Honest.{FindsSaved}
 use Rattle.editor_recovery.proofs.Assembled.{answers, each, new_studio, same_store, shows_found}
 use Rattle.editor_recovery.proofs.{Created.still_honest, Honest.found_saved, Honest.has_parts}
@@ -47,8 +47,7 @@ returns-in-Ok-clause-honest g c = λ honest.
     let store = c.open_parts.new.store in
     let r = c.make_studio.result in
     let stays = g.met.S.Store.may_stay old honest.model in
-    subst (λ (back : g.row.S.Denot). OpensHonest g.S.Store old back (answer_of r))
-    (sym (same_store store c.in-Ok.parts r c.make_studio.ensures.fields c.make_studio.ensures.refused))
+    rw (same_store store c.in-Ok.parts r c.make_studio.ensures.fields c.make_studio.ensures.refused)
     (answers store c.in-Ok.parts (OpensHonest g.S.Store old store) r c.make_studio.ensures.fields
     c.make_studio.ensures.refused
     (found_saved g.S.Store old store honest stays.1 c.open_parts.ensures.changed.images (Ok (found_in c.in-Ok.parts))
@@ -85,9 +84,8 @@ returns-in-Ok-clause-keeps g c = λ honest.
 
 pub returns-in-Ok-clause-stays_honest : goal.returns-in-Ok-clause-stays_honest
 returns-in-Ok-clause-stays_honest g c = λ honest.
-    subst (λ (back : g.row.S.Denot). IsHonest g.S.Store back)
-    (sym (same_store c.open_parts.new.store c.in-Ok.parts c.make_studio.result c.make_studio.ensures.fields
-    c.make_studio.ensures.refused))
+    rw (same_store c.open_parts.new.store c.in-Ok.parts c.make_studio.result c.make_studio.ensures.fields
+    c.make_studio.ensures.refused)
     (still_honest g.S.Store c.args.store c.open_parts.new.store c.open_parts.ensures.changed.images
     c.open_parts.ensures.changed.model honest)
 
@@ -96,26 +94,19 @@ returns-in-Ok-clause-cause g c =
     let old = c.args.store in
     let store = c.open_parts.new.store in
     let r = c.make_studio.result in
-    subst (λ (back : g.row.S.Denot). Causes g.S.Store old back (answer_of r))
-    (sym (same_store store c.in-Ok.parts r c.make_studio.ensures.fields c.make_studio.ensures.refused))
+    rw (same_store store c.in-Ok.parts r c.make_studio.ensures.fields c.make_studio.ensures.refused)
     (answers store c.in-Ok.parts (Causes g.S.Store old store) r c.make_studio.ensures.fields
-    c.make_studio.ensures.refused
-    c.in-Ok.ensures.cause c.in-Ok.ensures.cause)
+    c.make_studio.ensures.refused c.in-Ok.ensures.cause c.in-Ok.ensures.cause)
 
 pub returns-in-Ok-clause-reads : goal.returns-in-Ok-clause-reads
 returns-in-Ok-clause-reads g c =
-    ap (λ (back : g.row.S.Denot). g.S.Store.reads back)
-    (same_store c.open_parts.new.store c.in-Ok.parts c.make_studio.result c.make_studio.ensures.fields
-    c.make_studio.ensures.refused)
-    ∙ c.open_parts.ensures.reads
+    rw (same_store c.open_parts.new.store c.in-Ok.parts c.make_studio.result c.make_studio.ensures.fields
+    c.make_studio.ensures.refused) c.open_parts.ensures.reads
 
 pub returns-in-Ok-clause-changed : goal.returns-in-Ok-clause-changed
 returns-in-Ok-clause-changed g c =
-    subst (λ (back : g.row.S.Denot). Changed g.S.Store StaysStep (record { files = 0; bytes = 0; calls = 2 })
-    c.args.store back)
-    (sym (same_store c.open_parts.new.store c.in-Ok.parts c.make_studio.result c.make_studio.ensures.fields
-    c.make_studio.ensures.refused))
-    c.open_parts.ensures.changed
+    rw (same_store c.open_parts.new.store c.in-Ok.parts c.make_studio.result c.make_studio.ensures.fields
+    c.make_studio.ensures.refused) c.open_parts.ensures.changed
 
 pub returns-in-Err-clause-honest : goal.returns-in-Err-clause-honest
 returns-in-Err-clause-honest g c = λ honest.

@@ -1,7 +1,7 @@
 -- One clip more is searched.
-use Rattle.editor_recovery.proofs.Common.{◌+◌, List, Option, refl, drop, sym, ap, subst, ◌∙◌, All-from_recursion}
-use Rattle.editor_recovery.proofs.Common.{recursion_from_All, All, BlockRef, Clip, layout_blocks, IsBlockRef, drop_some}
-use Rattle.editor_recovery.proofs.Common.{size_in, first_wrong}
+use Rattle.editor_recovery.proofs.Common.{◌+◌, List, Option, refl, drop, sym, ap, ◌∙◌, All-from_recursion}
+use Rattle.editor_recovery.proofs.Common.{recursion_from_All, BlockRef, Clip, layout_blocks, IsBlockRef}
+use Rattle.editor_recovery.proofs.Common.{drop_some, size_in, first_wrong}
 use Rattle.std.proofs.lemmas.Option.{slice_get_read}
 use Rattle.editor_recovery.proofs.{Searched.clip_part, Wrong.wrong_append}
 use Rattle.editor_recovery.proofs.sizes.wrong_clips.Goals as goal
@@ -11,8 +11,7 @@ wrong_among-found-requires c =
     let cs = c.args.clips.now in
     let clip = c.clip-item.result in
     let here = slice_get_read cs _ c.loop-clip.clip-index clip refl c.loop-clip-test.true c.clip-item.is in
-    subst (λ (bs : List BlockRef). All IsBlockRef bs) (sym c.as_slice.ensures.value)
-    (All-from_recursion IsBlockRef clip.blocks
+    rw c.as_slice.ensures.value (All-from_recursion IsBlockRef clip.blocks
     (clip_part IsBlockRef cs c.loop-clip.clip-index clip here
     (recursion_from_All IsBlockRef (layout_blocks cs) c.requires)))
 

@@ -1,7 +1,7 @@
 -- One track more is searched.
-use Rattle.editor_recovery.proofs.Common.{◌+◌, List, Option, refl, drop, sym, ap, subst, ◌∙◌, All-from_recursion}
+use Rattle.editor_recovery.proofs.Common.{◌+◌, List, Option, refl, drop, sym, ap, ◌∙◌, All-from_recursion}
 use Rattle.editor_recovery.proofs.Common.{recursion_from_All, BlockRef, layout_blocks, Track, point_blocks, IsBlockRef}
-use Rattle.editor_recovery.proofs.Common.{drop_some, AgreesWith, size_in, AreSearched, first_wrong}
+use Rattle.editor_recovery.proofs.Common.{drop_some, AgreesWith, size_in, first_wrong}
 use Rattle.editor_recovery.proofs.Searched.{still_searched, track_holds, track_part}
 use Rattle.editor_recovery.proofs.Wrong.{wrong_append}
 use Rattle.editor_recovery.proofs.sizes.wrong_point.Goals as goal
@@ -37,7 +37,6 @@ loop-i-preserved c =
           ∙ ap (λ (l : List Track). first_wrong sizes found (point_blocks l))
           (sym (drop_some ts c.loop-i.i t c.track_at.ensures))
           ∙ c.loop-i.invariant.0,
-      subst (λ (f : Option BlockRef). AreSearched sizes f (point_blocks c.args.before.now))
-          (sym c.wrong_track-found.ensures)
+      rw c.wrong_track-found.ensures
           (still_searched sizes found (layout_blocks t.layout) (point_blocks c.args.before.now) c.loop-i.invariant.1),
     )

@@ -1,6 +1,5 @@
 -- A layout that the point before has brings nothing new.
-use Rattle.editor_recovery.proofs.Common.{List, sym, ap, subst, ◌∙◌, All, Clip, layout_blocks, IsBlockRef, size_in}
-use Rattle.editor_recovery.proofs.Common.{first_wrong}
+use Rattle.editor_recovery.proofs.Common.{sym, ◌∙◌, size_in}
 use Rattle.editor_recovery.proofs.Searched.{layout_searched}
 use Rattle.editor_recovery.proofs.sizes.wrong_track.Goals as goal
 
@@ -12,9 +11,7 @@ returns-then-is_as_before c =
 
 pub wrong_clips-requires : goal.wrong_clips-requires
 wrong_clips-requires c =
-    subst (λ (cs : List Clip). All IsBlockRef (layout_blocks cs)) (sym c.as_slice.ensures.value) c.requires.blocks
+    rw c.as_slice.ensures.value c.requires.blocks
 
 pub returns : goal.returns
-returns c = c.wrong_clips.ensures
-    ∙ ap (λ (cs : List Clip). first_wrong (size_in c.args.sizes.now) c.args.found (layout_blocks cs))
-    c.as_slice.ensures.value
+returns c = c.wrong_clips.ensures ∙ rw c.as_slice.ensures.value

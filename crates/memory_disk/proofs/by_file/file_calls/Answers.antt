@@ -1,5 +1,5 @@
 -- Those below come before the file's own, and those above after.
-use Rattle.memory_disk.proofs.Common.{◌≡◌, ◌≤◌, ltb, ltb-true, true, false, arith, rules, ltb-false}
+use Rattle.memory_disk.proofs.Common.{◌-◌, ◌≡◌, ◌≤◌, ltb, ltb-true, true, false, arith, rules, ltb-false}
 use Rattle.memory_disk.proofs.Common.{IsPartitionPoint-from_clause, IsPartitionedBy-ltb, no_call, Call}
 use Rattle.std.proofs.Common.{leb}
 use Rattle.std.proofs.lemmas.Bool.{leb-true, leb-false}
@@ -42,10 +42,12 @@ returns c =
     let here = (goal.at.returns c).After-partition_point-to in
     let below = lower here in
     let above = upper here in
-    own_part c.args.sorted.now c.partition_point-from.result c.partition_point-to.result c.args.file (ordered here)
-    c.partition_point-to.ensures.bound
+    let order = ordered here in
+    let from = c.partition_point-from.result in
+    let bound = c.partition_point-to.ensures.bound in
+    own_part c.args.sorted.now from (c.partition_point-to.result - from) c.args.file (omega (arith, order, bound))
     (λ k lt. ltb-true _ _ (below.0 k no_call (omega arith) lt))
     (λ k le lt.
-    let low = ltb-false _ _ (below.1 k no_call le (omega (arith, lt, c.partition_point-to.ensures.bound))) in
-    let high = leb-true _ _ (above.0 k no_call (omega arith) lt) in omega (arith, low, high))
-    (λ k le lt. leb-false _ _ (above.1 k no_call le lt))
+    let low = ltb-false _ _ (below.1 k no_call le (omega (arith, lt, bound, order))) in
+    let high = leb-true _ _ (above.0 k no_call (omega arith) (omega (arith, lt, order))) in omega (arith, low, high))
+    (λ k le lt. leb-false _ _ (above.1 k no_call (omega (arith, le, order)) lt))

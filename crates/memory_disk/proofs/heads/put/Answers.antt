@@ -14,11 +14,10 @@ stands : (hs seen looked : List Head) (p f : ℕ)
     → ((d : Head) → (p < length looked) × ((get_or looked p d).file ≡ f))
     → (p < length hs) × ((d : Head) → (get_or hs p d).file ≡ f)
     × ((k : ℕ) (d : Head) → k < p → (get_or hs k d).file ≢ f)
-stands hs seen looked p f saw same before at = (
-  subst (λ (l : List Head). p < length l) same (at no_head).0,
-  (λ d. subst (λ (l : List Head). (get_or l p d).file ≡ f) same (at d).1),
-  (λ k d lt e. omega (arith, subst (λ (l : List Head). (get_or l k d).file < f) saw (before k d lt), e)),
-)
+stands hs seen looked p f saw same before there =
+    let low = rw saw at before in
+    let here = rw same at there in
+    ((here no_head).0, (λ d. (here d).1), (λ k d lt e. omega (arith, low k d lt, e)))
 
 lacks : (hs seen looked : List Head) (p f : ℕ)
     → seen ≡ hs → looked ≡ hs → AreRising hs → ((k : ℕ) (d : Head) → k < p → (get_or seen k d).file < f)
@@ -27,12 +26,9 @@ lacks : (hs seen looked : List Head) (p f : ℕ)
     → (head_of hs f ≡ None) × ((k : ℕ) (d : Head) → k < p → (get_or hs k d).file < f)
     × ((k : ℕ) (d : Head) → p ≤ k → k < length hs → f < (get_or hs k d).file)
 lacks hs seen looked p f saw same rising before behind other =
-    let low : (k : ℕ) (d : Head) → k < p → (get_or hs k d).file < f =
-    subst (λ (l : List Head). (k : ℕ) (d : Head) → k < p → (get_or l k d).file < f) saw before in
-    let high : (k : ℕ) (d : Head) → p ≤ k → k < length hs → f ≤ (get_or hs k d).file =
-    subst (λ (l : List Head). (k : ℕ) (d : Head) → p ≤ k → k < length l → f ≤ (get_or l k d).file) saw behind in
-    let apart : (d : Head) → p < length hs → (get_or hs p d).file ≢ f =
-    subst (λ (l : List Head). (d : Head) → p < length l → (get_or l p d).file ≢ f) same other in (
+    let low = rw saw at before in
+    let high = rw saw at behind in
+    let apart = rw same at other in (
       head_nowhere hs p f no_head rising (λ k. low k no_head) (high p no_head (omega arith)) (apart no_head),
       low,
       (λ k d le lt. let first = high p d (omega arith) (omega arith) in let ne = apart d (omega arith) in

@@ -1,6 +1,5 @@
 -- One call more, until all are there.
-use Rattle.memory_disk.proofs.Common.{◌≡◌, ℕ, length, List, sym, subst, arith, vec_len, IsIndexed, reads_at, file_at}
-use Rattle.memory_disk.proofs.Common.{Head}
+use Rattle.memory_disk.proofs.Common.{◌≡◌, ℕ, length, sym, subst, arith, vec_len, IsIndexed, reads_at, file_at}
 use Rattle.memory_disk.proofs.Noted.{indexed_none}
 use Rattle.memory_disk.proofs.index.index_of.Goals as goal
 
@@ -26,9 +25,4 @@ pub returns-clause-indexed : goal.returns-clause-indexed
 returns-clause-indexed c =
     let done = c.loop-index.invariant in
     let all : vec_len c.loop-index.index.links ≡ length c.args.calls.now = omega (arith, done.bound) in
-    subst (λ (l : List Head). IsIndexed (reads_at c.args.row.now c.args.calls.now) (file_at c.args.calls.now)
-    (length c.args.calls.now) l c.reserve_exact-2.new.self.items) (sym c.in_ok-reserve_exact.ensures.items)
-    (subst (λ (l : List ℕ). IsIndexed (reads_at c.args.row.now c.args.calls.now) (file_at c.args.calls.now)
-    (length c.args.calls.now) c.loop-index.index.heads.items l) (sym c.in_ok-reserve_exact-2.ensures.items)
-    (subst (λ (k : ℕ). IsIndexed (reads_at c.args.row.now c.args.calls.now)
-    (file_at c.args.calls.now) k c.loop-index.index.heads.items c.loop-index.index.links.items) all done.indexed))
+    rw (c.in_ok-reserve_exact.ensures.items, c.in_ok-reserve_exact-2.ensures.items, ← all) done.indexed

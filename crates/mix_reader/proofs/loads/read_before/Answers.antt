@@ -2,8 +2,9 @@
 use Rattle.mix_reader.proofs.Common.{ℤ, ◌≡◌, ℕ, ◌+◌, ◌-◌, ◌*◌, ◌≤◌, Bool, List, length, take, drop, sym, ap, subst, ◌∙◌}
 use Rattle.mix_reader.proofs.Common.{arith, length-drop, false, refl, drop-drop, length-take, if◌then◌else◌, exit_err}
 use Rattle.mix_reader.proofs.Common.{Files, unmuted, meant_track, same_none, reads_err, reads_none, reads_ok, stored_of}
-use Rattle.mix_reader.proofs.Common.{seen_part, IsStretch, AreStretches}
+use Rattle.mix_reader.proofs.Common.{seen_part, IsStretch, AreStretches, Sources}
 use Rattle.mix_reader.proofs.TrackLaws.{stretch_put, unmuted_loud}
+use Rattle.std.proofs.lemmas.Slice.{take-put_mid_below}
 use borrow.Rule.Slice.PartMut.{put_mid}
 use Rattle.pcm_base.specs.Cells as cells
 use Rattle.mix_reader.proofs.loads.read_before.Goals as goal
@@ -73,3 +74,32 @@ returns-clause-hit g c = λ has.
     c.in_ok-read_once.ensures.hit (seen_part a.reader.now.cache a.from (a.from + a.len)
     a.from (a.from + length (take (a.end - at) (drop at xs))) a.track.now.layout (omega arith)
     (omega (arith, size)) (has c.if-track.false))
+
+-- it stands there already
+pub returns-then-is_there-clause-reads : goal.returns-then-is_there-clause-reads
+returns-then-is_there-clause-reads g c = reads_none _ (g.met.S.Store.may_fewer _)
+
+pub returns-then-is_there-clause-hit : goal.returns-then-is_there-clause-hit
+returns-then-is_there-clause-hit g c = λ has. (refl, refl, same_none _)
+
+pub returns-then-is_there-clause-stored : goal.returns-then-is_there-clause-stored
+returns-then-is_there-clause-stored g c = λ told ts are.
+    let len : ℕ = c.args.len in
+    let end : ℕ = c.args.end in
+    let at : ℕ = end - len in
+    let xs : List ℤ = c.args.samples.now in
+    let src : Sources = stored_of (g.S.Store.reads c.args.reader.now.store) in
+    let heard : (if c.args.track.now.mute then 0 else 1) * len ≡ 1 * len =
+    ap (λ (b : Bool). (if b then 0 else 1) * len) c.if-track.false in
+    let place : at + len ≡ end = omega (arith, heard, c.requires.room) in
+    let R : List ℤ → Type 0 = λ cs. AreStretches c.args.from len (unmuted ts) cs in
+    let back : drop end xs ≡ drop len (drop at xs) =
+    ap (λ n. drop n xs) (sym place) ∙ sym (drop-drop len at xs) in
+    let S : cells.Project → Type 0 = λ p. AreStretches c.args.from len p (drop at xs) in
+    subst S (sym (unmuted_loud src c.args.track.now ts c.if-track.false))
+    (c.requires.there told c.if-track.false c.if-is_there.true, subst R back are)
+
+pub returns-clause-before : goal.returns-clause-before
+returns-clause-before g c =
+    take-put_mid_below (c.args.end - c.args.len) _ c.args.samples.now c.read_once.new.out (c.args.end - c.args.len)
+    (omega arith) (omega (arith, c.requires.within))

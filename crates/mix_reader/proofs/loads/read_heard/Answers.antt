@@ -1,103 +1,69 @@
--- One track more is read, from the last to the first.
-use Rattle.mix_reader.proofs.Common.{◌≡◌, ℕ, ◌+◌, ◌-◌, ◌*◌, ◌≤◌, List, ◌∷◌, length, drop, sym, ap, subst, ◌∙◌, arith}
-use Rattle.mix_reader.proofs.Common.{refl, mul-le-mul_right, drop_all, if◌then◌else◌, Files, unmuted, layout_blocks}
-use Rattle.mix_reader.proofs.Common.{Track, meant, meant_track, point_blocks, drop_some, same_none, same_turn}
-use Rattle.mix_reader.proofs.Common.{reads_err, reads_more, reads_none, reads_ok, reads_then, told_on, stored_of}
-use Rattle.mix_reader.proofs.Common.{AreStretches, heard_count}
-use Rattle.mix_reader.proofs.{HeardLaws.count_drop, HeardLaws.named_at, PageLaws.heard_at, TrackLaws.blocks_at}
+-- What is planned is read together, and then the others.
+use Rattle.mix_reader.proofs.Common.{◌∙◌, ◌+◌, List, length, refl, subst, exit_err, same_turn, Files, unmuted, Track}
+use Rattle.mix_reader.proofs.Common.{meant, point_blocks, stored_of, AreStretches, reads_err, reads_then, told_on}
+use Rattle.std.specs.Prelude.{OnOk}
+use Rattle.disk_model.proofs.Frames.{tells_back}
+use Rattle.mix_reader.proofs.{PageLaws.heard_on, PlanLaws.put_filled, PlanLaws.put_none}
 use Rattle.mix_reader.proofs.loads.read_heard.Goals as goal
 
-pub rows-init : goal.rows-init
-rows-init g c =
-    let ts : List Track = c.args.point.now in
-    let len : ℕ = c.args.len in
-    let all = drop_all c.len-i.result ts (omega (arith, c.len-i.ensures.value)) in
-    let none : heard_count (drop c.len-i.result ts) * len ≡ 0 * len = ap (λ us. heard_count us * len) all in
-    let P : List Track → Type 0 =
-    λ us. AreStretches c.args.from len (unmuted (meant (stored_of (g.S.Store.reads c.args.reader.now.store)) us))
-    (drop (length c.args.samples.now) c.args.samples.now) in
-    record {
-      within = omega (arith, c.len-i.ensures.value);
-      place = omega (arith, none, c.requires.room);
-      reads = reads_none tt (g.met.S.Store.may_fewer _);
-      hit = λ has. (refl, same_none _);
-      stored = λ told. subst P (sym all) tt;
-    }
+pub returns-in_err-read_plan-clause-reads : goal.returns-in_err-read_plan-clause-reads
+returns-in_err-read_plan-clause-reads g c =
+    rw (exit_err c.from_residual-in_err-read_plan.result c.from_residual-in_err-read_plan.ensures.1)
+    (reads_then {x = c.in_ok-plan.plan} c.in_ok-plan.ensures.reads
+    (reads_err (c.in_err-read_plan.ensures.reads (point_blocks c.args.point.now) c.in_ok-plan.ensures.among)))
 
-pub read_before-requires-clause-named : goal.read_before-requires-clause-named
-read_before-requires-clause-named g c =
+pub read_tracks-requires-clause-put : goal.read_tracks-requires-clause-put
+read_tracks-requires-clause-put g c = λ told.
     let ts : List Track = c.args.point.now in
-    let k : ℕ = c.rows.i - 1 in
-    named_at k ts (drop (k + 1) ts) c.track_at-track.result.now
-    (drop_some ts k c.track_at-track.result.now c.track_at-track.ensures) c.requires.named
+    let read = c.in_ok-read_plan.ensures.reads (point_blocks ts) c.in_ok-plan.ensures.among in
+    put_filled (g.S.Store.reads c.plan_tracks.new.reader.store) (g.S.Store.reads c.read_plan.new.reader.store)
+    c.args.from c.args.len (length c.args.samples.now) ts c.in_ok-plan.plan.parts c.args.samples.now
+    c.read_plan.new.samples read.kept.same_reads c.in_ok-plan.ensures.parts refl
+    (c.in_ok-read_plan.ensures.read (tells_back read.kept told) c.if-branch.true) c.in_ok-plan.ensures.plans
 
-pub read_before-requires-clause-room : goal.read_before-requires-clause-room
-read_before-requires-clause-room g c =
-    let ts : List Track = c.args.point.now in
-    let k : ℕ = c.rows.i - 1 in
-    let len : ℕ = c.args.len in
-    let t : Track = c.track_at-track.result.now in
-    let one : ℕ = if t.mute then 0 else 1 in
-    let next : k + 1 ≡ c.rows.i = omega (arith, c.rows-test.true) in
-    let e : drop k ts ≡ t ∷ drop c.rows.i ts =
-    drop_some ts k t c.track_at-track.ensures ∙ ap (λ n. t ∷ drop n ts) next in
-    let h : ℕ = heard_count (drop c.rows.i ts) in
-    let fewer : one + h ≤ heard_count ts = subst (λ n. n ≤ heard_count ts) (ap heard_count e) (count_drop k ts) in
-    let rows : (one + h) * len ≤ heard_count ts * len = mul-le-mul_right len fewer in
-    omega (arith, rows, c.rows.invariant.place)
+pub returns-then-branch-clause-reads : goal.returns-then-branch-clause-reads
+returns-then-branch-clause-reads g c =
+    reads_then {x = c.in_ok-plan.plan} c.in_ok-plan.ensures.reads
+    (reads_then {x = c.in_ok-read_plan.field-0}
+    (c.in_ok-read_plan.ensures.reads (point_blocks c.args.point.now) c.in_ok-plan.ensures.among)
+    c.read_tracks.ensures.reads)
 
-pub rows-preserved : goal.rows-preserved
-rows-preserved g c =
+pub returns-then-branch-clause-stored : goal.returns-then-branch-clause-stored
+returns-then-branch-clause-stored g c = λ told.
     let ts : List Track = c.args.point.now in
-    let k : ℕ = c.rows.i - 1 in
-    let len : ℕ = c.args.len in
-    let t : Track = c.track_at-track.result.now in
-    let one : ℕ = if t.mute then 0 else 1 in
-    let inv = c.rows.invariant in
-    let ens = c.in-Ok.ensures in
-    let files : Files = g.S.Store.reads c.args.reader.now.store in
-    let next : k + 1 ≡ c.rows.i = omega (arith, c.rows-test.true) in
-    let e : drop k ts ≡ t ∷ drop c.rows.i ts =
-    drop_some ts k t c.track_at-track.ensures ∙ ap (λ n. t ∷ drop n ts) next in
-    let h : ℕ = heard_count (drop c.rows.i ts) in
-    let more : heard_count (drop k ts) * len ≡ (one + h) * len = ap (λ us. heard_count us * len) e in
-    record {
-      within = omega (arith, inv.within);
-      place = omega (arith, more, ens.place, inv.place);
-      reads = reads_then {x = tt} inv.reads (reads_ok {x = c.in-Ok.at} {y = tt}
-          (reads_more (layout_blocks t.layout) (point_blocks ts)
-          (λ b has. blocks_at k ts (drop (k + 1) ts) t b (drop_some ts k t c.track_at-track.ensures) has) ens.reads));
-      hit = λ has.
-          let before = inv.hit has in
-          let on = ens.hit (heard_at _ _ c.args.from (c.args.from + len) k ts (drop (k + 1) ts) t
-          (drop_some ts k t c.track_at-track.ensures) before.1 has) in
-          (on.1 ∙ before.0, same_turn _ _ _ before.1 on.2);
-      stored = λ told.
-          let still = told_on inv.reads told in
-          let P : Files → Type 0 = λ f. AreStretches c.args.from len
-          (unmuted (meant_track (stored_of f) t ∷ meant (stored_of files) (drop c.rows.i ts)))
-          (drop c.in-Ok.at c.read_before.new.samples) in
-          let S : List Track → Type 0 = λ us. AreStretches c.args.from len (unmuted (meant (stored_of files) us))
-          (drop c.in-Ok.at c.read_before.new.samples) in
-          subst S (sym e) (subst P inv.reads.kept.same_reads
-          (ens.stored still (meant (stored_of files) (drop c.rows.i ts)) (inv.stored told)));
-    }
+    let plan = c.in_ok-plan.ensures.reads in
+    let read = c.in_ok-read_plan.ensures.reads (point_blocks ts) c.in_ok-plan.ensures.among in
+    let P : Files → Type 0 = λ f. OnOk c.read_tracks.result
+    (AreStretches c.args.from c.args.len (unmuted (meant (stored_of f) ts)) c.read_tracks.new.samples) in
+    subst P (read.kept.same_reads ∙ plan.kept.same_reads) (c.read_tracks.ensures.stored (told_on read (told_on plan told)))
 
-pub returns-in-Err-clause-reads : goal.returns-in-Err-clause-reads
-returns-in-Err-clause-reads g c =
-    let ts : List Track = c.args.point.now in
-    let k : ℕ = c.rows.i - 1 in
-    let t : Track = c.track_at-track.result.now in
-    reads_then {x = tt} c.rows.invariant.reads (reads_more (layout_blocks t.layout) (point_blocks ts)
-    (λ b has. blocks_at k ts (drop (k + 1) ts) t b (drop_some ts k t c.track_at-track.ensures) has)
-    (reads_err c.in-Err.ensures.reads))
+pub read_tracks-requires-2-clause-put : goal.read_tracks-requires-2-clause-put
+read_tracks-requires-2-clause-put g c = λ told.
+    put_none (stored_of (g.S.Store.reads c.read_plan.new.reader.store)) c.args.from c.args.len c.args.point.now
+    c.read_plan.new.samples
 
-pub returns-in-Err-clause-hit : goal.returns-in-Err-clause-hit
-returns-in-Err-clause-hit g c = λ has.
+pub returns-clause-reads : goal.returns-clause-reads
+returns-clause-reads g c =
+    reads_then {x = c.in_ok-plan.plan} c.in_ok-plan.ensures.reads
+    (reads_then {x = c.in_ok-read_plan.field-0}
+    (c.in_ok-read_plan.ensures.reads (point_blocks c.args.point.now) c.in_ok-plan.ensures.among)
+    c.read_tracks-2.ensures.reads)
+
+pub returns-clause-hit : goal.returns-clause-hit
+returns-clause-hit g c = λ has.
+    let plan = c.in_ok-plan.ensures.hit has in
+    let read = c.read_plan.ensures.hit (c.in_ok-plan.ensures.spared has) in
+    let same = same_turn _ _ _ plan.2 read.2 in
+    let rest = c.read_tracks-2.ensures.hit (heard_on c.args.reader.now.cache c.read_plan.new.reader.cache c.args.from
+    (c.args.from + c.args.len) c.args.point.now same has) in
+    (rest.0, rest.1 ∙ read.1 ∙ plan.1, same_turn _ _ _ same rest.2)
+
+pub returns-clause-stored : goal.returns-clause-stored
+returns-clause-stored g c = λ told.
     let ts : List Track = c.args.point.now in
-    let k : ℕ = c.rows.i - 1 in
-    let t : Track = c.track_at-track.result.now in
-    let before = c.rows.invariant.hit has in
-    let on = c.in-Err.ensures.hit (heard_at _ _ c.args.from (c.args.from + c.args.len) k ts (drop (k + 1) ts) t
-    (drop_some ts k t c.track_at-track.ensures) before.1 has) in
-    (on.0, on.1 ∙ before.0, same_turn _ _ _ before.1 on.2)
+    let plan = c.in_ok-plan.ensures.reads in
+    let read = c.in_ok-read_plan.ensures.reads (point_blocks ts) c.in_ok-plan.ensures.among in
+    let P : Files → Type 0 = λ f. OnOk c.read_tracks-2.result
+    (AreStretches c.args.from c.args.len (unmuted (meant (stored_of f) ts)) c.read_tracks-2.new.samples) in
+    subst P (read.kept.same_reads ∙ plan.kept.same_reads)
+    (c.read_tracks-2.ensures.stored (told_on read (told_on plan told)))

@@ -29,12 +29,12 @@ returns-clause-other g c = λ tells none.
 
 pub returns-in_err-sync_file-clause-changed : goal.returns-in_err-sync_file-clause-changed
 returns-in_err-sync_file-clause-changed g c =
-    stays_changed (record { files = omega arith; bytes = omega arith; calls = omega arith }) c.sync_file.ensures.changed
+    stays_changed (omega arith) c.sync_file.ensures.changed
 
 pub returns-clause-changed : goal.returns-clause-changed
 returns-clause-changed g c =
     let same = ap (λ (f : Files). files_made (f 0)) c.sync_file.ensures.reads in
-    stays_then (λ d e s. s) (record { files = omega (arith, same); bytes = omega arith; calls = omega arith })
+    stays_then (λ d e s. s) (omega (arith, same))
     c.sync_file.ensures.changed c.settle.ensures.changed
 
 pub returns-in_err-sync_file-clause-other_moment : goal.returns-in_err-sync_file-clause-other_moment

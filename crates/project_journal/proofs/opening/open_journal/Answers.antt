@@ -10,5 +10,5 @@ returns-in_err-sync_both-clause-some g c =
 pub returns-clause-changed : goal.returns-clause-changed
 returns-clause-changed g c =
     changed_then_stays {two = record { files = 0; bytes = 0; calls = 0 }}
-    (record { files = omega arith; bytes = omega arith; calls = omega arith }) c.sync_both.ensures.changed
+    (omega arith) c.sync_both.ensures.changed
     (changed_kept (λ d. refl) c.start_chosen.ensures.kept)

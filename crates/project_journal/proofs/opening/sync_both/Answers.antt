@@ -12,10 +12,10 @@ returns-clause-other g c = on_ok_weaker c.sync_file.result (λ durable d now.
 
 pub returns-in_err-sync_other-clause-changed : goal.returns-in_err-sync_other-clause-changed
 returns-in_err-sync_other-clause-changed g c =
-    changed_wider (λ d e s. s) (record { files = omega arith; bytes = omega arith; calls = omega arith })
+    changed_wider (λ d e s. s) (omega arith)
     c.sync_other.ensures.changed
 
 pub returns-clause-changed : goal.returns-clause-changed
 returns-clause-changed g c =
-    changed_then_stays (record { files = omega arith; bytes = omega arith; calls = omega arith })
+    changed_then_stays (omega arith)
     c.sync_other.ensures.changed c.sync_file.ensures.changed

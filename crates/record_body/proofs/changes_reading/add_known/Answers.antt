@@ -1,9 +1,9 @@
 -- By the mark: the current track, one that is written out, or one whose end is another.
-use Rattle.record_body.proofs.Common.{exit_err, ◌≡◌, ℕ, ◌+◌, ◌*◌, ◌<◌, length, List, Option, None, Some, Result, Ok}
-use Rattle.record_body.proofs.Common.{IfOk, refl, sym, subst, ◌∙◌, arith, field, first_failed, Damaged, Track, AllBelow}
-use Rattle.record_body.proofs.Common.{track_of, last_blocks, last_start, tailed, fresh_at, gone_at, mark_at, diff_size}
-use Rattle.record_body.proofs.Common.{change_tests, mark_tests, mark_want, tail_tests, whole_tests, blocks_at, track_at}
-use Rattle.record_body.proofs.Common.{track_size, BadBody, Finds}
+use Rattle.record_body.proofs.Common.{◌≡◌, ℕ, ◌+◌, ◌<◌, length, List, None, Some, Result}
+use Rattle.record_body.proofs.Common.{IfOk, refl, sym, ◌∙◌, arith, field, first_failed, Damaged, Track, AllBelow}
+use Rattle.record_body.proofs.Common.{track_of, last_blocks, last_start, tailed, fresh_at, gone_at, mark_at}
+use Rattle.record_body.proofs.Common.{mark_tests, mark_want, tail_tests, whole_tests, blocks_at, track_at}
+use Rattle.record_body.proofs.Common.{BadBody, Finds}
 use Rattle.record_body.proofs.ToldAdds.{adds_found, adds_same, adds_tail, adds_whole, below_read, mark_fails}
 use Rattle.record_body.proofs.ToldAdds.{marks_pass}
 use Rattle.record_body.proofs.{DiffValid.has_clips, DiffTracks.found_id, DiffTracks.found_in}
@@ -11,44 +11,37 @@ use Rattle.record_body.proofs.changes_reading.add_known.Goals as goal
 
 pub returns-in_err-test_mark : goal.returns-in_err-test_mark
 returns-in_err-test_mark c =
-    let l = c.args.start.limits in
-    let at = c.args.start.at in
-    let bytes = c.args.bytes.now in
-    let old : Track = c.track_at-old.result.now in
-    let fault = c.in_err-test_mark.field-0.0 in
-    rw (exit_err c.from_residual.result c.from_residual.ensures.1)
-    (subst (λ (o : Option Track). first_failed (change_tests l o at bytes) ≡ Some fault)
-    (sym (c.requires.found old c.track_at-old.ensures))
-    (mark_fails l at bytes old c.place-mark_place.result c.wanted_mark.result c.u8_at-mark.result fault
-    c.place-mark_place.ensures c.wanted_mark.ensures c.u8_at-mark.ensures c.in_err-test_mark.ensures))
+    search (
+      arith,
+      c.from_residual.ensures.1,
+      c.requires.found,
+      c.track_at-old.ensures,
+      c.place-mark_place.ensures,
+      c.wanted_mark.ensures,
+      c.u8_at-mark.ensures,
+      c.in_err-test_mark.ensures,
+      mark_fails,
+    )
 
 pub share-requires-clause-above : goal.share-requires-clause-above
-share-requires-clause-above c = λ t here.
-    subst (λ (n : ℕ). AllBelow n c.args.point.now)
-    (sym (found_id (field c.args.start.at 8 c.args.bytes.now) c.args.current.now t (c.requires.found t here)))
-    c.requires.above
+share-requires-clause-above c = search (arith, c.requires.found, c.requires.above, found_id)
 
 pub returns-then-mark-eq0 : goal.returns-then-mark-eq0
 returns-then-mark-eq0 c =
-    let l = c.args.start.limits in
-    let at = c.args.start.at in
-    let bytes = c.args.bytes.now in
-    let now = c.args.current.now in
-    let old : Track = c.track_at-old.result.now in
-    let here = c.track_at-old.ensures in
-    let found = c.requires.found old here in
-    let none : mark_at at bytes ≡ 0 = sym c.u8_at-mark.ensures ∙ c.if-mark-eq0.true in
-    adds_found l now at bytes c.args.point.now c.share.new.self (Some old) (Ok tt) found
-    (adds_same l now at bytes c.args.point.now c.share.new.self old found (found_id (field at 8 bytes) now old found)
-    none (c.in_ok-share.ensures.added old here))
+    search (
+      arith,
+      c.track_at-old.ensures,
+      c.requires.found,
+      c.u8_at-mark.ensures,
+      c.if-mark-eq0.true,
+      c.in_ok-share.ensures.added,
+      adds_found,
+      adds_same,
+      found_id,
+    )
 
 pub read_whole-track-requires : goal.read_whole-track-requires
-read_whole-track-requires c =
-    let at = c.args.start.at in
-    let bytes = c.args.bytes.now in
-    let one : mark_at at bytes ≡ 1 = sym c.u8_at-mark.ensures ∙ c.if-mark-eq1.true in
-    let size : diff_size at bytes ≡ 1 + track_size (at + 1) bytes = rw one refl in
-    record { within = omega (arith, size, c.requires.within.1 (omega (arith, one))) }
+read_whole-track-requires c = search (arith, c.u8_at-mark.ensures, c.if-mark-eq1.true, c.requires.within.1)
 
 -- the id of the track, which is above those before
 module _ (id : ℕ) (now before : List Track) (old : Track) (found : track_of id now ≡ Some old) where
@@ -83,20 +76,20 @@ returns-then-mark-eq1 c =
 -- a mark that passes, and is neither of the others
 is_two : (old : Track) (at want mark : ℕ) → first_failed (mark_tests at want mark) ≡ None
     → want ≡ mark_want (Some old) mark → (mark ≡ 0 → ⊥) → (mark ≡ 1 → ⊥) → (mark ≡ 2) × (0 < length old.layout)
-is_two old at want mark none is not_same not_whole =
-    let known = marks_pass old at want mark none is in
-    let two : mark ≡ 2 = omega (arith, known.0, not_same, not_whole) in
-    (two, has_clips old mark two known.1)
+is_two old at want mark none is not_same not_whole = search (arith, marks_pass, has_clips)
 
 pub read_tail-requires-clause-within : goal.read_tail-requires-clause-within
 read_tail-requires-clause-within c =
-    let at = c.args.start.at in
-    let bytes = c.args.bytes.now in
-    let mark = is_two c.track_at-old.result.now c.place-mark_place.result c.wanted_mark.result c.u8_at-mark.result
-    c.in_ok-test_mark.ensures.0 c.wanted_mark.ensures c.if-mark-eq0.false c.if-mark-eq1.false in
-    let two : mark_at at bytes ≡ 2 = sym c.u8_at-mark.ensures ∙ mark.0 in
-    let size : diff_size at bytes ≡ 17 + 12 * fresh_at at bytes = rw two refl in
-    omega (arith, size, c.requires.within.1 (omega (arith, two)))
+    search (
+      arith,
+      c.in_ok-test_mark.ensures.0,
+      c.wanted_mark.ensures,
+      c.if-mark-eq0.false,
+      c.if-mark-eq1.false,
+      c.u8_at-mark.ensures,
+      c.requires.within.1,
+      is_two,
+    )
 
 pub read_tail-requires-clause-some : goal.read_tail-requires-clause-some
 read_tail-requires-clause-some c =
@@ -106,10 +99,7 @@ read_tail-requires-clause-some c =
 
 pub read_tail-requires-clause-half_full : goal.read_tail-requires-clause-half_full
 read_tail-requires-clause-half_full c =
-    let old : Track = c.track_at-old.result.now in
-    let is = found_in (field c.args.start.at 8 c.args.bytes.now) c.args.start.limits.block_size c.args.current.now old
-    c.requires.half_full (c.requires.found old c.track_at-old.ensures) in
-    is.half_full
+    search (arith, c.requires.half_full, c.requires.found, c.track_at-old.ensures, found_in)
 
 pub add_read-requires-2-clause-above : goal.add_read-requires-2-clause-above
 add_read-requires-2-clause-above c =

@@ -20,9 +20,7 @@ add_known-requires-clause-above c = above c.args.start.limits c.args.from c.args
     c.args.point.now c.in_ok-test_id.ensures.0 c.requires.below
 
 pub returns-in-Some : goal.returns-in-Some
-returns-in-Some c = finds_on (id_tests c.args.start.limits c.args.from c.args.start.at c.args.bytes.now)
-    (change_tests c.args.start.limits (track_of (field c.args.start.at 8 c.args.bytes.now) c.args.current.now)
-    c.args.start.at c.args.bytes.now) _ c.add_known.result c.in_ok-test_id.ensures.0 c.add_known.ensures
+returns-in-Some c = search (arith, c.in_ok-test_id.ensures.0, c.add_known.ensures, finds_on)
 
 pub add_new-requires-clause-above : goal.add_new-requires-clause-above
 add_new-requires-clause-above c = above c.args.start.limits c.args.from c.args.start.at c.args.bytes.now

@@ -27,33 +27,21 @@ returns-in_err-add_told c =
     (omega (arith, c.loop-test.true)) c.in_err-add_told.ensures)
 
 pub overflow_sub-last : goal.overflow_sub-last
-overflow_sub-last c =
-    let one = c.in_ok-add_told.ensures.1 in
-    omega (arith, c.len-last.ensures.value, ap length one.added, length-append c.loop.point (one.track ∷ []))
+overflow_sub-last c = search (arith, c.in_ok-add_told.ensures.1, c.len-last.ensures.value, length-append)
 
 pub track_at-track-requires : goal.track_at-track-requires
-track_at-track-requires c =
-    let one = c.in_ok-add_told.ensures.1 in
-    omega (arith, c.len-last.ensures.value, ap length one.added, length-append c.loop.point (one.track ∷ []))
+track_at-track-requires c = search (arith, c.in_ok-add_told.ensures.1, c.len-last.ensures.value, length-append)
 
 pub diff_len_at-next-requires-clause-within : goal.diff_len_at-next-requires-clause-within
 diff_len_at-next-requires-clause-within c = have_first (c.args.count - c.loop.counter) c.loop.next c.args.bytes.now
     (omega (arith, c.loop-test.true)) c.loop.invariant.within
 
 pub diff_len_at-next-requires-clause-known : goal.diff_len_at-next-requires-clause-known
-diff_len_at-next-requires-clause-known c =
-    known_mark c.args.limits c.args.current.now c.loop.from c.loop.next c.args.bytes.now
-    (all_pass (diff_tests c.args.limits c.args.current.now c.loop.from c.loop.next c.args.bytes.now)
-    c.in_ok-add_told.ensures.0)
+diff_len_at-next-requires-clause-known c = search (arith, c.in_ok-add_told.ensures.0, known_mark, all_pass)
 
 pub diff_len_at-next-requires-clause-whole : goal.diff_len_at-next-requires-clause-whole
-diff_len_at-next-requires-clause-whole c = λ mark.
-    let one = c.in_ok-add_told.ensures.1 in
-    let track : Track = c.track_at-track.result.now in
-    let same : track ≡ one.track = last_is c.loop.point c.add_told.new.point one.track track c.len-last.result one.added
-    c.len-last.ensures.value c.track_at-track.ensures in
-    ap unnumbered same
-    ∙ diff_whole c.args.current.now c.loop.next c.args.bytes.now (unnumbered one.track) one.said mark
+diff_len_at-next-requires-clause-whole c =
+    search (arith, c.in_ok-add_told.ensures.1, c.len-last.ensures.value, c.track_at-track.ensures, last_is, diff_whole)
 
 pub overflow_add-next : goal.overflow_add-next
 overflow_add-next c =

@@ -4,9 +4,7 @@ use Rattle.record_body.proofs.{Agreeing.agrees_at, Parts.parts_left}
 use Rattle.record_body.proofs.changes_writing.all_diff_len.Goals as goal
 
 pub diff_len-len-requires : goal.diff_len-len-requires
-diff_len-len-requires c = record {
-  numbers = agrees_at c.args.current.now c.args.point.now c.loop-i.i _ c.requires.numbers c.track_at.ensures;
-}
+diff_len-len-requires c = search (arith, c.requires.numbers, c.track_at.ensures, agrees_at)
 
 pub loop-i-preserved : goal.loop-i-preserved
 loop-i-preserved c =

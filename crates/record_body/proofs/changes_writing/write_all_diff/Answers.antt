@@ -4,9 +4,7 @@ use Rattle.record_body.proofs.{Agreeing.agrees_at, Parts.part_next, Parts.parts_
 use Rattle.record_body.proofs.changes_writing.write_all_diff.Goals as goal
 
 pub diff_len-requires : goal.diff_len-requires
-diff_len-requires c = record {
-  numbers = agrees_at c.args.current.now c.args.point.now c.loop-i.i _ c.requires.numbers c.track_at-track.ensures;
-}
+diff_len-requires c = search (arith, c.requires.numbers, c.track_at-track.ensures, agrees_at)
 
 pub write_diff-requires-clause-numbers : goal.write_diff-requires-clause-numbers
 write_diff-requires-clause-numbers c = agrees_at c.args.current.now c.args.point.now c.loop-i.i _ c.requires.numbers

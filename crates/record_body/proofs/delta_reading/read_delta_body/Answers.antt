@@ -1,22 +1,15 @@
 -- Bytes whose tests pass say one body, which is valid; those of a valid body pass.
 use Rattle.record_body.proofs.Common.{◌≡◌, None, List, ℕ, subst, arith, first_failed, Body, delta_tests, SaysBody}
-use Rattle.record_body.proofs.Common.{unnumbered_body, BodyShares, ReadsBody, IsValidBody, IsBytes}
+use Rattle.record_body.proofs.Common.{unnumbered_body, ReadsBody, IsValidBody, IsBytes}
 use Rattle.record_body.proofs.Steps.{finds_matches, finds_ok, finds_weaker}
 use Rattle.record_body.proofs.{DeltaBack.delta_read_back, SaysOnce.says_once, DiffBack.are_short, DiffValid.delta_valid}
 use Rattle.record_body.proofs.delta_reading.read_delta_body.Goals as goal
 
 pub returns-clause-found : goal.returns-clause-found
-returns-clause-found c =
-    let now = c.args.current.now in
-    let bytes = c.args.bytes.now in
-    finds_weaker (delta_tests c.args.m c.args.before now bytes) (ReadsBody now bytes)
-    (λ x. SaysBody now bytes (unnumbered_body x)) c.read_by.result (λ x none is. is.0) c.read_by.ensures
+returns-clause-found c = search (arith, c.read_by.ensures, finds_weaker)
 
 pub returns-clause-shared : goal.returns-clause-shared
-returns-clause-shared c =
-    let now = c.args.current.now in
-    finds_ok (delta_tests c.args.m c.args.before now c.args.bytes.now) (ReadsBody now c.args.bytes.now) (BodyShares now)
-    c.read_by.result (λ x none is. is.1) c.read_by.ensures
+returns-clause-shared c = search (arith, c.read_by.ensures, finds_ok)
 
 pub returns-clause-valid : goal.returns-clause-valid
 returns-clause-valid c = λ next so_valid.

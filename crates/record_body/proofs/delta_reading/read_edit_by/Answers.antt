@@ -1,16 +1,12 @@
 -- The fields in front, and the tracks.
-use Rattle.record_body.proofs.Common.{exit_err, ℕ, List, ap, ap₂, ◌∙◌, sym, arith, first_failed, all_diff_at}
-use Rattle.record_body.proofs.Common.{all_diff_tests, head_tests, limits_at, track_count, AreDiff, ReadsEdit, Track}
+use Rattle.record_body.proofs.Common.{exit_err, List, ap₂, arith}
+use Rattle.record_body.proofs.Common.{all_diff_tests, head_tests, AreDiff, ReadsEdit, Track}
 use Rattle.record_body.proofs.Common.{none_first, some_first}
 use Rattle.record_body.proofs.{ValidBodies.few_told, Steps.finds_after}
 use Rattle.record_body.proofs.delta_reading.read_edit_by.Goals as goal
 
 pub returns-in_err-limits : goal.returns-in_err-limits
-returns-in_err-limits c =
-    let bytes = c.args.bytes.now in
-    rw (exit_err c.from_residual.result c.from_residual.ensures.1)
-    (some_first (head_tests c.args.before bytes) (all_diff_tests (limits_at c.args.m c.args.before bytes)
-    c.args.current.now (track_count bytes) 0 29 bytes) c.in_err-limits.field-0.0 c.in_err-limits.ensures)
+returns-in_err-limits c = search (arith, c.from_residual.ensures.1, c.in_err-limits.ensures, some_first)
 
 pub read_all_diff-requires-clause-few : goal.read_all_diff-requires-clause-few
 read_all_diff-requires-clause-few c =
@@ -28,21 +24,13 @@ returns-in_err-point c =
 
 pub returns : goal.returns
 returns c =
-    let bytes = c.args.bytes.now in
-    let now = c.args.current.now in
-    let limits = c.in_ok-limits.ensures.1 in
-    let told = c.in_ok-point.ensures.1 in
-    let tests = all_diff_tests (limits_at c.args.m c.args.before bytes) now (track_count bytes) 0 29 bytes in (
-      none_first (head_tests c.args.before bytes) tests c.in_ok-limits.ensures.0
-          ∙ sym (ap₂ (λ l n. first_failed (all_diff_tests l now n 0 29 bytes)) limits c.u32_at.ensures)
-          ∙ c.in_ok-point.ensures.0,
-      (
-        (
-          c.u64_at.ensures,
-          ap (λ l. l.next_block) limits,
-          ap (λ l. l.next_track) limits,
-          told.said ∙ ap (λ (n : ℕ). all_diff_at now n 29 bytes) c.u32_at.ensures,
-        ),
-        told.numbers,
-      ),
+    search (
+      arith,
+      c.in_ok-limits.ensures.1,
+      c.in_ok-point.ensures.1,
+      c.in_ok-limits.ensures.0,
+      c.u32_at.ensures,
+      c.in_ok-point.ensures.0,
+      c.u64_at.ensures,
+      none_first,
     )

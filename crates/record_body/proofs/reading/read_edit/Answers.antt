@@ -1,15 +1,11 @@
 -- The fields in front, and the tracks.
-use Rattle.record_body.proofs.Common.{◌≡◌, List, ap₂, arith, exit_err, track_count, tracks_at, edit_at, head_tests}
-use Rattle.record_body.proofs.Common.{tracks_tests, limits_at, Body, Track, some_first}
+use Rattle.record_body.proofs.Common.{◌≡◌, List, ap₂, arith, exit_err, tracks_at, edit_at, head_tests}
+use Rattle.record_body.proofs.Common.{tracks_tests, Body, Track, some_first}
 use Rattle.record_body.proofs.{ValidBodies.few_told, Steps.finds_after}
 use Rattle.record_body.proofs.reading.read_edit.Goals as goal
 
 pub returns-in_err-limits : goal.returns-in_err-limits
-returns-in_err-limits c =
-    let bytes = c.args.bytes.now in
-    rw (exit_err c.from_residual.result c.from_residual.ensures.1)
-    (some_first (head_tests c.args.before bytes) (tracks_tests (limits_at c.args.m c.args.before bytes)
-    (track_count bytes) 0 29 bytes) c.in_err-limits.field-0.0 c.in_err-limits.ensures)
+returns-in_err-limits c = search (arith, c.from_residual.ensures.1, c.in_err-limits.ensures, some_first)
 
 pub read_tracks-requires-clause-few : goal.read_tracks-requires-clause-few
 read_tracks-requires-clause-few c =

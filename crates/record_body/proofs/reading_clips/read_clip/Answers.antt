@@ -1,6 +1,6 @@
 -- All tests of the clip passed.
-use Rattle.record_body.proofs.Common.{◌+◌, ◌^◌, ◌≤◌, nat_lt, [], ◌∷◌, sym, ap, subst, arith, NoneEmpty, IsHalfFull}
-use Rattle.record_body.proofs.Common.{block_lens, blocks_len, blocks_tests, all_pass}
+use Rattle.record_body.proofs.Common.{◌+◌, ◌^◌, ◌≤◌, nat_lt, [], ◌∷◌, ap, arith}
+use Rattle.record_body.proofs.Common.{blocks_tests, all_pass}
 use Rattle.record_body.proofs.ValidBodies.{valid_blocks, half_full, same_lens}
 use Rattle.record_body.proofs.reading_clips.read_clip.Goals as goal
 
@@ -12,19 +12,8 @@ new-requires c =
     let head = all_pass (c.least.result ∷ c.most.result ∷ c.least-2.result ∷ []) c.in_ok-first_failure.ensures in
     let near : start ≤ 2 ^ 32 =
     omega (arith, head.1.0, ap (λ d. d.want) c.most.ensures, ap (λ d. d.have) c.most.ensures) in
-    let valid = valid_blocks c.args.limits (nat_lt 1 count) count start (c.args.at + 12) c.args.bytes.now near
-    (all_pass tests c.in_ok-blocks.ensures.0) in record {
-      full =
-          let full = half_full c.args.limits count start (c.args.at + 12) c.args.bytes.now
-          (all_pass tests c.in_ok-blocks.ensures.0) in (
-            c.args.limits.block_size,
-            subst (λ bs. IsHalfFull c.args.limits.block_size (block_lens bs)) (sym c.in_ok-blocks.ensures.1) full,
-          );
-      none_empty = subst NoneEmpty (sym c.in_ok-blocks.ensures.1) valid.1;
-      few = omega (
-        arith,
-        valid.2,
-        same_lens count (c.args.at + 12) c.args.bytes.now,
-        ap blocks_len c.in_ok-blocks.ensures.1,
-      );
-    }
+    let pass = all_pass tests c.in_ok-blocks.ensures.0 in
+    let valid = valid_blocks c.args.limits (nat_lt 1 count) count start (c.args.at + 12) c.args.bytes.now near pass in
+    let full = half_full c.args.limits count start (c.args.at + 12) c.args.bytes.now pass in
+    rw c.in_ok-blocks.ensures.1
+    (record { full = (c.args.limits.block_size, full); none_empty = valid.1; few = omega (arith, valid.2, same_lens) })

@@ -13,10 +13,7 @@ here_within bytes at n some =
     first_within (λ j a. clips_size j a bytes) (clip_size at bytes) at at (λ j. refl) n some
 
 pub read_clip-requires : goal.read_clip-requires
-read_clip-requires c =
-    let within = here_within c.args.bytes.now c.loop.next (c.args.count - c.loop.counter)
-    (omega (arith, c.loop-test.true)) in
-    record { within = omega (arith, within, c.loop.invariant.1, c.requires.within) }
+read_clip-requires c = search (arith, c.loop-test.true, c.loop.invariant.1, c.requires.within, here_within)
 
 pub returns-in_err-clip : goal.returns-in_err-clip
 returns-in_err-clip c =

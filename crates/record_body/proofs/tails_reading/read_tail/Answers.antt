@@ -14,13 +14,7 @@ module _ (layout clips : List Clip) (start : ℕ) (olds : List BlockRef) (same :
   of_layout = sym (are_olds ∙ ap last_blocks same)
 
   near : start + blocks_len olds ≤ 2 ^ 32
-  near = omega (
-    arith,
-    is_start ∙ ap last_start same,
-    ap blocks_len of_layout,
-    end_last 0 layout some,
-    is.few,
-  )
+  near = search (arith, of_layout, end_last)
 
   tail : (l : Limits) (at : ℕ) (bytes : List ℕ) (blocks : List BlockRef) → AllHalfFull l.block_size layout
       → first_failed (tail_tests l start olds at bytes) ≡ None

@@ -11,6 +11,4 @@ overflow_add-len c =
     omega (arith, left, few, c.requires.few, c.clip_len-len.ensures, c.loop-i.invariant)
 
 pub returns-clause-few : goal.returns-clause-few
-returns-clause-few c =
-    let few = clips_few 0 0 c.args.clips.now (omega arith) c.requires.apart in
-    omega (arith, few, c.requires.few, c.loop-i.invariant)
+returns-clause-few c = search (arith, c.requires.apart, c.requires.few, c.loop-i.invariant, clips_few)

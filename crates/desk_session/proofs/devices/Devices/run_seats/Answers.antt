@@ -5,51 +5,30 @@ use Rattle.pin_turn.specs.{Calls.known, declared.view.View.View}
 use Rattle.studio_seats.specs.{declared.deed.Deed.Deed, declared.held.Held.Held, Desks.start_at, Pieces.pieces_by}
 use Rattle.studio_seats.specs.{Shows.IsMixOf, Stands.origin}
 use Rattle.script_reader.specs.Change.{change}
-use Rattle.desk_session.specs.{Lent.lent_by, Opening.play_calls, Opening.record_calls, Sounds.IsPlayed}
-use Rattle.desk_session.specs.{Sounds.IsRecorded, Works.RanScript}
+use Rattle.desk_session.specs.Opening.{play_calls, record_calls}
+use Rattle.desk_session.specs.{Lent.lent_by, Sounds.IsPlayed, Sounds.IsRecorded, Works.RanScript}
 use Rattle.desk_session.proofs.RejoinLemmas.{first_join, rejoined, second_join}
-use Rattle.desk_session.proofs.SeatLemmas.{no_piece, player_goes, recorder_goes}
+use Rattle.desk_session.proofs.SeatLemmas.{no_piece, player_went, recorder_went}
 use Rattle.desk_session.proofs.EndLemmas.{played_all, recorded}
-use Rattle.desk_session.proofs.SideLemmas.{some_any, some_as, where_both, where_two}
+use Rattle.desk_session.proofs.SideLemmas.{some_as, where_both, where_two}
 use Rattle.desk_session.proofs.devices.Devices.run_seats.Goals as goal
 
 pub join-requires-clause-away : goal.join-requires-clause-away
 join-requires-clause-away g c =
     let one = c.split-recorder.ensures in
     let two = c.split-player.ensures in
-    let w = c.run_work-seats.result.0 in
-    let did = c.run_work-seats.result.1 in
     let works = c.run_work-seats.ensures.works in
-    let o = c.args.setting.opened in
-    let h = first_join (record_calls c.args.setting.track o.recording) (play_calls o.pin) (known c.args.seat)
-    (known c.split-recorder.new.seat) (known c.split-recorder.result) (known c.split-player.new.seat)
-    (known c.split-player.result) (known w.script) (known w.recorder) (known c.let_go.new.seat)
-    one.kept.1 one.new.1 one.number two.kept.1 two.new.1 two.number works.goes
-    (recorder_goes o.recording c.args.setting.track _ _
-    (where_both o.recording works.records (λ tag h. h.1.onward) (λ h. h.0)))
-    (player_goes o.pin _ _ _
-    (where_both o.pin works.plays (λ pin h. some_any did.heard h (λ k r. r.1.onward)) (λ h. h.0))
-    (where_both o.pin c.let_go.ensures.goes (λ pin h. h.calls.onward) (λ h. h))) in
+    let h = first_join one.kept.1 one.new.1 one.number two.kept.1 two.new.1 two.number works.goes (recorder_went works)
+    (player_went works _ _ c.let_go.ensures.goes) in
     (h.0, h.1)
 
 pub join-requires-2-clause-away : goal.join-requires-2-clause-away
 join-requires-2-clause-away g c =
     let one = c.split-recorder.ensures in
     let two = c.split-player.ensures in
-    let w = c.run_work-seats.result.0 in
-    let did = c.run_work-seats.result.1 in
     let works = c.run_work-seats.ensures.works in
-    let o = c.args.setting.opened in
-    let h = second_join (record_calls c.args.setting.track o.recording) (play_calls o.pin) (known c.args.seat)
-    (known c.split-recorder.new.seat) (known c.split-recorder.result) (known c.split-player.new.seat)
-    (known c.split-player.result) (known w.script) (known w.recorder) (known c.let_go.new.seat)
-    one.kept.1 one.new.1 one.number two.kept.1 two.new.1 two.number works.goes
-    (recorder_goes o.recording c.args.setting.track _ _
-    (where_both o.recording works.records (λ tag h. h.1.onward) (λ h. h.0)))
-    (player_goes o.pin _ _ _
-    (where_both o.pin works.plays (λ pin h. some_any did.heard h (λ k r. r.1.onward)) (λ h. h.0))
-    (where_both o.pin c.let_go.ensures.goes (λ pin h. h.calls.onward) (λ h. h)))
-    (known c.join.new.seat) c.join.ensures.kept.1 in
+    let h = second_join one.kept.1 one.new.1 one.number two.kept.1 two.new.1 two.number works.goes (recorder_went works)
+    (player_went works _ _ c.let_go.ensures.goes) (known c.join.new.seat) c.join.ensures.kept.1 in
     (h.0, h.1)
 
 pub returns-clause-sat : goal.returns-clause-sat
@@ -69,15 +48,8 @@ returns-clause-sat g c =
     let p = known c.split-player.result in
     let apart : r.seen ≡ v.seen = ap (λ z. z.seen) one.new.1 in
     let seen : p.seen ≡ v.seen = ap (λ z. z.seen) two.new.1 ∙ ap (λ z. z.seen) one.kept.1 in
-    let seats = rejoined (record_calls c.args.setting.track o.recording) (play_calls o.pin) v
-    (known c.split-recorder.new.seat) r (known c.split-player.new.seat) p (known w.script)
-    (known w.recorder)
-    (known c.let_go.new.seat) one.kept.1 one.new.1 one.number two.kept.1 two.new.1 two.number
-    works.goes (recorder_goes o.recording c.args.setting.track _ _
-    (where_both o.recording works.records (λ tag h. h.1.onward) (λ h. h.0)))
-    (player_goes o.pin _ _ _
-    (where_both o.pin works.plays (λ pin h. some_any did.heard h (λ k r. r.1.onward)) (λ h. h.0))
-    (where_both o.pin c.let_go.ensures.goes (λ pin h. h.calls.onward) (λ h. h)))
+    let seats = rejoined one.kept.1 one.new.1 one.number two.kept.1 two.new.1 two.number works.goes
+    (recorder_went works) (player_went works _ _ c.let_go.ensures.goes)
     (known c.join.new.seat) (known c.join-2.new.seat) c.join.ensures.kept.1 c.join-2.ensures.kept.1
     c.join.ensures.alike c.join-2.ensures.alike in
     record {

@@ -12,7 +12,7 @@ use Rattle.editor_core.proofs.studio.Studio.write_blocks.Given.{Over}
 use Rattle.editor_core.proofs.studio.Studio.write_blocks.Goals.{After-write_one-arg-in-rows-1}
 use Rattle.editor_core.proofs.studio.Studio.write_blocks.Goals as goal
 
--- the block that is next, and what is asked of it
+-- the block that is next, and that it is ready
 here : (g : Over) (c : goal.After-write_one-arg-in-rows-1 g)
     → slice_get c.args.makes.now c.rows.block-index ≡ Some c.block-item.result
 here g c =

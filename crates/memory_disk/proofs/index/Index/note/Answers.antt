@@ -1,6 +1,6 @@
 -- One call more.
-use Rattle.memory_disk.proofs.Common.{◌≡◌, ℕ, None, Some, List, set, refl, subst, ap, ◌∙◌, arith, vec_len, MakesFile}
-use Rattle.memory_disk.proofs.Common.{reads_at, file_at, no_call, head_of, size_from, Head}
+use Rattle.memory_disk.proofs.Common.{ℕ, List, set, refl, ap, ◌∙◌, arith, vec_len, MakesFile}
+use Rattle.memory_disk.proofs.Common.{reads_at, file_at, no_call}
 use Rattle.std.specs.{Prelude.Vec, declared.alloc.Global.Global}
 use Rattle.memory_disk.proofs.CallsLemmas.{held_at}
 use Rattle.memory_disk.proofs.Noted.{within_links, noted_follow, noted_made, noted_absent, makes}
@@ -11,8 +11,7 @@ use Rattle.memory_disk.proofs.index.Index.note.Goals as goal
 makes_file : (c : In-Some-size_after) → MakesFile (reads_at c.args.row.now c.args.calls.now) (file_at c.args.calls.now)
     (vec_len c.args.self.now.links)
 makes_file c =
-    let none = subst (λ (l : List Head). size_from (head_of l (file_at c.args.calls.now c.len-at.result)) ≡ None)
-    c.deref.ensures.value (c.in-None.ensures.absent refl) in
+    let none = rw c.deref.ensures.value at (c.in-None.ensures.absent refl) in
     makes c.args.row.now c.args.calls.now c.len-at.result _ c.len-at.ensures (omega arith) _ _ c.requires.indexed
     c.in-Some-size_after.size none c.in-Some-size_after.ensures.size
 
@@ -24,16 +23,14 @@ size_after-requires c = held_at _ c.args.calls.now _ no_call (omega arith) c.req
 
 pub follow-requires-clause-within : goal.follow-requires-clause-within
 follow-requires-clause-within c =
-    let found = subst (λ (l : List Head). head_of l (file_at c.args.calls.now c.len-at.result) ≡ Some c.in-Some.head)
-    c.deref.ensures.value c.in-Some.ensures.there.0 in
+    let found = rw c.deref.ensures.value at c.in-Some.ensures.there.0 in
     let within = within_links c.args.row.now c.args.calls.now c.len-at.result _ c.len-at.ensures
     (omega arith) _ _ c.requires.indexed c.in-Some.head found c.in-Some.ensures.there.1 in
     omega (arith, within)
 
 pub returns-in-Some-clause-indexed : goal.returns-in-Some-clause-indexed
 returns-in-Some-clause-indexed c =
-    let found = subst (λ (l : List Head). head_of l (file_at c.args.calls.now c.len-at.result) ≡ Some c.in-Some.head)
-    c.deref.ensures.value c.in-Some.ensures.there.0 in
+    let found = rw c.deref.ensures.value at c.in-Some.ensures.there.0 in
     noted_follow c.args.row.now c.args.calls.now c.len-at.result _ c.len-at.ensures (omega arith) _ _ c.requires.indexed
     c.follow.new.self.heads.items _
     c.follow.new.self.links.items c.in-Some.head c.size_after-size.result found c.in-Some.ensures.there.1
@@ -43,8 +40,7 @@ returns-in-Some-clause-indexed c =
 
 pub returns-in_ok-make-in-Some-size_after-clause-indexed : goal.returns-in_ok-make-in-Some-size_after-clause-indexed
 returns-in_ok-make-in-Some-size_after-clause-indexed c =
-    let none = subst (λ (l : List Head). size_from (head_of l (file_at c.args.calls.now c.len-at.result)) ≡ None)
-    c.deref.ensures.value (c.in-None.ensures.absent refl) in
+    let none = rw c.deref.ensures.value at (c.in-None.ensures.absent refl) in
     let after = c.in_ok-make-in-Some-size_after.ensures in
     noted_made c.args.row.now c.args.calls.now c.len-at.result _ c.len-at.ensures (omega arith) _ _ c.requires.indexed
     c.make.new.self.heads.items _ c.make.new.self.links.items c.in-Some-size_after.size none
@@ -67,7 +63,6 @@ returns-in_err-make-in-Some-size_after-clause-files c = λ not.
 
 pub returns-in-None-size_after-clause-indexed : goal.returns-in-None-size_after-clause-indexed
 returns-in-None-size_after-clause-indexed c =
-    let none = subst (λ (l : List Head). size_from (head_of l (file_at c.args.calls.now c.len-at.result)) ≡ None)
-    c.deref.ensures.value (c.in-None.ensures.absent refl) in
+    let none = rw c.deref.ensures.value at (c.in-None.ensures.absent refl) in
     noted_absent c.args.row.now c.args.calls.now c.len-at.result _ c.len-at.ensures (omega arith) _ _ c.requires.indexed
     _ c.push.new.self.items none c.in-None-size_after.ensures.size c.in_ok-push.ensures.items

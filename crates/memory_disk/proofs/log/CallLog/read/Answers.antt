@@ -1,20 +1,18 @@
 -- The file's own calls, where it is there.
-use Rattle.memory_disk.proofs.Common.{◌≡◌, ◌++◌, ◌-◌, ℕ, Option, Some, None, List, length, min, take, drop, refl, sym}
-use Rattle.memory_disk.proofs.Common.{subst, ap, ◌∙◌, arith, bytes_of, reads_of, head_of, size_from, Log, Head}
-use Rattle.memory_disk.proofs.ReadChain.{absent_read, reads_seen, head_seen}
+use Rattle.memory_disk.proofs.Common.{◌≡◌, ◌++◌, ◌-◌, ℕ, Option, None, List, length, min, take, drop, refl, sym}
+use Rattle.memory_disk.proofs.Common.{ap, ◌∙◌, arith, bytes_of, reads_of, Log}
+use Rattle.memory_disk.proofs.ReadChain.{absent_read, reads_seen}
 use Rattle.memory_disk.proofs.log.CallLog.read.Goals as goal
 
 pub read_part-requires-clause-head : goal.read_part-requires-clause-head
 read_part-requires-clause-head c =
-    let found = subst (λ (l : List Head). head_of l c.args.file ≡ Some c.in-Some.head) c.deref.ensures.value
-    c.in-Some.ensures.there.0 in
-    head_seen _ _ _ _ _ _ c.in-Some.head c.deref-in-Some-2.ensures.value c.deref-in-Some.ensures.value
-    c.deref-in-Some-3.ensures.value (c.self.invariant.indexed.known c.args.file c.in-Some.head found).1
+    let found = rw c.deref.ensures.value at c.in-Some.ensures.there.0 in
+    rw (c.deref-in-Some-2.ensures.value, c.deref-in-Some.ensures.value, c.deref-in-Some-3.ensures.value)
+    (c.self.invariant.indexed.known c.args.file c.in-Some.head found).1
 
 pub returns-in-None-clause-count : goal.returns-in-None-clause-count
 returns-in-None-clause-count c =
-    let none = subst (λ (l : List Head). size_from (head_of l c.args.file) ≡ None) c.deref.ensures.value
-    (c.in-None.ensures.absent refl) in
+    let none = rw c.deref.ensures.value at (c.in-None.ensures.absent refl) in
     let absent : reads_of c.args.self.now.history c.args.file ≡ None =
     ap (λ (log : Log). reads_of log.history c.args.file) (sym c.self.view_is)
     ∙ absent_read _ _ _ _ c.self.invariant.indexed c.args.file none in
@@ -22,8 +20,7 @@ returns-in-None-clause-count c =
 
 pub returns-in-Some : goal.returns-in-Some
 returns-in-Some c =
-    let found = subst (λ (l : List Head). head_of l c.args.file ≡ Some c.in-Some.head) c.deref.ensures.value
-    c.in-Some.ensures.there.0 in
+    let found = rw c.deref.ensures.value at c.in-Some.ensures.there.0 in
     let same = reads_seen _ _ _ _ _ _ c.deref-in-Some-2.ensures.value c.deref-in-Some.ensures.value
     (c.self.invariant.indexed.known c.args.file c.in-Some.head found).0
     ∙ ap (λ (log : Log). reads_of log.history c.args.file) c.self.view_is in record {

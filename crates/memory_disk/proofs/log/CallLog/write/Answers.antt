@@ -3,7 +3,7 @@ use Rattle.memory_disk.proofs.Common.{◌≡◌, ◌+◌, ◌-◌, ◌∷◌, �
 use Rattle.memory_disk.proofs.Common.{vec_len, Step, Wrote, reads_of, history_of, MakesFile, reads_at, file_at, Log}
 use Rattle.memory_disk.proofs.Common.{files_after}
 use Rattle.memory_disk.specs.{Ram.with_write}
-use Rattle.memory_disk.proofs.Grown.{on_ok, indexed_grown, indexed_seen, makes_seen, made_absent}
+use Rattle.memory_disk.proofs.Grown.{on_ok, indexed_grown, made_absent}
 use Rattle.memory_disk.proofs.Places.{size_none, not_both, heads_fit, files_are, full_files, not_full}
 use Rattle.memory_disk.proofs.log.CallLog.write.Goals as goal
 
@@ -19,10 +19,9 @@ pub note-requires-clause-indexed : goal.note-requires-clause-indexed
 note-requires-clause-indexed c =
     let was = c.self.invariant in
     let written = c.note_write.ensures.room (omega (arith, was.calls)) (omega (arith, was.bytes)) in
-    indexed_seen c.note_write.new.row.items c.deref-2.result.now c.note_write.new.calls.items c.deref.result.now
-    (length c.self.inside.calls.items) _ _ _ c.deref-2.ensures.value c.deref.ensures.value
-    (omega (arith, was.indexed.long))
-    (indexed_grown _ _ _ _ was.held (on_ok c.note_write.result written c.note_write.ensures.kept)
+    let seen : vec_len c.self.inside.index.links ≡ length c.self.inside.calls.items = omega (arith, was.indexed.long) in
+    rw (c.deref-2.ensures.value, c.deref.ensures.value, seen) (indexed_grown _ _ _ _ was.held
+    (on_ok c.note_write.result written c.note_write.ensures.kept)
     (on_ok c.note_write.result written c.note_write.ensures.earlier) _ _ was.indexed)
 
 pub invariant_of-self-2 : goal.invariant_of-self-2
@@ -39,12 +38,13 @@ invariant_of-self-2 c =
     let bytes = on_ok c.note_write.result written c.note_write.ensures.bytes in
     let file = on_ok c.note_write.result written c.note_write.ensures.file in
     let long : length more ≡ length calls + 1 = omega (arith, count) in
+    let seen : vec_len c.self.inside.index.links ≡ length calls = omega (arith, was.indexed.long) in
+    let all : vec_len c.self.inside.index.links + 1 ≡ length more = omega (arith, long, seen) in
     let absent : MakesFile (reads_at c.deref-2.result.now c.deref.result.now) (file_at c.deref.result.now)
     (vec_len c.self.inside.index.links) → reads_of c.args.self.now.history c.args.file ≡ None =
     λ makes. ap (λ (log : Log). reads_of log.history c.args.file) (sym c.self.view_is)
     ∙ made_absent row longer calls more was.held kept earlier c.args.file file
-    (makes_seen longer c.deref-2.result.now more c.deref.result.now
-    (length calls) _ c.deref-2.ensures.value c.deref.ensures.value (omega (arith, was.indexed.long)) makes) in
+    (rw (c.deref-2.ensures.value, c.deref.ensures.value, seen) at makes) in
     let place : MakesFile (reads_at c.deref-2.result.now c.deref.result.now) (file_at c.deref.result.now)
     (vec_len c.self.inside.index.links) → c.self.inside.files_left ≡ c.take_place.new.files_left + 1 =
     λ makes. c.in_ok-take_place.ensures.absent (size_none _ c.size.result c.size.ensures.size (absent makes)) in
@@ -60,8 +60,7 @@ invariant_of-self-2 c =
           (λ some. c.note.ensures.files
           (λ makes. not_both c.size.result some (size_none _ c.size.result c.size.ensures.size (absent makes))));
       links = omega (arith, was.links, links, c.note.ensures.links_room);
-      indexed = indexed_seen c.deref-2.result.now longer c.deref.result.now more _ (length more) _ _
-          (sym c.deref-2.ensures.value) (sym c.deref.ensures.value) (omega (arith, long, was.indexed.long))
+      indexed = rw (c.deref-2.ensures.value, c.deref.ensures.value, all) at
           (on_ok c.note.result noted c.note.ensures.indexed);
     }
 

@@ -37,12 +37,12 @@ returns-in-Ok-clause-turn g c =
     (ok_turn g.S.Store g.V.Vault (start_at s.desk.now) (known s.seat) (known c.apply-at.new.seat) c.args.command.now
     (g.V.Vault.tells s.vault.now) (g.V.Vault.holds s.vault.now) (g.V.Vault.holds c.apply-at.new.vault)
     (g.V.Vault.fault_count s.vault.now) (g.V.Vault.fault_count c.apply-at.new.vault)
-    c.apply-at.new.answer.reply c.apply-at.result s.last s.commits.items c.note.new.numbers.items c.in-Ok.is
-    c.apply-at.ensures.says s.low
-    (c.note.ensures ∙ (λ i. with_number ((c.is_commit.ensures ∙ one_line (is_commit (shape_of c.args.command.now))) i)
-    (c.reserve.ensures.items i) c.apply-at.result.at)) c.apply-at.ensures.heard c.apply-at.ensures.faults
+    c.apply-at.new.answer.reply c.apply-at.result s.last s.commits.items c.apply-at.ensures.says s.low
+    c.apply-at.ensures.heard c.apply-at.ensures.faults
     (λ none. ap g.V.Vault.fault_count (c.apply-at.ensures.untouched none))
-    (turn_of c.args.command.now c.in_default.not-Bounce))
+    (turn_of c.args.command.now c.in_default.not-Bounce) c.note.new.numbers.items c.in-Ok.is
+    (c.note.ensures ∙ (λ i. with_number ((c.is_commit.ensures ∙ one_line (is_commit (shape_of c.args.command.now))) i)
+    (c.reserve.ensures.items i) c.apply-at.result.at)))
 
 pub returns-in-Err-clause-turn : goal.returns-in-Err-clause-turn
 returns-in-Err-clause-turn g c =
@@ -51,11 +51,11 @@ returns-in-Err-clause-turn g c =
     (err_turn g.S.Store g.V.Vault (start_at s.desk.now) (known s.seat) (known c.apply-at.new.seat) c.args.command.now
     (g.V.Vault.tells s.vault.now) (g.V.Vault.holds s.vault.now) (g.V.Vault.holds c.apply-at.new.vault)
     (g.V.Vault.fault_count s.vault.now) (g.V.Vault.fault_count c.apply-at.new.vault)
-    c.apply-at.new.answer.reply c.in-Err.reason c.apply-at.result s.last s.commits.items c.in-Err.is
-    c.apply-at.ensures.says s.low c.apply-at.ensures.heard
-    (λ used. let same = (c.apply-at.ensures.spent used).1 in (ap g.V.Vault.holds same, ap g.V.Vault.fault_count same))
-    c.apply-at.ensures.faults (λ none. ap g.V.Vault.fault_count (c.apply-at.ensures.untouched none))
-    (turn_of c.args.command.now c.in_default.not-Bounce))
+    c.apply-at.new.answer.reply c.apply-at.result s.last s.commits.items c.apply-at.ensures.says s.low
+    c.apply-at.ensures.heard c.apply-at.ensures.faults
+    (λ none. ap g.V.Vault.fault_count (c.apply-at.ensures.untouched none))
+    (turn_of c.args.command.now c.in_default.not-Bounce) c.in-Err.reason c.in-Err.is
+    (λ used. let same = (c.apply-at.ensures.spent used).1 in (ap g.V.Vault.holds same, ap g.V.Vault.fault_count same)))
 
 pub returns-in-Ok-clause-goes : goal.returns-in-Ok-clause-goes
 returns-in-Ok-clause-goes g c = λ first h.

@@ -1,6 +1,6 @@
 -- The studio made the call, so the turn made the list longer by its deed.
-use Rattle.studio_seats.proofs.Common.{◌≡◌, ◌∙◌, refl, ap, sym, subst, IfErr, Answer, Refused, Line, Heard}
-use Rattle.studio_seats.proofs.Common.{name_in_line, start_of, move_of, as_reply}
+use Rattle.studio_seats.proofs.Common.{◌≡◌, ◌∙◌, ap, sym, subst, IfErr, Answer, Refused, Line, Heard}
+use Rattle.studio_seats.proofs.Common.{name_in_line, start_of, asked, move_of, as_reply}
 use Rattle.editor_state.specs.{Vaults.VaultCounted}
 use Rattle.studio_seats.proofs.Lines.{does_line, heard_still, refused_reply}
 use Rattle.studio_seats.proofs.Turns.{either_way, fits, if_taken, is_studio, says}
@@ -19,18 +19,17 @@ with-requires-clause-fits g c =
 pub returns-clause-says : goal.returns-clause-says
 returns-clause-says g c =
     says g.S.Store g.V.Vault _ _ _ _ (λ _. Line c.args.command.now) (λ s f'. as_reply (λ _. f'.3.now.reply) s.what)
-    (λ f'. move_of (name_in_line c.args.command.now) (g.V.Vault.holds c.args.vault.now) (g.V.Vault.holds f'.1.now)) _ _
-    (λ s. as_reply (λ _. c.answer-1.given.0.reply) s.what)
-    (move_of (name_in_line c.args.command.now) (g.V.Vault.holds c.args.vault.now) (g.V.Vault.holds c.vault-1.given.0)) _
-    _ _ c.with.ensures.turned c.said_by.ensures
+    (λ f'. move_of (name_in_line c.args.command.now) (g.V.Vault.holds c.args.vault.now) (g.V.Vault.holds f'.1.now)) _
+    (λ s. asked (Line c.args.command.now) (as_reply (λ _. c.answer-1.given.0.reply) s.what)
+    (move_of (name_in_line c.args.command.now) (g.V.Vault.holds c.args.vault.now) (g.V.Vault.holds c.vault-1.given.0)))
+    _ _ _ c.with.ensures.turned c.said_by.ensures
     (λ s x x' called. record {
       does = does_line g.S.Store _ _ _ _ _ (λ all. all c.args.vault.now) called.called.met.1.0;
       number = called.called.met.1.1.0;
-      call_is = refl;
-      what_is =
-          ap (λ (z : Answer). as_reply (λ _. z.reply) s.what) (sym (c.answer-1.given.1 (sym called.called.met.0.3)));
-      sound_is = ap (λ (z : _). move_of (name_in_line c.args.command.now) (g.V.Vault.holds c.args.vault.now)
-          (g.V.Vault.holds z)) (sym (c.vault-1.given.1 (sym called.called.met.0.1)));
+      is = λ i. asked (Line c.args.command.now)
+          (as_reply (λ _. (sym (c.answer-1.given.1 (sym called.called.met.0.3)) i).reply) s.what)
+          (move_of (name_in_line c.args.command.now) (g.V.Vault.holds c.args.vault.now)
+          (g.V.Vault.holds (sym (c.vault-1.given.1 (sym called.called.met.0.1)) i)));
     })
 
 pub returns-clause-commit : goal.returns-clause-commit

@@ -1,6 +1,5 @@
 -- The deed of the turn.
-use Rattle.studio_seats.proofs.Common.{ℕ, Loaded, LoadPin, known, tracks_in, as_reply}
-use Rattle.studio_seats.proofs.Turns.{quiet}
+use Rattle.studio_seats.proofs.Common.{ℕ, Loaded, LoadPin, known, tracks_in, as_reply, quiet}
 use Rattle.studio_seats.proofs.desk.Desk.load_pin.Given as goal
 
 abbrev pub ghosts-with : goal.ghosts-with

@@ -1,6 +1,5 @@
 -- The deed of the turn.
-use Rattle.studio_seats.proofs.Common.{Done, Unpin, known, as_reply}
-use Rattle.studio_seats.proofs.Turns.{quiet}
+use Rattle.studio_seats.proofs.Common.{Done, Unpin, known, as_reply, quiet}
 use Rattle.studio_seats.proofs.desk.Desk.unpin.Given as goal
 
 abbrev pub ghosts-with : goal.ghosts-with

@@ -1,9 +1,9 @@
 -- The pieces of some chunks are one turn of the seat, and a reclaim after it another.
-use Rattle.studio_seats.proofs.Common.{◌≡◌, ◌+◌, ◌-◌, ◌≤◌, List, ℤ, ℕ, Bool, take, sym, ◌∙◌, subst, false, arith, IfErr}
-use Rattle.studio_seats.proofs.Common.{IfOk, is_err, Done, Piece, known, silent, as_reply, AreTaken, samples_of, Says}
-use Rattle.studio_seats.proofs.Common.{asked, start_at, views, pieces_by, RecordsOn, recorder, origin}
+use Rattle.studio_seats.proofs.Common.{◌≡◌, ◌+◌, ◌-◌, ◌≤◌, List, ℤ, ℕ, Bool, take, sym, ◌∙◌, subst, false, arith}
+use Rattle.studio_seats.proofs.Common.{IfErr, IfOk, is_err, Done, Piece, known, silent, as_reply, AreTaken, samples_of}
+use Rattle.studio_seats.proofs.Common.{Says, asked, start_at, views, pieces_by, RecordsOn, recorder, origin}
 use Rattle.studio_seats.proofs.Batches.{are_taken, if_ok_as, taken_err, taken_is_err, taken_ok, taken_on, tried_first}
-use Rattle.studio_seats.proofs.PieceLemmas.{tagged, takes_err, takes_ok}
+use Rattle.studio_seats.proofs.PieceLemmas.{tagged, takes_both}
 use Rattle.studio_seats.proofs.RecordingLemmas.{number_free, pieces_free, records_free, records_turn}
 use Rattle.studio_seats.proofs.taker.DeskTakerPieceTaker.take_pieces.Goals as goal
 
@@ -49,19 +49,19 @@ returns-clause-taken g c =
     let old = pieces_by s.track s.tag (known s.seat).number number (known s.seat).seen in
     let new = pieces_by s.track s.tag end.number number end.seen in
     let same = pieces_free s.track s.tag mid end false _ _ number c.count_pieces-self.ensures.frees in
-    taken_ok tried.said.what c.taken_of-what.result c.pieces_in-pieces.result c.taken_of-what.ensures
+    taken_ok c.taken_of-what.result c.pieces_in-pieces.result tried.said.what c.taken_of-what.ensures
     (AreTaken old (samples_of c.args.chunks.now) new)
     (subst (λ (n : ℕ). IfOk tried.said.what (λ (last : ℕ).
     AreTaken old (samples_of c.args.chunks.now) new record { count = n; last = last }))
     (sym c.pieces_in-pieces.ensures)
     (if_ok_as tried.said.what _ _
     (λ last h. are_taken old new c.args.chunks.now samples _ (64 - s.since) last first h.1 (same ∙ h.0))
-    (takes_ok g.S.Store g.V.Vault (start_at s.desk.now) s.track s.tag samples (known s.seat) mid tried.said
-    c.pieces-tried.ensures.says c.pieces-tried.ensures.number)))
+    (takes_both g.S.Store g.V.Vault (start_at s.desk.now) s.track s.tag samples (known s.seat) mid tried.said
+    c.pieces-tried.ensures.says c.pieces-tried.ensures.number).0))
 
 pub returns-clause-unrefused : goal.returns-clause-unrefused
-returns-clause-unrefused g c = taken_on c.pieces-tried.result.said.what c.taken_of-what.result c.pieces_in-pieces.result
-    c.taken_of-what.ensures _ c.first_of-self.ensures.unrefused
+returns-clause-unrefused g c = taken_on c.taken_of-what.result c.pieces_in-pieces.result
+    c.pieces-tried.result.said.what c.taken_of-what.ensures _ c.first_of-self.ensures.unrefused
 
 pub returns-clause-left : goal.returns-clause-left
 returns-clause-left g c =
@@ -71,16 +71,16 @@ returns-clause-left g c =
     let samples : List ℤ = take tried.count (take c.join_chunks-joined.result c.join_chunks-joined.new.batch) in
     let mid = known c.pieces-tried.new.seat in
     let end = known c.count_pieces-self.new.seat in
-    taken_err tried.said.what c.taken_of-what.result c.pieces_in-pieces.result c.taken_of-what.ensures _
+    taken_err c.taken_of-what.result c.pieces_in-pieces.result tried.said.what c.taken_of-what.ensures _
     (subst (λ (l : List (List ℤ × ℕ)). IfErr tried.said.what (λ reason.
     l ≡ pieces_by s.track s.tag (known s.seat).number number (known s.seat).seen))
     (sym (pieces_free s.track s.tag mid end false _ _ number c.count_pieces-self.ensures.frees))
-    (takes_err g.S.Store g.V.Vault (start_at s.desk.now) s.track s.tag samples (known s.seat) mid tried.said
-    c.pieces-tried.ensures.says c.pieces-tried.ensures.number))
+    (takes_both g.S.Store g.V.Vault (start_at s.desk.now) s.track s.tag samples (known s.seat) mid tried.said
+    c.pieces-tried.ensures.says c.pieces-tried.ensures.number).1)
 
 pub returns-clause-refusal : goal.returns-clause-refusal
-returns-clause-refusal g c = taken_err c.pieces-tried.result.said.what c.taken_of-what.result c.pieces_in-pieces.result
-    c.taken_of-what.ensures _ c.first_of-self.ensures.refusal
+returns-clause-refusal g c = taken_err c.taken_of-what.result c.pieces_in-pieces.result
+    c.pieces-tried.result.said.what c.taken_of-what.ensures _ c.first_of-self.ensures.refusal
 
 pub returns-clause-goes : goal.returns-clause-goes
 returns-clause-goes g c = λ first h.
@@ -107,7 +107,7 @@ returns-clause-goes g c = λ first h.
           (subst (λ (b : Bool). RecordsOn first.track first.tag false b
           (recorder (known first.seat) first.refused first.since)
           (recorder mid c.first_of-self.result (s.since + c.pieces_in-pieces.result)))
-          (sym (taken_is_err said.what c.taken_of-what.result c.pieces_in-pieces.result c.taken_of-what.ensures))
+          (sym (taken_is_err c.taken_of-what.result c.pieces_in-pieces.result said.what c.taken_of-what.ensures))
           (records_turn first.track first.tag g.S.Store g.V.Vault (start_at s.desk.now)
           (recorder (known first.seat) first.refused first.since) (known s.seat) mid s.refused c.first_of-self.result
           s.since c.pieces_in-pieces.result samples many few h.3 said named c.first_of-self.ensures.unrefused
