@@ -14,8 +14,8 @@ ghost use Rattle.block_cache.specs.Caches.{HasFrames, IsCacheOf, KeepsCache, Sam
 
 use super::cache::Cache;
 use super::headers::compare_kept;
+use super::joins::join_all;
 use super::keys::frame_key;
-use super::pages::join_all;
 use block_store::{BlockFault, Level, read_compared_frames};
 use disk_model::Store;
 use pcm_base::BlockRef;

@@ -13,6 +13,7 @@ mod cache;
 mod drops;
 mod frames;
 mod headers;
+mod joins;
 mod keys;
 mod pages;
 mod parts;

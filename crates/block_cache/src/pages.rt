@@ -7,9 +7,10 @@ ghost use Rattle.peak_summary.specs.declared.stretch.Summary.{Summary as summary
 ghost use Rattle.block_cache.specs.declared.keys.PageKey.{PageKey as key_of};
 ghost use Rattle.block_cache.specs.Entries.{HasKey, SameEntries, IsWithout};
 
+use super::joins::join_all;
 use super::keys::PageKey;
 use lru::LruCache;
-use peak_summary::{Summary, join};
+use peak_summary::Summary;
 
 /// Copies items of a page from a number on, as many as `out` holds, where the page is there, and answers whether it
 /// is. It is then the one that was used last.
@@ -33,17 +34,6 @@ pub(crate) fn copy_page<T: Copy + Drop>(
         }
         None => false,
     }
-}
-
-/// The summary of stretches that follow one another, after what is before them.
-pub(crate) fn join_all(before: Summary, frames: &[Summary]) -> Summary
-    ensures { result ≡ fold joined before frames.now }
-{
-    let mut all = before;
-    for frame in frames {
-        all = join(all, *frame);
-    }
-    all
 }
 
 /// Joins frames of a page from a number on, where the page is there, as `copy_page` copies them: they stay where they

@@ -65,7 +65,7 @@ trimmed-gap_clip zero s ys e = e
 trimmed-gap_clip (suc zero) s ys e = ap (joined cell.Gap) e
 trimmed-gap_clip (suc (suc g)) s ys e = ap (joined cell.Gap) (trimmed-gap_clip (suc g) s ys e)
 
-trimmed-clip : (g : ℕ) (ss : List ℤ) (rest : List Cell) → 0 < length ss → trimmed rest ≡ rest
+pub trimmed-clip : (g : ℕ) (ss : List ℤ) (rest : List Cell) → 0 < length ss → trimmed rest ≡ rest
     → trimmed (replicate g cell.Gap ++ map cell.Sample ss ++ rest) ≡ replicate g cell.Gap ++ map cell.Sample ss ++ rest
 trimmed-clip g [] rest h e = absurd (omega arith)
 trimmed-clip g (s ∷ ss) rest h e =

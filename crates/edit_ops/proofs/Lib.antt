@@ -10,3 +10,7 @@ mod Rows
 pub mod RunLists
 pub mod StripCells
 pub mod Tame
+pub mod WindowBlocks
+pub mod WindowCells
+pub mod WindowEdits
+pub mod WindowPlans

@@ -217,7 +217,7 @@ old_first : (old bs : List BlockRef) (b : BlockRef) (ns : List NewBlock) → Con
 old_first old bs b [] h k = (h, k)
 old_first old bs b (n ∷ ns) h k = inl (h, k)
 
-old_or_new_append : (old bs cs : List BlockRef) (ks ns : List NewBlock) → AreOldOrNew old bs ks → AreOldOrNew old cs ns
+pub old_or_new_append : (old bs cs : List BlockRef) (ks ns : List NewBlock) → AreOldOrNew old bs ks → AreOldOrNew old cs ns
     → AreOldOrNew old (bs ++ cs) (ks ++ ns)
 old_or_new_append old [] cs [] ns h k = k
 old_or_new_append old [] cs (x ∷ ks) ns h k = absurd h

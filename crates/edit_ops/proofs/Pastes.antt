@@ -14,7 +14,7 @@ use Rattle.edit_ops.proofs.StripCells.{cells_front, rest_cells}
 use Rattle.edit_ops.proofs.Tame.{Tame, ItemsFrom-append, ItemsFrom-part, ItemsFrom-gap}
 
 -- more blocks to come from
-piece_from_more : (old more : List BlockRef) (count : ℕ) (p : Piece)
+pub piece_from_more : (old more : List BlockRef) (count : ℕ) (p : Piece)
     → ((b : BlockRef) → Contains old b → Contains more b) → IsFrom old count p → IsFrom more count p
 piece_from_more old more count (Old b from to) g f = g b f
 piece_from_more old more count (Scaled b from to gain) g f = g b f

@@ -4,3 +4,4 @@ pub mod Placing
 pub mod Plans
 pub mod Runs
 pub mod Strips
+pub mod Windows

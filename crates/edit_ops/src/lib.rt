@@ -19,6 +19,7 @@ mod run_refusals;
 mod runs;
 mod strips;
 mod types;
+mod windows;
 
 pub use one_track::{edit_range, insert};
 pub use planner::{Planner, RunPlanner};

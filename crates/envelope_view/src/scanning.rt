@@ -45,13 +45,14 @@ fn scan_columns<S: Store>(
         rest: layout.rest(from),
     };
     let mut known = None;
+    let mut begin = from;
     'rows: for i in 0..columns {
-        let begin = edge(from, to, columns, i);
         let end = edge(from, to, columns, i + 1);
         let count = end - begin;
         let reach = count.saturating_sub(1).min(to - end);
         let summary = sweep(reader, &mut known, &mut ahead, count, reach)?;
         scans.push(scan(summary))?;
+        begin = end;
     }
     Ok(scans)
 }

@@ -88,7 +88,7 @@ fn read_once<S: Store>(
     read_track(reader, &mut left, track, from, out)
 }
 
-/// Whether what is heard of a track stands in its place already: it has a part of some samples there.
+/// Whether what is heard of a track stands in its place already: its first part, of number `i`, has some samples there.
 fn is_put(parts: &[Part], i: usize, at: usize) -> bool
     ensures { (d : part_of) → result ≡ true
         → (i < length parts.now) × (0 < (slice_index_or parts.now i d).len) × ((slice_index_or parts.now i d).to ≡ at) }
@@ -138,7 +138,7 @@ fn read_before<S: Store>(
 }
 
 /// Reads a stretch of `len` samples of each track that is heard from a place on, one after the other, but for those that
-/// stand in their place already by a part of some samples.
+/// stand in their place already by parts of some samples.
 fn read_tracks<S: Store>(
     reader: &mut BlockReader<S>,
     point: &Point,
@@ -162,7 +162,7 @@ fn read_tracks<S: Store>(
     'rows: while 0 < i {
         i -= 1;
         let track = point.track_at(i);
-        let is_there = is_put(parts, i, end.saturating_sub(len));
+        let is_there = is_put(parts, 2 * i, end.saturating_sub(len));
         match read_before(reader, track, from, len, end, is_there, samples) {
             Ok(at) => end = at,
             Err(fault) => return Err(fault),
@@ -171,9 +171,9 @@ fn read_tracks<S: Store>(
     Ok(())
 }
 
-/// Reads a stretch of `len` samples of each track that is heard from a place on. Those that lie within one block each are
-/// read together, in one call of the store, and then the others. Where a file has not all that it is asked for then,
-/// each track is read by itself, which tells what is wrong.
+/// Reads a stretch of `len` samples of each track that is heard from a place on. Those that lie within one block each,
+/// or in one and the next, are read together, in one call of the store, and then the others. Where a file has not all
+/// that it is asked for then, each track is read by itself, which tells what is wrong.
 fn read_heard<S: Store>(
     reader: &mut BlockReader<S>,
     point: &Point,

@@ -41,8 +41,7 @@ module _ {used_up : Bool} {pin : ℕ} where
       by : (r : Result ℕ Refusal) → LoadsEnd used_up pin most len h.place r h.last → Each (OfPin pin) h.last
       by (Ok bytes) e = subst (λ (l : List Deed). Each (OfPin pin) l) (sym e.0) tt
       by (Err why) (inl e) = refused_pin (inr (inl (h.place, most, refl))) e
-      by (Err why) (inr (is, inl none)) = subst (λ (l : List Deed). Each (OfPin pin) l) (sym none) tt
-      by (Err why) (inr (is, inr (other, e))) = refused_pin (inr (inl (h.place, most, refl))) e
+      by (Err why) (inr (is, none)) = subst (λ (l : List Deed). Each (OfPin pin) l) (sym none) tt
 
   reads_pin : (most : ℕ) (what : Result ℕ Refusal) (ds : List Deed) → ReadsPin used_up pin most what ds
       → Each (OfPin pin) ds

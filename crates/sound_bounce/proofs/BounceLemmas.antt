@@ -28,8 +28,7 @@ module _ {a b : Bool} (later : a ≡ true → b ≡ true) where
       → LoadsEnd a pin batch len place what ds → LoadsEnd b pin batch len place what ds
   end_later pin batch len place (Ok x) ds h = h
   end_later pin batch len place (Err why) ds (inl h) = inl (refused_later h)
-  end_later pin batch len place (Err why) ds (inr (is, inl none)) = inr (is, inl none)
-  end_later pin batch len place (Err why) ds (inr (is, inr (other, h))) = inr (is, inr (other, refused_later h))
+  end_later pin batch len place (Err why) ds (inr h) = inr h
 
   reads_later : (pin batch : ℕ) (what : Result ℕ Refusal) (ds : List Deed) → ReadsPin a pin batch what ds
       → ReadsPin b pin batch what ds

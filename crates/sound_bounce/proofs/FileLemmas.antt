@@ -50,7 +50,7 @@ module _ {D V : Type 0} {disk : Ghosts D} (ghosts : vault.Ghosts V) (name : List
   file_refused v a b why not long failed others tells = record {
     onward = onward_self (IsLoadOf pin) v;
     loads = ⊎_elim
-        (λ x. inl (record { place = 0; loads = []; last = []; are = refl; reads = refl; ends = inr (x.0, inl refl) }))
+        (λ x. inl (record { place = 0; loads = []; last = []; are = refl; reads = refl; ends = inr (x.0, refl) }))
         (λ x. inr (refl, x.1, ap Err x.0)) not;
     holds = λ told. record {
       written = tt;

@@ -79,12 +79,13 @@ pub length_on : (xs ys : List Deed) → length_in (xs ++ ys) ≡ length_in xs + 
 length_on [] ys = omega arith
 length_on (x ∷ xs) ys = omega (arith, length_on xs ys)
 
+-- the bytes of frames after others
+pub bytes_parts : (xs ys : List Frame) → frame_bytes (xs ++ ys) ≡ frame_bytes xs ++ frame_bytes ys
+bytes_parts xs ys = flat_map-append bytes_of_frame xs ys
+
 pub bytes_on : (xs ys : List Deed)
     → frame_bytes (frames_in (xs ++ ys)) ≡ frame_bytes (frames_in xs) ++ frame_bytes (frames_in ys)
-bytes_on xs ys = ap frame_bytes (frames_on xs ys) ∙ flat_map-append bytes_of_frame (frames_in xs) (frames_in ys)
-
-pub bytes_one : (d : Deed) → frame_bytes (frames_in (d ∷ [])) ≡ frame_bytes (frames_by d.what)
-bytes_one d = ap frame_bytes (append-nil (frames_by d.what))
+bytes_on xs ys = ap frame_bytes (frames_on xs ys) ∙ bytes_parts (frames_in xs) (frames_in ys)
 
 -- with deeds before them that say nothing, and with such deeds after them
 pub text_front : (rate : ℕ) (xs ys : List Deed) → IsMute xs → text_by rate (xs ++ ys) ≡ text_by rate ys
@@ -122,8 +123,7 @@ module _ {A : Type 0} {used_up : Bool} {pin batch len : ℕ} {what : Result A Re
       by : (r : Result A Refusal) → LoadsEnd used_up pin batch len h.place r h.last → IsMute h.last
       by (Ok x) e = subst IsMute (sym e.0) mute_none
       by (Err why) (inl e) = mute_refused e
-      by (Err why) (inr (is, inl none)) = subst IsMute (sym none) mute_none
-      by (Err why) (inr (is, inr (other, e))) = mute_refused e
+      by (Err why) (inr (is, none)) = subst IsMute (sym none) mute_none
 
   pub frames_all : frames_in ds ≡ frames_in h.loads
   frames_all = ap frames_in h.are ∙ frames_on h.loads h.last

@@ -2,7 +2,7 @@
 use Rattle.sound_bounce.proofs.Common.{◌≡◌, inl, inr, ℕ, ◌+◌, ◌≤◌, Bool, List, ◌++◌, length, take, Option, Some, refl}
 use Rattle.sound_bounce.proofs.Common.{sym, ◌∙◌, ap, subst, arith, append_assoc, Result, Ok, Err, MatchResult}
 use Rattle.sound_bounce.proofs.Common.{append-nil, take_all, take-append_seam, IsTrue, OnOk, OnErr, SameElsewhere}
-use Rattle.sound_bounce.proofs.Common.{MayHaveGrown, sound_bytes, IsThere, GrowFails, Grows, Keeps, moved, []}
+use Rattle.sound_bounce.proofs.Common.{MayHaveGrown, Rose, sound_bytes, IsThere, GrowFails, Grows, Keeps, moved, []}
 use Rattle.std.proofs.{Common.length-append, lemmas.List.take-append-le, Math.Seq.take-append-add}
 use Rattle.pcm_base.specs.Causes.{HasCause}
 use Rattle.edit_ports.specs.declared.vault.Vault as vault
@@ -80,6 +80,13 @@ module _ {V : Type 0} {ghosts : vault.Ghosts V} {name : List ℕ} where
     faults = k.faults ∙ h.faults;
   }
 
+  -- the sound is there after that
+  pub there_on : {a b : V} {xs : List ℕ} → Grows (moved ghosts name a b) xs → IsTrue (ghosts.tells b)
+      → IsThere (ghosts.holds b name)
+  there_on {a} {b} {xs} h told =
+      there_of (ghosts.holds b name) (sound_bytes (ghosts.holds a name) ++ xs)
+      (h.written (still (sym h.keeps.tells) told))
+
   -- a part more, which the vault did not take
   pub grown_on : {a b c : V} {xs ys : List ℕ} → Grows (moved ghosts name a b) xs
       → GrowFails (moved ghosts name b c) ys → IsTrue (ghosts.tells a)
@@ -87,6 +94,26 @@ module _ {V : Type 0} {ghosts : vault.Ghosts V} {name : List ℕ} where
   grown_on {a} {b} {c} {xs} {ys} h k told =
       grown_after (ghosts.holds a name) (ghosts.holds b name) (ghosts.holds c name) xs ys (h.written told)
       (k.grown (still h.keeps.tells told))
+
+  -- what the vault did not take may have been a longer part
+  pub fails_less : {a b : V} {xs : List ℕ} (ys : List ℕ) → GrowFails (moved ghosts name a b) xs
+      → GrowFails (moved ghosts name a b) (xs ++ ys)
+  fails_less {a} {b} {xs} ys h = record {
+    keeps = h.keeps;
+    grown = λ told. grown_less (ghosts.holds a name) (ghosts.holds b name) xs ys (h.grown told);
+    later = h.later;
+    rose = h.rose;
+  }
+
+  -- and after a part that it took
+  pub fails_on : {a b c : V} {xs ys : List ℕ} → Grows (moved ghosts name a b) xs → GrowFails (moved ghosts name b c) ys
+      → GrowFails (moved ghosts name a c) (xs ++ ys)
+  fails_on {a} {b} {c} h k = record {
+    keeps = keeps_on h.keeps k.keeps;
+    grown = grown_on h k;
+    later = subst (λ (n : ℕ). n ≤ ghosts.fault_count c) h.faults k.later;
+    rose = subst (λ (n : ℕ). Rose n (ghosts.fault_count c)) h.faults k.rose;
+  }
 
   pub grown_so : {a b : V} {xs : List ℕ} → Grows (moved ghosts name a b) xs → IsTrue (ghosts.tells a)
       → MayHaveGrown xs (ghosts.holds a name) (ghosts.holds b name)

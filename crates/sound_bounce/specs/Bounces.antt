@@ -12,6 +12,7 @@ use Rattle.disk_model.specs.declared.store.Store.{Ghosts}
 use Rattle.edit_ports.specs.Sounds.{MayHaveGrown, sound_bytes}
 use Rattle.mixdown.specs.{declared.loaded.Loaded.Loaded, Loads.IsLoaded, Loads.heard_track, Loads.loaded_tracks}
 use Rattle.editor_state.specs.Core.{Core}
+use Rattle.sound_bounce.specs.declared.buffers.Buffers.{Buffers}
 use Rattle.pin_turn.specs.Counts.{Each}
 use Rattle.wav_pcm.specs.{Wavs.wav_head, Written.MayBegin}
 use Rattle.studio_seats.specs.Stands.{Origin, StandsFor, origin}
@@ -20,6 +21,11 @@ use Rattle.studio_seats.specs.{Merge.deeds_of, Onward.Onward, Shows.IsMixOf}
 use Rattle.pcm_base.specs.declared.answer.Reply.TheVariants as reply
 use Rattle.pcm_base.specs.declared.refusal.Refusal.TheVariants as refusal
 use Rattle.edit_ports.specs.declared.vault.Vault as vault
+
+-- room for this many frames, twice, and for their bytes
+abbrev pub HasRoom : ℕ → Buffers → Type 0
+HasRoom batch b = (length b.frames.items ≡ batch) × (length b.held.items ≡ batch)
+    × (64 + 4 * batch ≤ length b.bytes.items)
 
 -- the frames of what is loaded
 abbrev pub loaded_frames : Loaded → List Frame
@@ -127,13 +133,10 @@ IsRefusedBy used_up call why ds =
     ((d : Deed) × (ds ≡ d ∷ []) × (d.call ≡ call) × (d.what ≡ Err why))
     ⊎ ((ds ≡ []) × (why ≡ spent) × (used_up ≡ true))
 
--- A load at this place was refused. Or the vault failed; then there is no deed more, or a load that was made before and
--- refused for a reason of its own.
+-- A load at this place was refused. Or the vault failed; then there is no deed more.
 abbrev pub LoadRefused : (used_up : Bool) (pin batch place : ℕ) → Refusal → List Deed → Type 0
 LoadRefused used_up pin batch place why ds =
-    IsRefusedBy used_up (LoadPin pin place batch) why ds
-    ⊎ ((why ≡ refusal.VaultFault)
-    × ((ds ≡ []) ⊎ ((other : Refusal) × IsRefusedBy used_up (LoadPin pin place batch) other ds)))
+    IsRefusedBy used_up (LoadPin pin place batch) why ds ⊎ ((why ≡ refusal.VaultFault) × (ds ≡ []))
 
 -- how the loads of a mix of this many frames ended: all were loaded, or one was refused
 abbrev pub LoadsEnd : {A : Type 0} (used_up : Bool) (pin batch len place : ℕ) → Result A Refusal → List Deed → Type 0
@@ -261,18 +264,34 @@ pub record NextRefused {D V : Type 0} {disk : Ghosts D} (pin batch from : ℕ) (
   pub onward : Onward (IsLoadOf pin) seat.before seat.after
   pub refused : IsRefusedBy seat.after.used_up (LoadPin pin from batch) why (own_in seat onward)
 
--- The loads so far. The frames of the last are in memory, and those of the others were written.
-pub record LoadsAhead {D V : Type 0} {disk : Ghosts D} (pin batch to : ℕ) (l : Loaded) (seat : Views D V disk)
-    (m : Moved V) : Type 0 where
+-- The next frames of a pin are loaded, or their load was refused.
+abbrev pub NextDone : {A D V : Type 0} {disk : Ghosts D} (pin batch from : ℕ) (next : Loaded) → Result A Refusal
+    → Views D V disk → Type 0
+NextDone pin batch from next (Ok x) seat = LoadsNext pin batch from next seat
+NextDone pin batch from next (Err why) seat = NextRefused pin batch from why seat
+
+-- Frames that were mixed before are written, and then the next are loaded, or refused. If the vault fails, there is no
+-- turn.
+abbrev pub StepDone : {A E D V : Type 0} {disk : Ghosts D} (pin batch from : ℕ) (held : List Frame) (next : Loaded)
+    → Result (Result A Refusal) E → Views D V disk → Moved V → Type 0
+StepDone pin batch from held next (Ok load) seat m = Grows m (frame_bytes held) × NextDone pin batch from next load seat
+StepDone pin batch from held next (Err e) seat m = GrowFails m (frame_bytes held) × (seat.after ≡ seat.before)
+
+-- The loads so far. The last is in memory. Of the others, the frames that are held are mixed, and those before them are
+-- written.
+pub record LoadsAhead {D V : Type 0} {disk : Ghosts D} (pin batch to : ℕ) (held : List Frame) (l : Loaded)
+    (seat : Views D V disk) (m : Moved V) : Type 0 where
   pub onward : Onward (IsLoadOf pin) seat.before seat.after
-  pub written : List Deed
+  pub before : List Deed
   pub last : Deed
-  pub own : own_in seat onward ≡ written ++ last ∷ []
-  pub reads : AreLoads pin batch 0 to (written ++ last ∷ [])
+  pub own : own_in seat onward ≡ before ++ last ∷ []
+  pub reads : AreLoads pin batch 0 to (before ++ last ∷ [])
   pub frames : frames_by last.what ≡ loaded_frames l
   pub valid : IsLoaded l
   pub fits : l.len ≤ batch
-  pub grows : Grows m (frame_bytes (frames_in written))
+  pub put : List Frame
+  pub parts : frames_in before ≡ put ++ held
+  pub grows : Grows m (frame_bytes put)
 
 -- the loads so far, whose frames were written
 pub record LoadsTo {D V : Type 0} {disk : Ghosts D} (pin batch to : ℕ) (seat : Views D V disk)

@@ -1,14 +1,17 @@
 // What a bounce needs memory for.
-ghost use Rattle.std.specs.Prelude.{◌≡◌, ◌≤◌, ◌+◌, ◌*◌, length, IfOk};
+ghost use Rattle.std.specs.Prelude.{◌≤◌, IfOk};
 ghost use Rattle.pcm_base.specs.declared.limits.TheConstants.{MAX_LOADED};
+ghost use Rattle.sound_bounce.specs.Bounces.{HasRoom};
 
 use pcm_base::{Frame, NoMemory};
 use std::alloc::Global;
 
-/// The frames of a stretch, and their bytes.
+/// The frames of the stretch that is mixed, those of the stretch before it, which are mixed and not yet written, and
+/// the bytes of these.
 #[derive(Drop)]
 pub(crate) struct Buffers {
     pub(crate) frames: Vec<Frame>,
+    pub(crate) held: Vec<Frame>,
     pub(crate) bytes: Vec<u8>,
 }
 
@@ -17,12 +20,16 @@ impl Buffers {
     /// many tracks there are.
     pub(crate) fn new(alloc: Global, batch: usize) -> Result<Buffers, NoMemory>
         requires few { batch ≤ MAX_LOADED }
-        ensures frames { IfOk result (λ b. length b.frames.items ≡ batch) }
-        ensures bytes { IfOk result (λ b. length b.bytes.items ≡ 64 + 4 * batch) }
+        ensures room { IfOk result (λ b. HasRoom batch b) }
     {
         let silence = Frame { left: 0, right: 0 };
         let frames = vec![in alloc; silence; batch]?;
+        let held = vec![in alloc; silence; batch]?;
         let bytes = vec![in alloc; 0u8; 64 + 4 * batch]?;
-        Ok(Buffers { frames, bytes })
+        Ok(Buffers {
+            frames,
+            held,
+            bytes,
+        })
     }
 }

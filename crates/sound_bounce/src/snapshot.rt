@@ -7,6 +7,7 @@ ghost use Rattle.studio_seats.specs.Stands.{origin};
 ghost use Rattle.sound_bounce.specs.Bounces.{
   Bounced,
   Files,
+  HasRoom,
   IsDone,
   IsGone,
   IsWritten,
@@ -20,7 +21,7 @@ use super::stretches::write_stretches;
 use super::task::{Mix, Task};
 use disk_model::Store;
 use edit_ports::Vault;
-use pcm_base::{Frame, Refusal, Said};
+use pcm_base::{Refusal, Said};
 use std::sync::Wait;
 use std::thread::Threads;
 use studio_seats::{Desk, DeskSeat};
@@ -44,23 +45,24 @@ fn write_file<R: Threads + Wait + Sync, S: Store, V: Vault>(
     seat: &mut DeskSeat<S, V>,
     vault: &mut V,
     mix: Mix,
-    frames: &mut [Frame],
-    bytes: &mut [u8],
+    buffers: &mut Buffers,
 ) -> Result<u64, Refusal>
     requires seat { IsAt task.now.desk.now seat.old }
     requires batch { task.now.batch ≤ MAX_LOADED }
-    requires frames { length frames.old ≡ task.now.batch }
-    requires bytes { 64 + 4 * task.now.batch ≤ length bytes.old }
+    requires room { HasRoom task.now.batch buffers.old }
     ensures same { IsAt task.now.desk.now seat.new }
     ensures files { Files (start_at task.now.desk.now).rate mix.pin task.now.batch mix.len result
         (views (known seat.old) (known seat.new)) (moved V.Vault task.now.name.now vault.old vault.new) }
 {
     let per_second = task.desk.rate();
-    match start_wav(vault, task.name, mix.len, per_second, bytes) {
-        Ok(()) => sized(
-            mix.len,
-            write_stretches(task, seat, vault, mix, frames, bytes),
-        ),
+    match start_wav(
+        vault,
+        task.name,
+        mix.len,
+        per_second,
+        buffers.bytes.as_mut_slice(),
+    ) {
+        Ok(()) => sized(mix.len, write_stretches(task, seat, vault, mix, buffers)),
         Err(reason) => Err(reason),
     }
 }
@@ -71,20 +73,18 @@ fn write_pinned<R: Threads + Wait + Sync, S: Store, V: Vault>(
     seat: &mut DeskSeat<S, V>,
     vault: &mut V,
     pin: u64,
-    frames: &mut [Frame],
-    bytes: &mut [u8],
+    buffers: &mut Buffers,
 ) -> Result<u64, Refusal>
     requires seat { IsAt task.now.desk.now seat.old }
     requires batch { task.now.batch ≤ MAX_LOADED }
-    requires frames { length frames.old ≡ task.now.batch }
-    requires bytes { 64 + 4 * task.now.batch ≤ length bytes.old }
+    requires room { HasRoom task.now.batch buffers.old }
     ensures same { IsAt task.now.desk.now seat.new }
     ensures written { IsWritten (start_at task.now.desk.now).rate pin task.now.batch result
         (views (known seat.old) (known seat.new)) (moved V.Vault task.now.name.now vault.old vault.new) }
 {
     let Said { at: _, what } = task.desk.pin_len(task.rt, seat, pin);
     match what {
-        Ok(len) => write_file(task, seat, vault, Mix { pin, len }, frames, bytes),
+        Ok(len) => write_file(task, seat, vault, Mix { pin, len }, buffers),
         Err(reason) => Err(reason),
     }
 }
@@ -136,18 +136,16 @@ fn write_and_let_go<R: Threads + Wait + Sync, S: Store, V: Vault>(
     seat: &mut DeskSeat<S, V>,
     vault: &mut V,
     pin: u64,
-    frames: &mut [Frame],
-    bytes: &mut [u8],
+    buffers: &mut Buffers,
 ) -> Result<u64, Refusal>
     requires seat { IsAt task.now.desk.now seat.old }
     requires batch { task.now.batch ≤ MAX_LOADED }
-    requires frames { length frames.old ≡ task.now.batch }
-    requires bytes { 64 + 4 * task.now.batch ≤ length bytes.old }
+    requires room { HasRoom task.now.batch buffers.old }
     ensures same { IsAt task.now.desk.now seat.new }
     ensures done { IsDone (start_at task.now.desk.now).rate pin task.now.batch result
         (views (known seat.old) (known seat.new)) (moved V.Vault task.now.name.now vault.old vault.new) }
 {
-    let what = write_pinned(task, seat, vault, pin, frames, bytes);
+    let what = write_pinned(task, seat, vault, pin, buffers);
     let may = may_let_go(&what);
     let _gone = let_go(task.rt, task.desk, seat, pin, may);
     what
@@ -158,13 +156,11 @@ fn write_current<R: Threads + Wait + Sync, S: Store, V: Vault>(
     task: &Task<R, S, V>,
     seat: &mut DeskSeat<S, V>,
     vault: &mut V,
-    frames: &mut [Frame],
-    bytes: &mut [u8],
+    buffers: &mut Buffers,
 ) -> Said<u64>
     requires seat { IsAt task.now.desk.now seat.old }
     requires batch { task.now.batch ≤ MAX_LOADED }
-    requires frames { length frames.old ≡ task.now.batch }
-    requires bytes { 64 + 4 * task.now.batch ≤ length bytes.old }
+    requires room { HasRoom task.now.batch buffers.old }
     ensures same { IsAt task.now.desk.now seat.new }
     ensures bounced { Bounced (origin S.Store V.Vault (start_at task.now.desk.now)) task.now.batch result
         (views (known seat.old) (known seat.new)) (moved V.Vault task.now.name.now vault.old vault.new) }
@@ -173,7 +169,7 @@ fn write_current<R: Threads + Wait + Sync, S: Store, V: Vault>(
     match what {
         Ok(pin) => Said {
             at,
-            what: write_and_let_go(task, seat, vault, pin, frames, bytes),
+            what: write_and_let_go(task, seat, vault, pin, buffers),
         },
         Err(reason) => Said {
             at,
@@ -184,10 +180,10 @@ fn write_current<R: Threads + Wait + Sync, S: Store, V: Vault>(
 
 /// Writes the mix of the current project as a WAV file, and lets others have turns meanwhile. One turn pins the
 /// project. One asks how long its mix is. For each `batch` frames one turn loads the tracks. They are mixed in threads
-/// while the next are loaded, and then written to the vault. A last turn lets the pin go. So the file is the mix of the
+/// while the frames before them are written to the vault and the next are loaded. A last turn lets the pin go. So the file is the mix of the
 /// project as it was at the commit number that is said, whatever others do before the file is whole.
 ///
-/// Memory is taken for `batch` frames, their bytes, and the samples of the tracks, twice. It does not grow with the
+/// Memory is taken for `batch` frames and the samples of their tracks, both twice, and for their bytes. It does not grow with the
 /// length of the mix.
 ///
 /// # Errors
@@ -208,13 +204,7 @@ pub fn bounce<R: Threads + Wait + Sync, S: Store, V: Vault>(
         (views (known seat.old) (known seat.new)) (moved V.Vault task.now.name.now vault.old vault.new) }
 {
     match Buffers::new(task.alloc, task.batch) {
-        Ok(mut buffers) => write_current(
-            task,
-            seat,
-            vault,
-            buffers.frames.as_mut_slice(),
-            buffers.bytes.as_mut_slice(),
-        ),
+        Ok(mut buffers) => write_current(task, seat, vault, &mut buffers),
         Err(_) => Said {
             at: 0,
             what: Err(Refusal::NoMemory),

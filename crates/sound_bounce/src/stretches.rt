@@ -1,5 +1,5 @@
 // Stretches of a pin's mix, each loaded in a turn, and mixed and written while the next is loaded.
-ghost use Rattle.std.specs.Prelude.{◌≡◌, ◌≤◌, ◌<◌, ◌+◌, ◌*◌, ◌^◌, length, take, IsTrue, MatchResult};
+ghost use Rattle.std.specs.Prelude.{◌≡◌, ◌≤◌, ◌<◌, ◌+◌, ◌*◌, ◌^◌, ◌++◌, length, take, IsTrue, MatchResult};
 ghost use Rattle.pcm_base.specs.declared.limits.TheConstants.{MAX_LOADED};
 ghost use Rattle.pcm_base.specs.Recordings.{frame_bytes};
 ghost use Rattle.mixdown.specs.Loads.{IsLoaded};
@@ -10,6 +10,7 @@ ghost use Rattle.studio_seats.specs.Desks.{IsAt, views};
 ghost use Rattle.sound_bounce.specs.Bounces.{
   GrowFails,
   Grows,
+  HasRoom,
   LoadsDone,
   LoadsNext,
   NextRefused,
@@ -18,6 +19,7 @@ ghost use Rattle.sound_bounce.specs.Bounces.{
 };
 
 use super::beside::mix_and_load;
+use super::buffers::Buffers;
 use super::task::{Mix, Part, Step, Task};
 use disk_model::Store;
 use edit_ports::Vault;
@@ -57,24 +59,52 @@ pub(crate) fn append_mixed<V: Vault>(
     append_buffer(vault, name, &frames[..loaded.len], bytes)
 }
 
-/// Mixes what is loaded into the first frames of a buffer, and appends them.
-fn write_loaded<R: Threads + Sync, V: Vault>(
-    rt: &R,
+/// Appends frames that were mixed before. Before the first stretch there are none, and the vault is not asked.
+pub(crate) fn append_held<V: Vault>(
     vault: &mut V,
     name: &str,
-    loaded: &Loaded,
-    frames: &mut [Frame],
+    held: &[Frame],
     bytes: &mut [u8],
 ) -> Result<(), Failed>
-    requires loaded { IsLoaded loaded.now }
-    requires room { loaded.now.len ≤ length frames.old }
-    requires bytes { 4 * length frames.old ≤ length bytes.old }
+    requires bytes { 4 * length held.now ≤ length bytes.old }
+    requires there { IsTrue (V.tells vault.old) → IsThere (V.holds vault.old name.now) }
     ensures { MatchResult result
-        (λ _. Grows (moved V.Vault name.now vault.old vault.new) (frame_bytes (loaded_frames loaded.now)))
-        (λ _. GrowFails (moved V.Vault name.now vault.old vault.new) (frame_bytes (loaded_frames loaded.now))) }
+        (λ _. Grows (moved V.Vault name.now vault.old vault.new) (frame_bytes held.now))
+        (λ _. GrowFails (moved V.Vault name.now vault.old vault.new) (frame_bytes held.now)) }
 {
-    mix_front(rt, loaded, frames);
-    append_mixed(vault, name, loaded, frames, bytes)
+    if held.is_empty() {
+        return Ok(());
+    }
+    append_buffer(vault, name, held, bytes)
+}
+
+/// Appends the frames that were mixed before, mixes what is loaded, and appends this too.
+fn write_last<R: Threads + Wait + Sync, S: Store, V: Vault>(
+    task: &Task<R, S, V>,
+    vault: &mut V,
+    loaded: &Loaded,
+    held: usize,
+    buffers: &mut Buffers,
+) -> Result<(), Failed>
+    requires loaded { IsLoaded loaded.now }
+    requires fits { loaded.now.len ≤ task.now.batch }
+    requires held { held ≤ task.now.batch }
+    requires room { HasRoom task.now.batch buffers.old }
+    requires there { IsTrue (V.tells vault.old) → IsThere (V.holds vault.old task.now.name.now) }
+    ensures { MatchResult result
+        (λ _. Grows (moved V.Vault task.now.name.now vault.old vault.new)
+        (frame_bytes (take held buffers.old.held.items ++ loaded_frames loaded.now)))
+        (λ _. GrowFails (moved V.Vault task.now.name.now vault.old vault.new)
+        (frame_bytes (take held buffers.old.held.items ++ loaded_frames loaded.now))) }
+{
+    let frames = buffers.frames.as_mut_slice();
+    let bytes = buffers.bytes.as_mut_slice();
+    match append_held(vault, task.name, &buffers.held[..held], bytes) {
+        Ok(()) => {}
+        Err(failed) => return Err(failed),
+    }
+    mix_front(task.rt, loaded, frames);
+    append_mixed(vault, task.name, loaded, frames, bytes)
 }
 
 /// Loads the next frames of a pin, in one turn.
@@ -102,22 +132,20 @@ pub(crate) fn load_stretch<R: Wait, S: Store, V: Vault>(
 }
 
 /// Appends all frames of a pin's mix, `len` of them, to a sound that is there. Each turn loads `batch` frames at most.
-/// While one stretch is mixed, the next is loaded. If that load and the vault both fail, it answers that the vault
-/// failed.
+/// While one stretch is mixed, the one before it is written and the next is loaded. If a load is refused, what was
+/// loaded before it is not written.
 /// It ends whatever the turns are answered, as no more than [`COUNTER_LIMIT`](pcm_base::COUNTER_LIMIT) turns are taken.
 pub(crate) fn write_stretches<R: Threads + Wait + Sync, S: Store, V: Vault>(
     task: &Task<R, S, V>,
     seat: &mut DeskSeat<S, V>,
     vault: &mut V,
     mix: Mix,
-    frames: &mut [Frame],
-    bytes: &mut [u8],
+    buffers: &mut Buffers,
 ) -> Result<(), Refusal>
     requires seat { IsAt task.now.desk.now seat.old }
     requires batch { task.now.batch ≤ MAX_LOADED }
     requires few { mix.len ≤ MAX_FRAMES }
-    requires frames { length frames.old ≡ task.now.batch }
-    requires bytes { 64 + 4 * task.now.batch ≤ length bytes.old }
+    requires room { HasRoom task.now.batch buffers.old }
     requires there { IsTrue (V.tells vault.old) → IsThere (V.holds vault.old task.now.name.now) }
     ensures same { IsAt task.now.desk.now seat.new }
     ensures loads { LoadsDone mix.pin task.now.batch mix.len result (views (known seat.old) (known seat.new))
@@ -128,34 +156,41 @@ pub(crate) fn write_stretches<R: Threads + Wait + Sync, S: Store, V: Vault>(
         return Ok(());
     }
     let batch = task.batch;
-    let desk = task.desk;
     let mut loaded = Loaded::new(task.alloc);
     let mut from = 0;
-    match load_stretch(task.rt, desk, seat, Part { pin, from, batch }, &mut loaded) {
+    match load_stretch(
+        task.rt,
+        task.desk,
+        seat,
+        Part { pin, from, batch },
+        &mut loaded,
+    ) {
         Ok(()) => {}
         Err(reason) => return Err(reason),
     }
     let mut next = Loaded::new(task.alloc);
+    let mut held = 0;
     from = loaded.len as u64;
     'stretches: while from < len {
         let step = Step {
             mixes: &loaded,
             loads: Part { pin, from, batch },
+            held,
         };
-        let what = mix_and_load(task.rt, desk, seat, step, &mut next, frames);
-        let wrote = append_mixed(vault, task.name, &loaded, frames, bytes);
-        match wrote {
-            Ok(()) => match what {
+        match mix_and_load(&*task, seat, vault, step, &mut next, buffers) {
+            Ok(load) => match load {
                 Ok(()) => {
+                    held = loaded.len;
                     from += next.len as u64;
                     mem::swap(&mut loaded, &mut next);
+                    mem::swap(&mut buffers.frames, &mut buffers.held);
                 }
                 Err(reason) => return Err(reason),
             },
             Err(_) => return Err(Refusal::VaultFault),
         }
     }
-    match write_loaded(task.rt, vault, task.name, &loaded, frames, bytes) {
+    match write_last(task, vault, &loaded, held, buffers) {
         Ok(()) => Ok(()),
         Err(_) => Err(Refusal::VaultFault),
     }

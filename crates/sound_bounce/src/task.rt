@@ -31,9 +31,10 @@ pub(crate) struct Part {
     pub(crate) batch: usize,
 }
 
-/// What is mixed, and what is loaded meanwhile.
+/// What is mixed, and what is loaded meanwhile. Before that `held` frames are written, which were mixed before.
 #[derive(Clone, Copy)]
 pub(crate) struct Step<'a> {
     pub(crate) mixes: &'a Loaded,
     pub(crate) loads: Part,
+    pub(crate) held: usize,
 }

@@ -19,6 +19,7 @@ returns-in_err-scans-clause-reads g c =
 
 pub rows-init : goal.rows-init
 rows-init g c = record {
+  begin = first_edge c.args.from c.args.to c.args.columns;
   stretch = tt;
   blocks = λ b there. c.rest.ensures.blocks b there;
   cells = λ src. c.rest.ensures.cells src ∙ ap (λ (k : ℕ). drop k (layout_cells src c.args.layout.now))
@@ -50,12 +51,13 @@ rows-preserved g c =
     let old = a.reader.now.cache in
     let inv = c.rows.invariant in
     let files : Files = g.S.Store.reads a.reader.now.store in
-    let begin : ℕ = c.edge-begin.result in
+    let begin : ℕ = c.rows.begin in
     let end : ℕ = c.edge-end.result in
-    let low : begin ≡ edge a.from a.to a.columns i = c.edge-begin.ensures.value in
+    let low : begin ≡ edge a.from a.to a.columns i = inv.begin in
     let high : end ≡ edge a.from a.to a.columns (i + 1) = c.edge-end.ensures.value in
     let rising : begin ≤ end = grind (arith, common_steps) in
     record {
+      begin = high;
       stretch = c.sweep.ensures.stretch;
       blocks = λ b there. inv.blocks b (c.sweep.ensures.blocks b there);
       cells = λ src.
@@ -138,7 +140,7 @@ returns-in_err-summary-clause-hit g c =
     let a = c.args in
     let inv = c.rows.invariant in
     let seen : ℕ = a.to - edge a.from a.to a.columns c.rows.i in
-    let asked : ℕ = c.edge-end.result - c.edge-begin.result + c.min-reach.result in
+    let asked : ℕ = c.edge-end.result - c.rows.begin + c.min-reach.result in
     let few : asked ≤ seen = grind (arith, common_steps) in
     rw (exit_err c.from_residual-in_err-summary.result c.from_residual-in_err-summary.ensures.1)
     (λ has. absurd (false≢true (c.in_err-summary.ensures.hit (column_pages a.reader.now.cache _ seen asked
@@ -149,7 +151,7 @@ returns-in_err-push-clause-hit g c =
     let a = c.args in
     let inv = c.rows.invariant in
     let seen : ℕ = a.to - edge a.from a.to a.columns c.rows.i in
-    let asked : ℕ = c.edge-end.result - c.edge-begin.result + c.min-reach.result in
+    let asked : ℕ = c.edge-end.result - c.rows.begin + c.min-reach.result in
     let few : asked ≤ seen = grind (arith, common_steps) in
     rw (exit_err c.from_residual-in_err-push.result c.from_residual-in_err-push.ensures.1)
     (hits_then (λ has. has) (λ has kept. column_pages a.reader.now.cache _ seen asked (ahead_items c.rows.ahead) kept

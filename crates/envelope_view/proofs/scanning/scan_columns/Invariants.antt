@@ -8,6 +8,7 @@ use Rattle.envelope_view.proofs.scanning.scan_columns.Given as goal
 
 abbrev pub invariant-rows : goal.invariant-rows
 invariant-rows g l = record {
+  begin : l.begin ≡ edge l.from l.to l.columns l.i;
   stretch : IsInBlock l.ahead.stretch;
   blocks : (b : BlockRef) → Contains (ahead_blocks l.ahead) b → Contains (layout_blocks l.layout) b;
   cells : (src : Sources) → ahead_cells src l.ahead ≡ drop (edge l.from l.to l.columns l.i) (layout_cells src l.layout);

@@ -66,7 +66,7 @@ read_before-requires-clause-there g c = λ told loud yes.
     let room = read_before-requires-clause-room g c in
     let heard : (if t.mute then 0 else 1) * len ≡ 1 * len = ap (λ (b : Bool). (if b then 0 else 1) * len) loud in
     let place : end - len + len ≡ end = omega (arith, heard, room) in
-    let at : (get_or c.args.parts.now k d).to ≡ end - len = omega (arith, found.2, c.saturating_sub.ensures) in
+    let at : (get_or c.args.parts.now (2 * k) d).to ≡ end - len = omega (arith, found.2, c.saturating_sub.ensures) in
     let row = put_row (stored_of files) c.args.from len k ts (drop (k + 1) ts) t c.args.parts.now d xs
     (drop_some ts k t c.track_at-track.ensures) (c.requires.put was) found.0 found.1 in
     let P : ℕ → Type 0 = λ n. IsStretch c.args.from len (meant_track (stored_of files) t) (take len (drop n xs)) in

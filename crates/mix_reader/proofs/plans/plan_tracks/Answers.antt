@@ -1,16 +1,17 @@
 -- One track more is planned, from the last to the first.
-use Rattle.mix_reader.proofs.Common.{◌≡◌, ℕ, ◌+◌, ◌-◌, ◌*◌, ◌≤◌, ◌<◌, List, ◌∷◌, length, drop, sym, ap, subst, ◌∙◌, arith}
+use Rattle.mix_reader.proofs.Common.{◌≡◌, ℕ, ◌+◌, ◌-◌, ◌*◌, ◌≤◌, List, ◌∷◌, drop, sym, ap, subst, ◌∙◌, arith}
 use Rattle.mix_reader.proofs.Common.{refl, mul-le-mul_right, drop_all, if◌then◌else◌, layout_blocks, length-set, Track}
 use Rattle.mix_reader.proofs.Common.{point_blocks, drop_some, same_none, same_turn, reads_err, reads_more, reads_none}
 use Rattle.mix_reader.proofs.Common.{reads_ok, reads_then, heard_count}
 use Rattle.std.proofs.Common.{⊎_elim}
-use Rattle.std.proofs.lemmas.{Bool.cases_lt, List.drop-set, List.drop-replicate}
+use Rattle.std.proofs.lemmas.{Bool.cases_lt, List.drop-replicate}
 use Rattle.std.specs.Prelude.{replicate}
 use Rattle.disk_model.specs.declared.parts.Part.{Part}
 use Rattle.disk_model.specs.Parts.{AreParts}
 use Rattle.disk_model.proofs.Buffers.{parts_sooner}
 use Rattle.mix_reader.specs.Plans.{ArePlans}
 use Rattle.mix_reader.proofs.{HeardLaws.count_drop, HeardLaws.named_at, PageLaws.heard_at, PlanLaws.parts_none}
+use Rattle.mix_reader.proofs.PlanLaws.{two_set}
 use Rattle.mix_reader.proofs.TrackLaws.{blocks_at}
 use lib.ListN.{set}
 use Rattle.mix_reader.proofs.plans.plan_tracks.Goals as goal
@@ -23,7 +24,7 @@ rows-init g c =
     let none : Part = c.no_part-parts.result in
     let all = drop_all n ts (omega (arith, c.len-i.ensures.value)) in
     let size : heard_count (drop n ts) * len ≡ 0 * len = ap (λ us. heard_count us * len) all in
-    let P : List Track → Type 0 = λ us. ArePlans c.args.from len us (drop n (replicate 64 none)) in
+    let P : List Track → Type 0 = λ us. ArePlans c.args.from len us (drop (2 * n) (replicate 128 none)) in
     let Q : List Part → Type 0 = λ ps. AreParts c.args.room c.args.room ps in
     record {
       within = omega (arith, c.len-i.ensures.value);
@@ -32,7 +33,7 @@ rows-init g c =
       reads = reads_none tt (g.met.S.Store.may_fewer _);
       hit = λ has. (refl, same_none _, refl);
       among = λ some. absurd (omega (arith, some));
-      parts = subst Q (sym (drop-replicate n 64 none)) (parts_none (64 - n) c.args.room none
+      parts = subst Q (sym (drop-replicate (2 * n) 128 none)) (parts_none (128 - 2 * n) c.args.room none
           (ap (λ (p : Part). p.len) c.no_part-parts.ensures) (ap (λ (p : Part). p.at) c.no_part-parts.ensures)
           (ap (λ (p : Part). p.to) c.no_part-parts.ensures));
       plans = subst P (sym all) tt;
@@ -70,22 +71,23 @@ rows-preserved g c =
     let inv = c.rows.invariant in
     let ens = c.in-Ok.ensures in
     let p : Part = c.in-Ok.part in
+    let q : Part = c.in-Ok.next in
     let next : k + 1 ≡ c.rows.i = omega (arith, c.rows-test.true) in
     let e : drop k ts ≡ t ∷ drop c.rows.i ts =
     drop_some ts k t c.track_at-track.ensures ∙ ap (λ n. t ∷ drop n ts) next in
-    let f : drop k (set c.rows.parts k p) ≡ p ∷ drop c.rows.i c.rows.parts =
-    drop-set c.rows.parts k p (omega (arith, inv.size, inv.within, c.len-i.ensures.few, c.len-i.ensures.value))
-    ∙ ap (λ n. p ∷ drop n c.rows.parts) next in
+    let f : drop (2 * k) (set (set c.rows.parts (2 * k + 1) q) (2 * k) p) ≡ p ∷ q ∷ drop (2 * c.rows.i) c.rows.parts =
+    two_set c.rows.parts k c.rows.i p q next
+    (omega (arith, inv.size, inv.within, c.len-i.ensures.few, c.len-i.ensures.value)) in
     let h : ℕ = heard_count (drop c.rows.i ts) in
     let more : heard_count (drop k ts) * len ≡ (one + h) * len = ap (λ us. heard_count us * len) e in
     let P : List Part → Type 0 = λ ps. AreParts p.to c.args.room ps in
-    let Q : List Track → Type 0 = λ us. ArePlans c.args.from len us (p ∷ drop c.rows.i c.rows.parts) in
+    let Q : List Track → Type 0 = λ us. ArePlans c.args.from len us (p ∷ q ∷ drop (2 * c.rows.i) c.rows.parts) in
     let R : List Part → Type 0 = λ ps. ArePlans c.args.from len (drop k ts) ps in
     record {
       within = omega (arith, inv.within);
-      size = length-set c.rows.parts k p ∙ inv.size;
+      size = length-set (set c.rows.parts (2 * k + 1) q) (2 * k) p ∙ length-set c.rows.parts (2 * k + 1) q ∙ inv.size;
       place = omega (arith, more, ens.place, inv.place);
-      reads = reads_then {x = tt} inv.reads (reads_ok {x = p} {y = tt}
+      reads = reads_then {x = tt} inv.reads (reads_ok {x = (p, q)} {y = tt}
           (reads_more (layout_blocks t.layout) (point_blocks ts)
           (λ b has. blocks_at k ts (drop (k + 1) ts) t b (drop_some ts k t c.track_at-track.ensures) has) ens.reads));
       hit = λ has.
@@ -99,9 +101,13 @@ rows-preserved g c =
           (found.0, blocks_at k ts (drop (k + 1) ts) t found.0 (drop_some ts k t c.track_at-track.ensures) found.1))
           (cases_lt 0 c.rows.most);
       parts = subst P (sym f) (
-        omega arith,
-        ens.offset,
-        parts_sooner (drop c.rows.i c.rows.parts) (p.to + p.len) c.rows.end c.args.room ens.fits inv.parts,
+        ens.parts.0,
+        ens.parts.1,
+        (
+          ens.parts.2.0,
+          ens.parts.2.1,
+          parts_sooner (drop (2 * c.rows.i) c.rows.parts) (q.to + q.len) c.rows.end c.args.room ens.parts.2.2 inv.parts,
+        ),
       );
       plans = subst R (sym f) (subst Q (sym e) (ens.plan, inv.plans));
     }
@@ -131,11 +137,12 @@ returns-clause-reads g c = reads_ok {x = tt} c.rows.invariant.reads
 pub returns-clause-parts : goal.returns-clause-parts
 returns-clause-parts g c =
     let none : c.rows.i ≡ 0 = omega (arith, c.rows-test.false) in
-    let P : ℕ → Type 0 = λ n. AreParts 0 c.args.room (drop n c.rows.parts) in
-    subst P none (parts_sooner (drop c.rows.i c.rows.parts) 0 c.rows.end c.args.room (omega arith) c.rows.invariant.parts)
+    let P : ℕ → Type 0 = λ n. AreParts 0 c.args.room (drop (2 * n) c.rows.parts) in
+    subst P none (parts_sooner (drop (2 * c.rows.i) c.rows.parts) 0 c.rows.end c.args.room (omega arith)
+    c.rows.invariant.parts)
 
 pub returns-clause-plans : goal.returns-clause-plans
 returns-clause-plans g c =
     let none : c.rows.i ≡ 0 = omega (arith, c.rows-test.false) in
-    let P : ℕ → Type 0 = λ n. ArePlans c.args.from c.args.len (drop n c.args.point.now) (drop n c.rows.parts) in
+    let P : ℕ → Type 0 = λ n. ArePlans c.args.from c.args.len (drop n c.args.point.now) (drop (2 * n) c.rows.parts) in
     subst P none c.rows.invariant.plans

@@ -10,9 +10,6 @@ sized-requires g c = omega (arith, c.in-Ok.ensures.fits)
 pub write_stretches-requires-clause-few : goal.write_stretches-requires-clause-few
 write_stretches-requires-clause-few g c = omega (arith, c.in-Ok.ensures.fits)
 
-pub write_stretches-requires-clause-bytes : goal.write_stretches-requires-clause-bytes
-write_stretches-requires-clause-bytes g c = omega (arith, c.requires.bytes, c.start_wav.auto.buf)
-
 pub write_stretches-requires-clause-there : goal.write_stretches-requires-clause-there
 write_stretches-requires-clause-there g c = λ _ _ told.
     let mid = g.V.Vault.holds c.start_wav.new.vault c.args.task.now.name.now in

@@ -1,10 +1,10 @@
--- The goals of `plan_with_change` that the search leaves open.
+-- The goals of `plan_change_whole` that the search leaves open.
 use Rattle.edit_ops.proofs.Common.{◌+◌, ◌*◌, ◌/◌, ◌≤◌, true, ◌++◌, List, length, take, drop, map, sym, ap, subst, ◌∙◌}
 use Rattle.edit_ops.proofs.Common.{arith, Cell, trimmed, part, sample_count, clip_count, Item, strip_cells, strip_room}
 use Rattle.edit_ops.proofs.Common.{layout_blocks, First, cell_change, AllOld, ItemsFrom, with_change}
 use Rattle.edit_ops.proofs.Tame.{fit_change, from_change, ItemsFrom-layout}
 use Rattle.edit_ops.proofs.{ChangedItems.AllOld-items, Roomy.Smooth, Roomy.few_changed, StripCells.cells_with_change}
-use Rattle.edit_ops.proofs.plans.plan_with_change.Goals as goal
+use Rattle.edit_ops.proofs.plans.plan_change_whole.Goals as goal
 
 pub plan_strip-requires-clause-fit : goal.plan_strip-requires-clause-fit
 plan_strip-requires-clause-fit c =

@@ -1,7 +1,7 @@
--- The goals of `plan_cut` that the search leaves open.
+-- The goals of `plan_cut_whole` that the search leaves open.
 use Rattle.edit_ops.proofs.Common.{List, ap, ◌∙◌, arith, trimmed, Item, strip_cells, layout_blocks, cut_cells}
 use Rattle.edit_ops.proofs.{StripCells.cells_cut, Tame.tame_cut}
-use Rattle.edit_ops.proofs.plans.plan_cut.Goals as goal
+use Rattle.edit_ops.proofs.plans.plan_cut_whole.Goals as goal
 
 pub plan_strip-requires-clause-fit : goal.plan_strip-requires-clause-fit
 plan_strip-requires-clause-fit c =

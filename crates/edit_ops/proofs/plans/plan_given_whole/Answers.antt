@@ -1,10 +1,10 @@
--- The goals of `plan_with_given` that the search leaves open.
+-- The goals of `plan_given_whole` that the search leaves open.
 use Rattle.edit_ops.proofs.Common.{◌*◌, ◌≤◌, true, ◌++◌, List, length, take, drop, sym, ap, ap₂, subst, ◌∙◌, arith}
 use Rattle.edit_ops.proofs.Common.{Cell, trimmed, continued, strip_cells, strip_len, ItemsFit, Item, strip_room}
 use Rattle.edit_ops.proofs.Common.{layout_blocks, First, ItemsFrom, given_items, with_inserted}
 use Rattle.edit_ops.proofs.Tame.{fit_inserted, from_inserted, given_fit, given_from, given_len, ItemsFrom-layout}
 use Rattle.edit_ops.proofs.{Roomy.Smooth, Roomy.few_inserted, StripCells.cells_with_inserted, StripCells.cells_given}
-use Rattle.edit_ops.proofs.plans.plan_with_given.Goals as goal
+use Rattle.edit_ops.proofs.plans.plan_given_whole.Goals as goal
 
 pub with_inserted-requires : goal.with_inserted-requires
 with_inserted-requires c =

@@ -1,0 +1,166 @@
+-- The plan of a window's track as a plan of the whole track.
+use Rattle.edit_ops.proofs.Common.{◌≡◌, ℕ, inl, inr, ◌+◌, ◌<◌, ◌≤◌, List, [], ◌∷◌, ◌++◌, length, refl, sym, ap, subst, ◌∙◌}
+use Rattle.edit_ops.proofs.Common.{append-nil, arith, Contains-append_left, Contains-append_right, Contains, BlockRef, Piece}
+use Rattle.edit_ops.proofs.Common.{AllFrom, AllHalfFull, IsHalfFull, end_of, layout_blocks, Clip, NewBlock, Plan}
+use Rattle.edit_ops.specs.Plans.{AllNewFrom, AreNew, AreOldOrNew, IsPlan, Start}
+use Rattle.edit_ops.specs.Windows.{IsNear, IsPlaced, IsWindow, clip_with, moved, track_with, window_clips}
+use Rattle.edit_ops.specs.declared.windows.{Near.Near, Window.Window}
+use Rattle.edit_ops.proofs.{Named.old_or_new_append, Pastes.piece_from_more}
+use Rattle.std.proofs.Common.{IfSome, None, Option, Some}
+use Rattle.pcm_base.specs.Blocks.{NoneEmpty, block_lens, blocks_len}
+use Rattle.edit_ops.proofs.WindowBlocks.{blocks_append, full_middle, half_from_full, half_full_around, half_full_in}
+use Rattle.edit_ops.proofs.WindowBlocks.{moved_blocks, none_empty_full, window_end}
+
+-- more blocks to come from
+abbrev Within : List BlockRef → List BlockRef → Type 0
+Within old more = (b : BlockRef) → Contains old b → Contains more b
+
+all_from_more : (old more : List BlockRef) (count : ℕ) (ps : List Piece) → Within old more → AllFrom old count ps
+    → AllFrom more count ps
+all_from_more old more count [] g f = tt
+all_from_more old more count (p ∷ ps) g f = (piece_from_more old more count p g f.0, all_from_more old more count ps g f.1)
+
+new_from_more : (old more : List BlockRef) (count : ℕ) (ns : List NewBlock) → Within old more → AllNewFrom old count ns
+    → AllNewFrom more count ns
+new_from_more old more count [] g f = tt
+new_from_more old more count (n ∷ ns) g f =
+    (all_from_more old more count n.pieces g f.0, new_from_more old more count ns g f.1)
+
+old_or_new_more : (old more bs : List BlockRef) (ns : List NewBlock) → Within old more → AreOldOrNew old bs ns
+    → AreOldOrNew more bs ns
+old_or_new_more old more [] [] g h = tt
+old_or_new_more old more [] (n ∷ ns) g h = absurd h
+old_or_new_more old more (b ∷ bs) [] g h = (g b h.0, old_or_new_more old more bs [] g h.1)
+old_or_new_more old more (b ∷ bs) (n ∷ ns) g h = elim h [
+  | inl o ↦ inl (g b o.0, old_or_new_more old more bs (n ∷ ns) g o.1)
+  | inr o ↦ inr (o.0, old_or_new_more old more bs ns g o.1)
+]
+
+all_old : (old bs : List BlockRef) → Within bs old → AreOldOrNew old bs []
+all_old old [] g = tt
+all_old old (b ∷ bs) g = (
+  g b (Contains-append_left (b ∷ []) bs b (0, omega arith, refl)),
+  all_old old bs (λ c h. g c (Contains-append_right (b ∷ []) bs c h)),
+)
+
+-- old blocks before and after
+old_before : (old xs ys : List BlockRef) (ns : List NewBlock) → Within xs old → AreOldOrNew old ys ns
+    → AreOldOrNew old (xs ++ ys) ns
+old_before old xs ys ns g h = old_or_new_append old xs ys [] ns (all_old old xs g) h
+
+old_after : (old xs ys : List BlockRef) (ns : List NewBlock) → Within ys old → AreOldOrNew old xs ns
+    → AreOldOrNew old (xs ++ ys) ns
+old_after old xs ys ns g h =
+    subst (AreOldOrNew old (xs ++ ys)) (append-nil ns) (old_or_new_append old xs ys ns [] h (all_old old ys g))
+
+-- the blocks of a track with some blocks in a window's place
+abbrev blocks_with : Window → List BlockRef → List BlockRef
+blocks_with w bs = layout_blocks w.before.now ++ (w.front.now ++ bs ++ w.back.now ++ layout_blocks w.after.now)
+
+window_blocks : (m : ℕ) (t : List Clip) (w : Window) → IsWindow m t w → layout_blocks t ≡ blocks_with w w.middle.now
+window_blocks m t w h =
+    ap layout_blocks h.clips ∙ blocks_append w.before.now (clip_with w w.middle.now ∷ w.after.now)
+
+track_blocks : (w : Window) (old new : ℕ) (bs : List BlockRef) → layout_blocks (track_with w old new bs) ≡ blocks_with w bs
+track_blocks w old new bs =
+    let after = moved (w.from + old) (w.from + new) w.after.now in
+    blocks_append w.before.now (clip_with w bs ∷ after)
+    ∙ ap (λ (xs : List BlockRef). layout_blocks w.before.now ++ (w.front.now ++ bs ++ w.back.now ++ xs))
+    (moved_blocks (w.from + old) (w.from + new) w.after.now)
+
+old_or_new_around : (w : Window) (bs : List BlockRef) (ns : List NewBlock) → AreOldOrNew w.middle.now bs ns
+    → AreOldOrNew (blocks_with w w.middle.now) (blocks_with w bs) ns
+old_or_new_around w bs ns h =
+    let all = blocks_with w w.middle.now in
+    let before = layout_blocks w.before.now in
+    let after = layout_blocks w.after.now in
+    let front = w.front.now in
+    let middle = w.middle.now in
+    let back = w.back.now in
+    let one : Within (front ++ middle ++ back ++ after) all =
+    λ b i. Contains-append_right before (front ++ middle ++ back ++ after) b i in
+    let clip : Within (front ++ middle ++ back) all =
+    λ b i. one b (Contains-append_left (front ++ middle ++ back) after b i) in
+    let start : Within (front ++ middle) all = λ b i. clip b (Contains-append_left (front ++ middle) back b i) in
+    old_before all before (front ++ bs ++ back ++ after) ns
+    (λ b i. Contains-append_left before (front ++ middle ++ back ++ after) b i)
+    (old_after all (front ++ bs ++ back) after ns
+    (λ b i. one b (Contains-append_right (front ++ middle ++ back) after b i))
+    (old_after all (front ++ bs) back ns (λ b i. clip b (Contains-append_right (front ++ middle) back b i))
+    (old_before all front bs ns (λ b i. start b (Contains-append_left front middle b i))
+    (old_or_new_more middle all bs ns (λ b i. start b (Contains-append_right front middle b i)) h))))
+
+middle_within : (m : ℕ) (t : List Clip) (w : Window) → IsWindow m t w → Within w.middle.now (layout_blocks t)
+middle_within m t w h b i =
+    let front = w.front.now in
+    let middle = w.middle.now in
+    let P : List BlockRef → Type 0 = λ xs. Contains xs b in
+    subst P (sym (window_blocks m t w h)) (Contains-append_right (layout_blocks w.before.now) _ b
+    (Contains-append_left (front ++ middle ++ w.back.now) (layout_blocks w.after.now) b
+    (Contains-append_left (front ++ middle) w.back.now b (Contains-append_right front middle b i))))
+
+pub plan_placed : (start : Start) (t : List Clip) (w : Window) (old new count : ℕ) (small p : Plan) → 0 < start.block_size
+    → IsWindow start.block_size t w → AllHalfFull start.block_size t → IsPlaced start.block_size w old new small p
+    → IsPlan start (layout_blocks (window_clips w)) count small → IsPlan start (layout_blocks t) count p
+plan_placed start t w old new count small p s h f a k =
+    let m = start.block_size in
+    let bs = a.around.blocks in
+    let mine : layout_blocks (window_clips w) ≡ w.middle.now = append-nil w.middle.now in
+    let theirs : layout_blocks small.layout ≡ bs = ap layout_blocks a.around.one ∙ append-nil bs in
+    let N : List NewBlock → Type 0 = AreNew m start.next in
+    let F : List NewBlock → Type 0 = AllNewFrom (layout_blocks t) count in
+    let H : List Clip → Type 0 = AllHalfFull m in
+    let inside : Within (layout_blocks (window_clips w)) (layout_blocks t) =
+    λ b i. middle_within m t w h b (subst (λ (xs : List BlockRef). Contains xs b) mine i) in
+    let B1 : List BlockRef → Type 0 = λ xs. AreOldOrNew xs (layout_blocks small.layout) small.makes in
+    let B2 : List BlockRef → Type 0 = λ xs. AreOldOrNew w.middle.now xs small.makes in
+    let named : AreOldOrNew w.middle.now bs small.makes = subst B2 theirs (subst B1 mine k.blocks) in
+    let B3 : List BlockRef → Type 0 = λ xs. AreOldOrNew xs (blocks_with w bs) small.makes in
+    let B4 : List BlockRef → Type 0 = λ xs. AreOldOrNew (layout_blocks t) xs small.makes in
+    let B5 : List NewBlock → Type 0 = λ ns. AreOldOrNew (layout_blocks t) (layout_blocks p.layout) ns in
+    let whole : layout_blocks p.layout ≡ blocks_with w bs = ap layout_blocks a.around.clips ∙ track_blocks w old new bs in
+    record {
+      half_full = subst H (sym a.around.clips) (half_full_around m (w.from + old) (w.from + new) w.before.now
+          (clip_with w w.middle.now) (clip_with w bs) w.after.now (subst H h.clips f)
+          (half_full_in m t w bs s h a.around.full));
+      new = subst N (sym a.makes) k.new;
+      origin = subst F (sym a.makes) (new_from_more _ _ count small.makes inside k.origin);
+      blocks = subst B5 (sym a.makes) (subst B4 (sym whole) (subst B3 (sym (window_blocks m t w h))
+          (old_or_new_around w bs small.makes named)));
+      next_id = a.next ∙ k.next_id ∙ ap (λ (ns : List NewBlock). start.next + length ns) (sym a.makes);
+    }
+
+-- ---- what may be there
+pub if_some : {A : Type 0} (P Q : A → Type 0) (o : Option A) → ((x : A) → P x → Q x) → IfSome o P → IfSome o Q
+if_some P Q None f h = tt
+if_some P Q (Some x) f h = f x h
+
+-- ---- a window that a range lies in, and its track
+pub window_none_empty : (m : ℕ) (t : List Clip) (w : Window) → 0 < m → IsWindow m t w → NoneEmpty w.middle.now
+window_none_empty m t w s h =
+    none_empty_full m w.middle.now s (full_middle m w.front.now w.middle.now w.back.now h.full)
+
+pub window_half_full : (m : ℕ) (t : List Clip) (w : Window) → 0 < m → IsWindow m t w
+    → IsHalfFull m (block_lens w.middle.now)
+window_half_full m t w s h =
+    half_from_full m _ s (full_middle m w.front.now w.middle.now w.back.now h.full)
+
+pub near_half_full : (m from to : ℕ) (t : List Clip) (n : Near) → 0 < m → IsNear m from to t n → AllHalfFull m n.small
+near_half_full m from to t n s h =
+    subst (AllHalfFull m) (sym h.small) (window_half_full m t n.window s h.window, tt)
+
+pub near_len : (m from to : ℕ) (t : List Clip) (n : Near) → IsNear m from to t n
+    → end_of 0 n.small ≡ blocks_len n.window.middle.now
+near_len m from to t n h = ap (end_of 0) h.small ∙ omega arith
+
+pub near_end : (m from to : ℕ) (t : List Clip) (n : Near) → IsNear m from to t n
+    → n.window.from + end_of 0 n.small ≤ end_of 0 t
+near_end m from to t n h = omega (arith, near_len m from to t n h, window_end m t n.window h.window)
+
+pub plan_near : (start : Start) (t : List Clip) (n : Near) (from to old new count : ℕ) (small p : Plan)
+    → 0 < start.block_size → AllHalfFull start.block_size t → IsNear start.block_size from to t n
+    → IsPlaced start.block_size n.window old new small p → IsPlan start (layout_blocks n.small) count small
+    → IsPlan start (layout_blocks t) count p
+plan_near start t n from to old new count small p s f h a k =
+    let P : List Clip → Type 0 = λ cs. IsPlan start (layout_blocks cs) count small in
+    plan_placed start t n.window old new count small p s h.window f a (subst P h.small k)

@@ -1,0 +1,54 @@
+-- The plan of the window's track, put in its place.
+use Rattle.edit_ops.proofs.Common.{◌-◌, List, subst, NewBlock, AreWritten}
+use Rattle.edit_ops.proofs.Common.{layout_blocks}
+use Rattle.std.proofs.Common.{IfSome, Option}
+use Rattle.pcm_base.specs.Edits.{deleted}
+use Rattle.edit_ops.proofs.WindowEdits.{means_deleted}
+use Rattle.edit_ops.specs.Plans.{IsPlan, Means, start_of}
+use Rattle.edit_ops.specs.Windows.{IsNear, IsPlaced}
+use Rattle.edit_ops.specs.declared.windows.Near.{Near}
+use Rattle.edit_ops.proofs.WindowPlans.{if_some, near_half_full, plan_near}
+use Rattle.edit_ops.proofs.plans.plan_delete_near.Goals as goal
+
+pub plan_cut_whole-requires-clause-half_full : goal.plan_cut_whole-requires-clause-half_full
+plan_cut_whole-requires-clause-half_full c =
+    let m = c.args.planner.block_size in
+    let t = c.args.t.now in
+    let n = c.in-Some.found in
+    let P : Option Near → Type 0 = λ o. IfSome o (IsNear m c.args.from c.args.to t) in
+    let h : IsNear m c.args.from c.args.to t n = subst P c.in-Some.is c.in_ok-found.ensures in
+    near_half_full m c.args.from c.args.to t n c.args.planner.some h
+
+pub returns-clause-plan : goal.returns-clause-plan
+returns-clause-plan c =
+    let start = start_of c.args.planner in
+    let m = c.args.planner.block_size in
+    let t = c.args.t.now in
+    let n = c.in-Some.found in
+    let P : Option Near → Type 0 = λ o. IfSome o (IsNear m c.args.from c.args.to t) in
+    let h : IsNear m c.args.from c.args.to t n = subst P c.in-Some.is c.in_ok-found.ensures in
+    let old = c.len-old.result in
+    let new = old - (c.args.to - c.args.from) in
+    let small = c.in_ok-plan.plan in
+    if_some (IsPlaced m n.window old new small) (λ p. IsPlan start (layout_blocks t) 0 p)
+    c.in_ok-put_back.field-0
+    (λ p a. plan_near start t n c.args.from c.args.to old new 0 small p c.args.planner.some c.requires.half_full h a
+    c.in_ok-plan.ensures.plan)
+    c.in_ok-put_back.ensures
+
+pub returns-clause-cells : goal.returns-clause-cells
+returns-clause-cells c =
+    let m = c.args.planner.block_size in
+    let t = c.args.t.now in
+    let n = c.in-Some.found in
+    let P : Option Near → Type 0 = λ o. IfSome o (IsNear m c.args.from c.args.to t) in
+    let h : IsNear m c.args.from c.args.to t n = subst P c.in-Some.is c.in_ok-found.ensures in
+    let old = c.len-old.result in
+    let new = old - (c.args.to - c.args.from) in
+    let small = c.in_ok-plan.plan in
+    if_some (IsPlaced m n.window old new small) (λ p. Means (λ src. deleted c.args.from c.args.to) t p) c.in_ok-put_back.field-0
+    (λ p a src written.
+    let W : List NewBlock → Type 0 = AreWritten src in
+    let e = c.in_ok-plan.ensures.cells src (subst W a.makes written) in
+    means_deleted src m t n old c.args.from c.args.to small p h c.len-old.ensures.value c.requires.rising a e)
+    c.in_ok-put_back.ensures
