@@ -13,7 +13,8 @@ use Rattle.peak_summary.specs.Peaks.{joined, nothing}
 use Rattle.sample_block.specs.Faults.{number_at}
 use Rattle.sample_block.proofs.Laws.{get_samples, length_samples}
 use Rattle.block_store.specs.Reads.{stored_frame}
-use Rattle.block_store.proofs.FrameLaws.{frames_more, length_stored}
+use Rattle.block_store.proofs.FrameLaws.{frames_more, frames_taken, length_stored}
+use Rattle.block_cache.specs.Pages.{run_frames}
 
 samples_cut : (bytes : List ℕ) (at m skip n : ℕ) → skip + n ≤ m
     → take n (drop skip (samples_in bytes at m)) ≡ samples_in bytes (at + 2 * skip) n
@@ -125,15 +126,21 @@ frame_page_read was now l b page start n fs same place header whole got =
 pub frame_part_read : (was now : Files) (l : Level) (id len start from skip n m : ℕ) (fs out : List Summary) → now ≡ was
     → start + skip ≡ from → skip + n ≤ m
     → fs ≡ stored_frames (bytes_of (now id)) l len start m
-    → out ≡ take (skip + n - skip) (drop skip fs)
+    → out ≡ take n (drop skip fs)
     → out ≡ stored_frames (bytes_of (was id)) l len from n
 frame_part_read was now l id len start from skip n m fs out same place le read got =
-    let size : skip + n - skip ≡ n = omega arith in
-    got ∙ ap (λ (k : ℕ). take k (drop skip fs)) size
-    ∙ ap (λ (ys : List Summary). take n (drop skip ys)) read
+    got ∙ ap (λ (ys : List Summary). take n (drop skip ys)) read
     ∙ frames_cut (bytes_of (now id)) l len start m skip n le
     ∙ ap (λ (f : Files). stored_frames (bytes_of (f id)) l len (start + skip) n) same
     ∙ ap (λ (k : ℕ). stored_frames (bytes_of (was id)) l len k n) place
+
+-- the bytes of frames stand for what stands in the file
+pub run_read : (was now : Files) (l : Level) (id len from n size : ℕ) (part : List ℕ) → now ≡ was → size ≡ 12 * n
+    → part ≡ take size (drop (level_place l len + 12 * from) (bytes_of (now id)))
+    → run_frames part l len from n ≡ stored_frames (bytes_of (was id)) l len from n
+run_read was now l id len from n size part same wide got =
+    frames_taken (bytes_of (now id)) part l len from (level_place l len + 12 * from) n size refl wide got
+    ∙ ap (λ (f : Files). stored_frames (bytes_of (f id)) l len from n) same
 
 -- how many frames are on a page
 pub frame_page_len : (l : Level) (b : BlockRef) (page : ℕ)

@@ -1,16 +1,21 @@
 // The cache.
-ghost use Rattle.std.specs.Prelude.{◌≡◌, ◌⊎◌, ◌+◌, ◌≤◌, Bool, true, false, ℕ, ℤ, List, IfOk, length, take, drop};
+ghost use Rattle.std.specs.Prelude.{◌≡◌, ◌⊎◌, ◌+◌, ◌*◌, ◌≤◌, Bool, true, false, ℕ, ℤ, List, IfOk, length, take, drop};
 ghost use Rattle.std.specs.Prelude.{Contains, IfSome, None, fold};
 ghost use Rattle.disk_model.specs.Disk.{Files};
-ghost use Rattle.peak_summary.specs.Peaks.{joined};
+ghost use Rattle.peak_summary.specs.Peaks.{frame_count, joined};
+ghost use Rattle.block_store.specs.Reads.{frame_len};
 ghost use Rattle.peak_summary.specs.declared.stretch.Summary.{Summary as summary_of};
 ghost use Rattle.block_cache.specs.declared.keys.PageKey.{PageKey as key_of};
 ghost use Rattle.block_cache.specs.Entries.{HasKey};
-ghost use Rattle.block_cache.specs.Pages.{IsPage, page_len};
+ghost use Rattle.block_cache.specs.Pages.{IsPage, page_len, run_frames};
 ghost use Rattle.block_cache.specs.Caches.{AllPass, IsBounded, IsCacheOf, IsCacheWithout, SameCache, no_entries};
 
+use super::frame_page::FramePage;
 use super::keys::PageKey;
-use super::pages::{copy_page, drop_pages, join_page, keep_page, release_page};
+use super::pages::{
+    copy_frame_page, copy_page, drop_pages, join_page, keep_frame_page, keep_page, release_page,
+};
+use super::runs::FrameRun;
 use lru::LruCache;
 use pcm_base::NoMemory;
 use peak_summary::Summary;
@@ -27,7 +32,7 @@ use std::num::NonZeroUsize;
 pub struct Cache {
     headers: LruCache<PageKey, ()>,
     samples: LruCache<PageKey, Vec<i16>>,
-    frames: LruCache<PageKey, Vec<Summary>>,
+    frames: LruCache<PageKey, FramePage>,
 }
 
 impl Model for Cache {
@@ -152,7 +157,7 @@ impl Cache {
         ensures missed { result ≡ false → HasKey self.old.frames key → ⊥ }
         ensures same { SameCache self.old self.new }
     {
-        copy_page(&mut self.frames, key, skip, out)
+        copy_frame_page(&mut self.frames, key, skip, out)
     }
 
     // Joins frames of a page from a number on to what is before them, where the page is there.
@@ -172,15 +177,19 @@ impl Cache {
         join_page(&mut self.frames, key, skip, count, before)
     }
 
-    pub(crate) fn keep_frames(&mut self, key: PageKey, frames: &[Summary])
-        requires { IsPage key (length frames.now) }
-        ensures frames { (e : key_of × List summary_of) → Contains self.new.frames e
-            → Contains self.old.frames e ⊎ ((e.0 ≡ key) × (e.1 ≡ frames.now)) }
+    // Keeps a page of frames from its bytes, where there is memory.
+    pub(crate) fn keep_frames(&mut self, key: PageKey, run: FrameRun, bytes: &[u8])
+        requires page { IsPage key run.count }
+        requires size { length bytes.now ≡ 12 * run.count }
+        requires few { run.count ≤ 256 }
+        requires within { run.from + run.count ≤ frame_count (frame_len run.level) run.block.len }
+        ensures frames { (e : key_of × List summary_of) → Contains self.new.frames e → Contains self.old.frames e
+            ⊎ ((e.0 ≡ key) × (e.1 ≡ run_frames bytes.now run.level run.block.len run.from run.count)) }
         ensures headers { self.new.headers ≡ self.old.headers }
         ensures samples { self.new.samples ≡ self.old.samples }
         ensures pages { self.new.pages ≡ self.old.pages }
     {
-        keep_page(&mut self.frames, key, frames);
+        keep_frame_page(&mut self.frames, key, run, bytes);
     }
 
     // Takes out all entries of a block.

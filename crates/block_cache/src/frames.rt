@@ -9,14 +9,14 @@ ghost use Rattle.sample_block.specs.Blocks.{blocks};
 ghost use Rattle.block_store.specs.declared.fault.BlockFault.TheVariants as fault;
 ghost use Rattle.block_store.specs.Reads.{Counted, HasHeader, IsReadFault, frame_len, level_place, stored_frames};
 ghost use Rattle.block_cache.specs.Entries.{HasKey};
-ghost use Rattle.block_cache.specs.Pages.{frames_end, page_end, frame_key as key_at};
+ghost use Rattle.block_cache.specs.Pages.{frames_end, page_end, run_frames, frame_key as key_at};
 ghost use Rattle.block_cache.specs.Caches.{HasFrames, IsCacheOf, KeepsCache, SameCache};
 
 use super::cache::Cache;
 use super::headers::compare_kept;
-use super::joins::join_all;
 use super::keys::frame_key;
-use block_store::{BlockFault, Level, read_compared_frames};
+use super::runs::{FrameRun, copy_run, join_run};
+use block_store::{BlockFault, Level, read_compared_frame_bytes, read_compared_frames};
 use disk_model::Store;
 use pcm_base::BlockRef;
 use peak_summary::{NOTHING, Summary};
@@ -35,41 +35,84 @@ fn frames_in(level: Level, len: usize) -> usize
     }
 }
 
+/// Reads the bytes of frames.
+fn read_run<S: Store>(
+    store: &mut S,
+    cache: &mut Cache,
+    run: FrameRun,
+    bytes: &mut [u8],
+) -> Result<(), BlockFault>
+    requires block { IsBlock run.block.id run.block.len }
+    requires within { run.from + run.count ≤ frame_count (frame_len run.level) run.block.len }
+    requires some { 0 < run.count }
+    requires size { length bytes.old ≡ 12 * run.count }
+    requires cached { IsTrue (S.tells store.old) → IsCacheOf (S.reads store.old) cache.old }
+    ensures cache { KeepsCache (S.tells store.old) (S.reads store.old) (run.block ∷ []) cache.old cache.new }
+    ensures frames { IsTrue (S.tells store.old)
+        → OnOk result (run_frames bytes.new run.level run.block.len run.from run.count
+        ≡ stored_frames (bytes_of (S.reads store.old run.block.id)) run.level run.block.len run.from run.count) }
+    ensures header { IsTrue (S.tells store.old)
+        → OnOk result (HasHeader run.block.id run.block.len (bytes_of (S.reads store.old run.block.id))) }
+    ensures whole { IsTrue (S.tells store.old) → OnOk result
+        (level_place run.level run.block.len + 12 * (run.from + run.count)
+        ≤ length (bytes_of (S.reads store.old run.block.id))) }
+    ensures damaged { IsTrue (S.tells store.old) → IfErr result (λ e. IsReadFault run.block.id run.block.len
+        (level_place run.level run.block.len + 12 * (run.from + run.count))
+        (bytes_of (S.reads store.old run.block.id)) e) }
+    ensures kept { Kept S.Store store.old store.new }
+    ensures faults { Counted result (S.read_fault_count store.old) (S.read_fault_count store.new) }
+{
+    if let Err(fault) = compare_kept(store, cache, run.block) {
+        return Err(fault);
+    }
+    if let Err(fault) = read_compared_frame_bytes(
+        store,
+        run.block,
+        run.level,
+        run.from as u32,
+        bytes,
+    ) {
+        return Err(fault);
+    }
+    Ok(())
+}
+
 /// Reads a whole page of frames, and keeps it.
 fn fill_page<S: Store>(
     store: &mut S,
     cache: &mut Cache,
-    block: BlockRef,
-    level: Level,
-    page: usize,
-    frames: &mut [Summary],
+    run: FrameRun,
+    bytes: &mut [u8],
 ) -> Result<(), BlockFault>
-    requires block { IsBlock block.id block.len }
-    requires within { 256 * page < frame_count (frame_len level) block.len }
-    requires size { length frames.old ≡ min 256 (frame_count (frame_len level) block.len - 256 * page) }
+    requires block { IsBlock run.block.id run.block.len }
+    requires start { run.from ≡ 256 * (run.from / 256) }
+    requires within { run.from < frame_count (frame_len run.level) run.block.len }
+    requires count { run.count ≡ min 256 (frame_count (frame_len run.level) run.block.len - run.from) }
+    requires size { length bytes.old ≡ 12 * run.count }
     requires cached { IsTrue (S.tells store.old) → IsCacheOf (S.reads store.old) cache.old }
-    ensures cache { KeepsCache (S.tells store.old) (S.reads store.old) (block ∷ []) cache.old cache.new }
+    ensures cache { KeepsCache (S.tells store.old) (S.reads store.old) (run.block ∷ []) cache.old cache.new }
     ensures frames { IsTrue (S.tells store.old)
-        → OnOk result (frames.new
-        ≡ stored_frames (bytes_of (S.reads store.old block.id)) level block.len (256 * page) (length frames.old)) }
+        → OnOk result (run_frames bytes.new run.level run.block.len run.from run.count
+        ≡ stored_frames (bytes_of (S.reads store.old run.block.id)) run.level run.block.len run.from run.count) }
     ensures header { IsTrue (S.tells store.old)
-        → OnOk result (HasHeader block.id block.len (bytes_of (S.reads store.old block.id))) }
+        → OnOk result (HasHeader run.block.id run.block.len (bytes_of (S.reads store.old run.block.id))) }
     ensures whole { IsTrue (S.tells store.old) → OnOk result
-        (level_place level block.len + 12 * (256 * page + length frames.old)
-        ≤ length (bytes_of (S.reads store.old block.id))) }
-    ensures damaged { IsTrue (S.tells store.old) → IfErr result (λ e. IsReadFault block.id block.len
-        (level_place level block.len + 12 * (256 * page + length frames.old))
-        (bytes_of (S.reads store.old block.id)) e) }
+        (level_place run.level run.block.len + 12 * (run.from + run.count)
+        ≤ length (bytes_of (S.reads store.old run.block.id))) }
+    ensures damaged { IsTrue (S.tells store.old) → IfErr result (λ e. IsReadFault run.block.id run.block.len
+        (level_place run.level run.block.len + 12 * (run.from + run.count))
+        (bytes_of (S.reads store.old run.block.id)) e) }
     ensures kept { Kept S.Store store.old store.new }
     ensures faults { Counted result (S.read_fault_count store.old) (S.read_fault_count store.new) }
 {
-    if let Err(fault) = compare_kept(store, cache, block) {
+    if let Err(fault) = read_run(store, cache, run, bytes) {
         return Err(fault);
     }
-    if let Err(fault) = read_compared_frames(store, block, level, (PAGE * page) as u32, frames) {
-        return Err(fault);
-    }
-    cache.keep_frames(frame_key(level, block, page as u32), frames);
+    cache.keep_frames(
+        frame_key(run.level, run.block, (run.from / PAGE) as u32),
+        run,
+        bytes,
+    );
     Ok(())
 }
 
@@ -102,15 +145,20 @@ fn load_page<S: Store>(
     ensures kept { Kept S.Store store.old store.new }
     ensures faults { Counted result (S.read_fault_count store.old) (S.read_fault_count store.new) }
 {
-    let page = from / PAGE;
-    let skip = from % PAGE;
-    let mut buf = [NOTHING; PAGE];
-    let len = PAGE.min(frames_in(level, block.len as usize) - PAGE * page);
-    let frames = &mut buf[..len];
-    if let Err(fault) = fill_page(store, cache, block, level, page, frames) {
+    let start = PAGE * (from / PAGE);
+    let count = PAGE.min(frames_in(level, block.len as usize) - start);
+    let run = FrameRun {
+        block,
+        level,
+        from: start,
+        count,
+    };
+    let mut buf = [0u8; 12 * PAGE];
+    let bytes = &mut buf[..12 * count];
+    if let Err(fault) = fill_page(store, cache, run, bytes) {
         return Err(fault);
     }
-    out.copy_from_slice(&frames[skip..skip + out.len()]);
+    copy_run(bytes, run, from % PAGE, out);
     Ok(())
 }
 
@@ -371,15 +419,20 @@ fn join_loaded<S: Store>(
     ensures kept { Kept S.Store store.old store.new }
     ensures faults { Counted result (S.read_fault_count store.old) (S.read_fault_count store.new) }
 {
-    let page = part.from / PAGE;
-    let skip = part.from % PAGE;
-    let mut buf = [NOTHING; PAGE];
-    let len = PAGE.min(frames_in(part.level, part.block.len as usize) - PAGE * page);
-    let frames = &mut buf[..len];
-    if let Err(fault) = fill_page(store, cache, part.block, part.level, page, frames) {
+    let start = PAGE * (part.from / PAGE);
+    let size = PAGE.min(frames_in(part.level, part.block.len as usize) - start);
+    let run = FrameRun {
+        block: part.block,
+        level: part.level,
+        from: start,
+        count: size,
+    };
+    let mut buf = [0u8; 12 * PAGE];
+    let bytes = &mut buf[..12 * size];
+    if let Err(fault) = fill_page(store, cache, run, bytes) {
         return Err(fault);
     }
-    Ok(join_all(before, &frames[skip..skip + count]))
+    Ok(join_run(before, bytes, run, part.from % PAGE, count))
 }
 
 /// The same, and the frames are read alone.
@@ -411,12 +464,18 @@ fn join_alone<S: Store>(
     ensures kept { Kept S.Store store.old store.new }
     ensures faults { Counted result (S.read_fault_count store.old) (S.read_fault_count store.new) }
 {
-    let mut buf = [NOTHING; PAGE];
-    let frames = &mut buf[..count];
-    if let Err(fault) = read_alone(store, cache, part.block, part.level, part.from, frames) {
+    let run = FrameRun {
+        block: part.block,
+        level: part.level,
+        from: part.from,
+        count,
+    };
+    let mut buf = [0u8; 12 * PAGE];
+    let bytes = &mut buf[..12 * count];
+    if let Err(fault) = read_run(store, cache, run, bytes) {
         return Err(fault);
     }
-    Ok(join_all(before, frames))
+    Ok(join_run(before, bytes, run, 0, count))
 }
 
 /// The same: of a page that is kept they are joined where they are, and nothing is read or copied.

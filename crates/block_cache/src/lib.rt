@@ -11,13 +11,14 @@
 
 mod cache;
 mod drops;
+mod frame_page;
 mod frames;
 mod headers;
-mod joins;
 mod keys;
 mod pages;
 mod parts;
 mod reader;
+mod runs;
 mod samples;
 mod samples_once;
 

@@ -246,7 +246,7 @@ impl<S: Store> BlockReader<S> {
         read_frames_once(&mut self.store, &mut self.cache, block, level, from, out)
     }
 
-    /// Joins so many frames of a level of a block, from a number on. They come as those of `frames`, or `once` as those
+    /// Joins a number of frames of a level of a block, from a frame on. They come as those of `frames`, or `once` as those
     /// of `frames_once`. Of a page that the cache has they are joined where they are, and not copied.
     #[tactic(auto, using(crate::proofs::CacheLaws::cached_on))]
     pub fn join_frames(

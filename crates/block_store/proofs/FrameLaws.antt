@@ -117,3 +117,8 @@ pub frames_within : (level : Level) (len from n : ℕ) → from + n ≤ frame_co
     → level_place level len + 12 * (from + n) ≤ size_of len
 frames_within Short len from n le = omega (arith, le)
 frames_within Long len from n le = omega (arith, le)
+
+pub bytes_within : (level : Level) (len from n : ℕ) → 12 * from + n ≤ 12 * frame_count (frame_len level) len
+    → level_place level len + 12 * from + n ≤ size_of len
+bytes_within Short len from n le = omega (arith, le)
+bytes_within Long len from n le = omega (arith, le)

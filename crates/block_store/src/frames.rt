@@ -44,7 +44,7 @@ fn samples_each(level: Level) -> usize
 }
 
 /// How many samples frame `i` has, of a block of this many.
-fn samples_of_frame(level: Level, len: usize, i: usize) -> usize
+pub fn samples_of_frame(level: Level, len: usize, i: usize) -> usize
     requires { i < frame_count (frame_len level) len }
     ensures { result ≡ frame_samples level len i }
 {
@@ -78,6 +78,66 @@ fn take_frames(bytes: &[u8], level: Level, len: usize, from: usize, out: &mut [S
     }
 }
 
+/// Reads the bytes of frames, from the first one of frame `from` on.
+fn read_bytes<S: Store>(
+    store: &mut S,
+    block: BlockRef,
+    level: Level,
+    from: usize,
+    out: &mut [u8],
+) -> Result<(), BlockFault>
+    requires len { block.len ≤ MAX_BLOCK_SAMPLES }
+    requires within { 12 * from + length out.old ≤ 12 * frame_count (frame_len level) block.len }
+    requires some { 0 < length out.old }
+    ensures bytes { IsTrue (S.tells store.old)
+        → OnOk result ((level_place level block.len + 12 * from + length out.old ≤ length (bytes_of
+        (S.reads store.old block.id))) × (out.new ≡ take (length out.old) (drop (level_place level block.len + 12 * from)
+        (bytes_of (S.reads store.old block.id))))) }
+    ensures damaged { IsTrue (S.tells store.old)
+        → IfErr result (λ e. IsEarly block.id block.len (level_place level block.len + 12 * from + length out.old)
+        (bytes_of (S.reads store.old block.id)) e) }
+    ensures kept { Kept S.Store store.old store.new }
+    ensures faults { Counted result (S.read_fault_count store.old) (S.read_fault_count store.new) }
+{
+    let at = place_of(level, block.len as usize) + 12 * from;
+    read_part(store, block, at as u64, out)
+}
+
+/// Reads the bytes of frames, 12 for each, of a block whose header was compared: as many as `out` holds, from the first
+/// one of frame `from` on. It is one call of the store, and takes no memory.
+pub fn read_compared_frame_bytes<S: Store>(
+    store: &mut S,
+    block: BlockRef,
+    level: Level,
+    from: u32,
+    out: &mut [u8],
+) -> Result<(), BlockFault>
+    requires block { IsBlock block.id block.len }
+    requires within { 12 * from + length out.old ≤ 12 * frame_count (frame_len level) block.len }
+    requires some { 0 < length out.old }
+    // The file has the header of the block, as after `compare_header`.
+    requires compared { IsTrue (S.tells store.old)
+        → HasHeader block.id block.len (bytes_of (S.reads store.old block.id)) }
+    ensures bytes { IsTrue (S.tells store.old)
+        → OnOk result (out.new ≡ take (length out.old) (drop (level_place level block.len + 12 * from)
+        (bytes_of (S.reads store.old block.id)))) }
+    ensures whole { IsTrue (S.tells store.old)
+        → OnOk result (level_place level block.len + 12 * from + length out.old
+        ≤ length (bytes_of (S.reads store.old block.id))) }
+    // Of a block of the disk nothing but the disk refuses.
+    ensures valid { (xs : List ℤ) → IsTrue (S.tells store.old) → blocks (S.reads store.old) block.id ≡ Some xs
+        → length xs ≡ block.len
+        → IsOkUnless result fault.DiskFault }
+    // A fault is that the file ends before what is read.
+    ensures damaged { IsTrue (S.tells store.old)
+        → IfErr result (λ e. IsReadFault block.id block.len (level_place level block.len + 12 * from + length out.old)
+        (bytes_of (S.reads store.old block.id)) e) }
+    ensures kept { Kept S.Store store.old store.new }
+    ensures faults { Counted result (S.read_fault_count store.old) (S.read_fault_count store.new) }
+{
+    read_bytes(store, block, level, from as usize, out)
+}
+
 /// Reads frames whose bytes fit the buffer.
 fn read_buffer<S: Store>(
     store: &mut S,
@@ -104,13 +164,11 @@ fn read_buffer<S: Store>(
     ensures kept { Kept S.Store store.old store.new }
     ensures faults { Counted result (S.read_fault_count store.old) (S.read_fault_count store.new) }
 {
-    let len = block.len as usize;
     let size = 12 * out.len();
-    let at = place_of(level, len) + 12 * from;
-    if let Err(fault) = read_part(store, block, at as u64, &mut buf[..size]) {
+    if let Err(fault) = read_bytes(store, block, level, from, &mut buf[..size]) {
         return Err(fault);
     }
-    take_frames(&buf[..size], level, len, from, out);
+    take_frames(&buf[..size], level, block.len as usize, from, out);
     Ok(())
 }
 

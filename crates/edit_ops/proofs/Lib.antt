@@ -10,7 +10,9 @@ mod Rows
 pub mod RunLists
 pub mod StripCells
 pub mod Tame
+pub mod TouchingClips
 pub mod WindowBlocks
 pub mod WindowCells
 pub mod WindowEdits
+pub mod WindowLayouts
 pub mod WindowPlans

@@ -1,14 +1,13 @@
--- Windows of tracks, and tracks with other blocks in a window's place.
-use Rattle.edit_ops.proofs.Common.{◌≡◌, ℕ, ◌+◌, ◌-◌, ◌*◌, ◌<◌, ◌≤◌, List, [], ◌∷◌, ◌++◌, length, drop, refl, sym, ap}
-use Rattle.edit_ops.proofs.Common.{ap₂, subst, ◌∙◌, arith, BlockRef, Clip, AllHalfFull, IsHalfFull, clip_end, end_of}
-use Rattle.edit_ops.proofs.Common.{layout_blocks, append_assoc}
-use Rattle.std.proofs.Common.{get_or}
+-- Windows of tracks: the blocks of a clip, and the clips before and after it.
+use Rattle.edit_ops.proofs.Common.{◌≡◌, ℕ, ◌+◌, ◌-◌, ◌<◌, ◌≤◌, List, [], ◌∷◌, ◌++◌, length, drop, refl, sym, ap, ap₂, subst}
+use Rattle.edit_ops.proofs.Common.{◌∙◌, append-nil, arith, length-append, BlockRef, Clip, AllHalfFull, IsHalfFull, clip_end}
+use Rattle.edit_ops.proofs.Common.{end_of, get_or, layout_blocks, append_assoc}
 use Rattle.std.proofs.lemmas.List.{drop_more}
 use Rattle.pcm_base.specs.Blocks.{AllFull, NoneEmpty, block_lens, blocks_len}
-use Rattle.clip_track.specs.Clips.{AreClips, IsLayout}
-use Rattle.clip_track.proofs.Layouts.{AreClips-earlier}
-use Rattle.edit_ops.specs.Windows.{IsWindow, StartsFit, clip_with, moved, track_with}
-use Rattle.edit_ops.specs.declared.windows.Window.{Window}
+use Rattle.clip_track.specs.Clips.{AreClips}
+use Rattle.clip_track.proofs.Layouts.{AreClips-earlier, ends_later}
+use Rattle.edit_ops.specs.Joins.{moved}
+use Rattle.edit_ops.specs.Windows.{StartsFit, next_of}
 
 pub len_next : (bs : List BlockRef) (i : ℕ) (d : BlockRef) → i < length bs
     → blocks_len (drop i bs) ≡ (get_or bs i d).len + blocks_len (drop (i + 1) bs)
@@ -34,83 +33,86 @@ pub some_len : (bs : List BlockRef) → NoneEmpty bs → 0 < length bs → 0 < b
 some_len [] h l = absurd (omega (arith, l))
 some_len (b ∷ bs) h l = omega (arith, h.0)
 
--- full blocks
+-- ---- full blocks
 full_parts : (m : ℕ) (xs ys : List BlockRef) → AllFull m (block_lens (xs ++ ys))
     → AllFull m (block_lens xs) × AllFull m (block_lens ys)
 full_parts m [] ys h = (tt, h)
 full_parts m (x ∷ xs) ys h = let r = full_parts m xs ys h.1 in ((h.0, r.0), r.1)
 
-full_append : (m : ℕ) (xs ys : List BlockRef) → AllFull m (block_lens xs) → AllFull m (block_lens ys)
+pub full_append : (m : ℕ) (xs ys : List BlockRef) → AllFull m (block_lens xs) → AllFull m (block_lens ys)
     → AllFull m (block_lens (xs ++ ys))
 full_append m [] ys a b = b
 full_append m (x ∷ xs) ys a b = (a.0, full_append m xs ys a.1 b)
 
-pub full_middle : (m : ℕ) (xs ys zs : List BlockRef) → AllFull m (block_lens (xs ++ ys ++ zs))
-    → AllFull m (block_lens ys)
-full_middle m xs ys zs h = (full_parts m xs ys (full_parts m (xs ++ ys) zs h).0).1
-
--- other full blocks in the middle
-pub full_around : (m : ℕ) (xs ys zs ws : List BlockRef) → AllFull m (block_lens (xs ++ ys ++ zs))
-    → AllFull m (block_lens ws) → AllFull m (block_lens (xs ++ ws ++ zs))
-full_around m xs ys zs ws h k =
-    let p = full_parts m (xs ++ ys) zs h in
-    full_append m (xs ++ ws) zs (full_append m xs ws (full_parts m xs ys p.0).0 k) p.1
-
-pub half_from_full : (m : ℕ) (ns : List ℕ) → 0 < m → AllFull m ns → IsHalfFull m ns
+pub half_from_full : (m : ℕ) (bs : List BlockRef) → 0 < m → AllFull m (block_lens bs) → IsHalfFull m (block_lens bs)
 half_from_full m [] s h = tt
-half_from_full m (n ∷ []) s h = (omega (arith, s, h.0.0), h.0.1)
-half_from_full m (n ∷ k ∷ ns) s h = h
+half_from_full m (b ∷ []) s h = (omega (arith, s, h.0.0), h.0.1)
+half_from_full m (b ∷ c ∷ bs) s h = h
 
-pub full_from_half : (m : ℕ) (bs : List BlockRef) → 2 ≤ length bs → IsHalfFull m (block_lens bs)
+full_from_half : (m : ℕ) (bs : List BlockRef) → 2 ≤ length bs → IsHalfFull m (block_lens bs)
     → AllFull m (block_lens bs)
 full_from_half m [] l h = tt
 full_from_half m (b ∷ []) l h = absurd (omega (arith, l))
 full_from_half m (b ∷ c ∷ bs) l h = h
 
--- none is empty
-pub none_empty_full : (m : ℕ) (bs : List BlockRef) → 0 < m → AllFull m (block_lens bs) → NoneEmpty bs
-none_empty_full m [] s h = tt
-none_empty_full m (b ∷ bs) s h = (omega (arith, s, h.0.0), none_empty_full m bs s h.1)
+full_three : (m : ℕ) (xs ys zs : List BlockRef) → 0 < m → AllFull m (block_lens (xs ++ ys ++ zs))
+    → AllFull m (block_lens xs) × IsHalfFull m (block_lens ys) × AllFull m (block_lens zs)
+full_three m xs ys zs s h =
+    let p = full_parts m (xs ++ ys) zs h in
+    let q = full_parts m xs ys p.0 in
+    (q.0, half_from_full m ys s q.1, p.1)
 
--- ---- a clip among others
-pub half_full_at : (m : ℕ) (before : List Clip) (c : Clip) (after : List Clip) → AllHalfFull m (before ++ c ∷ after)
-    → IsHalfFull m (block_lens c.blocks)
-half_full_at m [] c after h = h.0
-half_full_at m (b ∷ before) c after h = half_full_at m before c after h.1
+-- those before and after the blocks of a window
+pub half_three : (m : ℕ) (xs ys zs : List BlockRef) → 0 < m → 0 < length ys → IsHalfFull m (block_lens (xs ++ ys ++ zs))
+    → AllFull m (block_lens xs) × IsHalfFull m (block_lens ys) × AllFull m (block_lens zs)
+half_three m [] ys [] s l h =
+    let H : List BlockRef → Type 0 = λ bs. IsHalfFull m (block_lens bs) in
+    (tt, subst H (append-nil ys) h, tt)
+half_three m [] ys (z ∷ zs) s l h =
+    full_three m [] ys (z ∷ zs) s (full_from_half m (ys ++ z ∷ zs) (omega (arith, l, length-append ys (z ∷ zs))) h)
+half_three m (x ∷ xs) ys zs s l h =
+    full_three m (x ∷ xs) ys zs s (full_from_half m (x ∷ xs ++ ys ++ zs)
+    (omega (arith, l, length-append (x ∷ xs ++ ys) zs, length-append (x ∷ xs) ys)) h)
 
-pub none_empty_at : (at : ℕ) (before : List Clip) (c : Clip) (after : List Clip) → AreClips at (before ++ c ∷ after)
-    → NoneEmpty c.blocks
-none_empty_at at [] c after h = h.2
-none_empty_at at (b ∷ before) c after h = none_empty_at (clip_end b + 1) before c after h.3
-
--- the clips before it, and where they end
-pub apart_before : (at from : ℕ) (before : List Clip) (c : Clip) (after : List Clip) → at ≤ from
-    → AreClips from (before ++ c ∷ after) → AreClips from before × (end_of at before ≤ c.start)
-apart_before at from [] c after l h = (tt, omega (arith, l, h.0))
-apart_before at from (b ∷ before) c after l h =
-    let r = apart_before (clip_end b) (clip_end b + 1) before c after (omega arith) h.3 in
-    ((h.0, h.1, h.2, r.0), r.1)
-
+-- ---- clips one after another
 pub end_append : (at : ℕ) (xs ys : List Clip) → end_of at (xs ++ ys) ≡ end_of (end_of at xs) ys
 end_append at [] ys = refl
 end_append at (x ∷ xs) ys = end_append (clip_end x) xs ys
 
-pub end_past : (at from : ℕ) (cs : List Clip) → at ≤ from → AreClips from cs → at ≤ end_of at cs
-end_past at from [] l h = omega arith
-end_past at from (c ∷ cs) l h = omega (arith, l, h.0, end_past (clip_end c) (clip_end c + 1) cs (omega arith) h.3)
+pub end_more : (at from : ℕ) (cs : List Clip) → at ≤ from → end_of at cs ≤ end_of from cs
+end_more at from [] l = l
+end_more at from (c ∷ cs) l = omega arith
 
--- it ends within the track
-pub end_at : (at : ℕ) (before : List Clip) (c : Clip) (after : List Clip) → AreClips at (before ++ c ∷ after)
-    → clip_end c ≤ end_of at (before ++ c ∷ after)
-end_at at [] c after h = end_past (clip_end c) (clip_end c + 1) after (omega arith) h.3
-end_at at (b ∷ before) c after h =
-    end_at (clip_end b) before c after (AreClips-earlier (clip_end b) (clip_end b + 1) _ (omega arith) h.3)
+pub next_end : (from at : ℕ) (cs : List Clip) → 0 < length cs → next_of from cs ≡ end_of at cs + 1
+next_end from at [] l = absurd (omega (arith, l))
+next_end from at (c ∷ []) l = refl
+next_end from at (c ∷ d ∷ cs) l = next_end (clip_end c + 1) (clip_end c) (d ∷ cs) (omega arith)
 
--- the clips after it
-pub apart_after : (at : ℕ) (before : List Clip) (c : Clip) (after : List Clip) → AreClips at (before ++ c ∷ after)
-    → AreClips (clip_end c + 1) after
-apart_after at [] c after h = h.3
-apart_after at (b ∷ before) c after h = apart_after (clip_end b + 1) before c after h.3
+pub end_before_next : (at from : ℕ) (cs : List Clip) → at ≤ from → end_of at cs ≤ next_of from cs
+end_before_next at from [] l = l
+end_before_next at from (c ∷ cs) l = end_before_next (clip_end c) (clip_end c + 1) cs (omega arith)
+
+pub apart_append : (from : ℕ) (xs ys : List Clip) → AreClips from xs → AreClips (next_of from xs) ys
+    → AreClips from (xs ++ ys)
+apart_append from [] ys h k = k
+apart_append from (x ∷ xs) ys h k = (h.0, h.1, h.2, apart_append (clip_end x + 1) xs ys h.3 k)
+
+pub apart_parts : (from : ℕ) (xs ys : List Clip) → AreClips from (xs ++ ys)
+    → AreClips from xs × AreClips (next_of from xs) ys
+apart_parts from [] ys h = (tt, h)
+apart_parts from (x ∷ xs) ys h =
+    let r = apart_parts (clip_end x + 1) xs ys h.3 in
+    ((h.0, h.1, h.2, r.0), r.1)
+
+pub half_full_parts : (m : ℕ) (xs ys : List Clip) → AllHalfFull m (xs ++ ys) → AllHalfFull m xs × AllHalfFull m ys
+half_full_parts m [] ys h = (tt, h)
+half_full_parts m (x ∷ xs) ys h = let r = half_full_parts m xs ys h.1 in ((h.0, r.0), r.1)
+
+pub blocks_append : (xs ys : List Clip) → layout_blocks (xs ++ ys) ≡ layout_blocks xs ++ layout_blocks ys
+blocks_append [] ys = refl
+blocks_append (x ∷ xs) ys =
+    ap (λ (bs : List BlockRef). x.blocks ++ bs) (blocks_append xs ys)
+    ∙ sym (append_assoc x.blocks (layout_blocks xs) (layout_blocks ys))
 
 -- ---- clips that are moved
 pub moved_none : (cs : List Clip) → moved 0 0 cs ≡ cs
@@ -149,94 +151,8 @@ pub starts_fit : (at : ℕ) (cs : List Clip) → AreClips at cs → end_of at cs
 starts_fit at [] h k = tt
 starts_fit at (c ∷ cs) h k =
     let later = AreClips-earlier (clip_end c) (clip_end c + 1) cs (omega arith) h.3 in
-    (omega (arith, end_past (clip_end c) (clip_end c) cs (omega arith) later, k), starts_fit (clip_end c) cs later k)
+    (omega (arith, ends_later (clip_end c) (clip_end c) cs (omega arith) later, k), starts_fit (clip_end c) cs later k)
 
--- ---- another clip, and moved ones after it, in the place of a clip and those after it
-pub apart_around : (at from to : ℕ) (before : List Clip) (c d : Clip) (after : List Clip)
-    → AreClips at (before ++ c ∷ after) → d.start ≡ c.start → 0 < blocks_len d.blocks → NoneEmpty d.blocks
-    → from ≤ clip_end c → clip_end c - from + to ≡ clip_end d
-    → AreClips at (before ++ d ∷ moved from to after)
-apart_around at from to [] c d after h s l n f e =
-    let k : clip_end c + 1 - from + to ≡ clip_end d + 1 = omega (arith, f, e) in
-    let P : ℕ → Type 0 = λ n. AreClips n (moved from to after) in
-    (omega (arith, h.0, s), l, n, subst P k (moved_apart (clip_end c + 1) from to after (omega (arith, f)) h.3))
-apart_around at from to (b ∷ before) c d after h s l n f e =
-    (h.0, h.1, h.2, apart_around (clip_end b + 1) from to before c d after h.3 s l n f e)
-
-pub end_around : (at from to : ℕ) (before : List Clip) (c d : Clip) (after : List Clip)
-    → AreClips at (before ++ c ∷ after) → from ≤ clip_end c → clip_end c - from + to ≡ clip_end d
-    → end_of at (before ++ d ∷ moved from to after) ≡ end_of at (before ++ c ∷ after) - from + to
-end_around at from to before c d after h f e =
-    let later = AreClips-earlier (clip_end c) (clip_end c + 1) after (omega arith) (apart_after at before c after h) in
-    end_append at before (d ∷ moved from to after)
-    ∙ ap (λ (n : ℕ). end_of n (moved from to after)) (sym e)
-    ∙ moved_end (clip_end c) from to after f later
-    ∙ ap (λ (n : ℕ). n - from + to) (sym (end_append at before (c ∷ after)))
-
-pub half_full_around : (m from to : ℕ) (before : List Clip) (c d : Clip) (after : List Clip)
-    → AllHalfFull m (before ++ c ∷ after) → IsHalfFull m (block_lens d.blocks)
-    → AllHalfFull m (before ++ d ∷ moved from to after)
-half_full_around m from to [] c d after h k = (k, moved_half_full m from to after h.1)
-half_full_around m from to (b ∷ before) c d after h k = (h.0, half_full_around m from to before c d after h.1 k)
-
-pub blocks_append : (xs ys : List Clip) → layout_blocks (xs ++ ys) ≡ layout_blocks xs ++ layout_blocks ys
-blocks_append [] ys = refl
-blocks_append (x ∷ xs) ys =
-    ap (λ (bs : List BlockRef). x.blocks ++ bs) (blocks_append xs ys)
-    ∙ sym (append_assoc x.blocks (layout_blocks xs) (layout_blocks ys))
-
-pub full_by_first : (m : ℕ) (bs : List BlockRef) (d : BlockRef) → IsHalfFull m (block_lens bs)
-    → (length bs ≡ 1 → m ≤ 2 * (get_or bs 0 d).len) → AllFull m (block_lens bs)
-full_by_first m [] d h f = tt
-full_by_first m (b ∷ []) d h f = ((f refl, h.1), tt)
-full_by_first m (b ∷ c ∷ bs) d h f = h
-
--- ---- a track with other full blocks in a window's place
-abbrev before_of : Window → List Clip
-before_of w = w.before.now
-
-pub window_apart : (m : ℕ) (t : List Clip) (w : Window) → IsWindow m t w
-    → AreClips 0 (before_of w ++ clip_with w w.middle.now ∷ w.after.now)
-window_apart m t w h = subst (AreClips 0) h.clips h.layout.apart
-
--- it ends within the track
-pub window_end : (m : ℕ) (t : List Clip) (w : Window) → IsWindow m t w → w.from + blocks_len w.middle.now ≤ end_of 0 t
-window_end m t w h = omega (
-  arith,
-  end_at 0 (before_of w) (clip_with w w.middle.now) w.after.now (window_apart m t w h),
-  ap (end_of 0) h.clips,
-  len_three w.front.now w.middle.now w.back.now,
-  h.from,
-)
-
-pub layout_around : (m : ℕ) (t : List Clip) (w : Window) (old new : ℕ) (bs : List BlockRef) → 0 < m → IsWindow m t w
-    → old ≡ blocks_len w.middle.now → blocks_len bs ≡ new → 0 < blocks_len bs → AllFull m (block_lens bs)
-    → end_of 0 t - old + new ≤ 4294967296 → IsLayout (track_with w old new bs)
-layout_around m t w old new bs s h o n l f few =
-    let c = clip_with w w.middle.now in
-    let d = clip_with w bs in
-    let from = w.from + old in
-    let to = w.from + new in
-    let apart = window_apart m t w h in
-    let was = len_three w.front.now w.middle.now w.back.now in
-    let is = len_three w.front.now bs w.back.now in
-    let within : from ≤ clip_end c = omega (arith, was, h.from, o) in
-    let same : clip_end c - from + to ≡ clip_end d = omega (arith, was, is, h.from, o, n) in
-    let none = none_empty_full m (w.front.now ++ bs ++ w.back.now) s
-    (full_around m w.front.now w.middle.now w.back.now bs h.full f) in
-    record {
-      apart = apart_around 0 from to (before_of w) c d w.after.now apart refl (omega (arith, is, l)) none within same;
-      few = omega (
-        arith,
-        end_around 0 from to (before_of w) c d w.after.now apart within same,
-        ap (end_of 0) h.clips,
-        window_end m t w h,
-        o,
-        few,
-      );
-    }
-
-pub half_full_in : (m : ℕ) (t : List Clip) (w : Window) (bs : List BlockRef) → 0 < m → IsWindow m t w
-    → AllFull m (block_lens bs) → IsHalfFull m (block_lens (w.front.now ++ bs ++ w.back.now))
-half_full_in m t w bs s h f =
-    half_from_full m _ s (full_around m w.front.now w.middle.now w.back.now bs h.full f)
+pub fits_rest : (xs ys : List Clip) → StartsFit (xs ++ ys) → StartsFit ys
+fits_rest [] ys h = h
+fits_rest (x ∷ xs) ys h = fits_rest xs ys h.1

@@ -1,20 +1,23 @@
--- What a track means around a window, and with other blocks in the window's place.
-use Rattle.edit_ops.proofs.Common.{◌≡◌, ℕ, zero, suc, ◌+◌, ◌-◌, ◌≤◌, List, [], ◌∷◌, ◌++◌, length, map, take, drop}
-use Rattle.edit_ops.proofs.Common.{replicate, refl, sym, ap, ap₂, ◌∙◌, append_assoc, arith, length-append, append-nil}
-use Rattle.edit_ops.proofs.Common.{take-append-le, length-replicate, Sources, stretch, BlockRef, Clip, Cell, clip_end, end_of}
-use Rattle.edit_ops.proofs.Common.{trimmed}
+-- What a track means around a window, and with another track in the window's place.
+use Rattle.edit_ops.proofs.Common.{◌≡◌, ℕ, zero, suc, inl, inr, ◌+◌, ◌-◌, ◌<◌, ◌≤◌, List, [], ◌∷◌, ◌++◌, length, map, take}
+use Rattle.edit_ops.proofs.Common.{drop, replicate, refl, sym, ap, ap₂, subst, ◌∙◌, append_assoc, arith, length-append}
+use Rattle.edit_ops.proofs.Common.{append-nil, take-append-le, length-replicate, Sources, BlockRef, Clip, Cell}
+use Rattle.edit_ops.proofs.Common.{clip_end, continued, end_of, trimmed}
 use Rattle.std.proofs.lemmas.List.{drop-append-le, length-map, map-append}
 use Rattle.pcm_base.specs.Blocks.{block_samples, blocks_len}
-use Rattle.pcm_base.specs.{Cells.joined}
 use Rattle.pcm_base.proofs.Pieces.{drop-past}
 use Rattle.block_sequence.proofs.Whole.{length-blocks}
-use Rattle.model_laws.proofs.Trimming.{length-trimmed}
 use Rattle.clip_track.specs.Clips.{AreClips, cells_from}
 use Rattle.clip_track.proofs.Layouts.{AreClips-earlier, length-layout}
-use Rattle.edit_ops.specs.Windows.{IsAround, IsWindow, clip_with, moved}
+use Rattle.edit_ops.specs.Joins.{clip_of, joined_clips, moved}
+use Rattle.edit_ops.specs.Windows.{IsAround, IsWindow, back_clip, front_clip, window_blocks}
 use Rattle.edit_ops.specs.declared.windows.Window.{Window}
+use Rattle.edit_ops.proofs.CellLists.{continued_after, continued_same, regrown}
 use Rattle.edit_ops.proofs.LaidLists.{trimmed-clip}
-use Rattle.edit_ops.proofs.WindowBlocks.{apart_after, apart_before, len_three, window_apart}
+use Rattle.edit_ops.proofs.TouchingClips.{joined_cells, of_exact, samples_append, trimmed_after}
+use Rattle.edit_ops.proofs.WindowBlocks.{end_before_next}
+use Rattle.edit_ops.proofs.WindowLayouts.{additions, additions_loose, after_apart, none_empty_parts, small_end, window_end}
+use Rattle.edit_ops.proofs.WindowLayouts.{window_len}
 use Rattle.pcm_base.specs.declared.sound.Cell.TheVariants as cell
 
 -- ---- lists
@@ -49,23 +52,6 @@ assoc_five a g f s k r =
     ap (λ ws. a ++ ws) left ∙ sym right
 
 -- ---- cells that no gap ends
-joined_same : (x : Cell) (ys : List Cell) → length (joined x ys) ≡ suc (length ys) → joined x ys ≡ x ∷ ys
-joined_same cell.Gap [] h = absurd (omega (arith, h))
-joined_same cell.Gap (y ∷ ys) h = refl
-joined_same (cell.Sample s) ys h = refl
-
-length_joined : (x : Cell) (ys : List Cell) → length (joined x ys) ≤ suc (length ys)
-length_joined cell.Gap [] = omega arith
-length_joined cell.Gap (y ∷ ys) = omega arith
-length_joined (cell.Sample s) ys = omega arith
-
--- where nothing is dropped, they stay
-pub trimmed_same : (xs : List Cell) → length (trimmed xs) ≡ length xs → trimmed xs ≡ xs
-trimmed_same [] h = refl
-trimmed_same (x ∷ xs) h =
-    let e : length (trimmed xs) ≡ length xs = omega (arith, h, length_joined x (trimmed xs), length-trimmed xs) in
-    joined_same x (trimmed xs) (omega (arith, h, e)) ∙ ap (λ ys. x ∷ ys) (trimmed_same xs e)
-
 pub trimmed_layout : (src : Sources) (at from : ℕ) (cs : List Clip) → AreClips from cs
     → trimmed (cells_from src at cs) ≡ cells_from src at cs
 trimmed_layout src at from [] h = refl
@@ -77,13 +63,6 @@ trimmed_layout src at from (c ∷ cs) h =
 -- ---- blocks and clips
 abbrev pub sound : Sources → List BlockRef → List Cell
 sound src bs = map cell.Sample (block_samples src bs)
-
-samples_append : (src : Sources) (xs ys : List BlockRef)
-    → block_samples src (xs ++ ys) ≡ block_samples src xs ++ block_samples src ys
-samples_append src [] ys = refl
-samples_append src (b ∷ xs) ys =
-    ap (λ ss. stretch (src.block b.id) 0 b.len ++ ss) (samples_append src xs ys)
-    ∙ sym (append_assoc (stretch (src.block b.id) 0 b.len) (block_samples src xs) (block_samples src ys))
 
 sound_append : (src : Sources) (xs ys : List BlockRef) → sound src (xs ++ ys) ≡ sound src xs ++ sound src ys
 sound_append src xs ys =
@@ -118,73 +97,142 @@ front_cells src w = cells_from src 0 w.before.now ++ replicate (w.start - end_of
     ++ sound src w.front.now
 
 abbrev pub back_cells : Sources → Window → List Cell
-back_cells src w = sound src w.back.now ++ cells_from src (clip_end (clip_with w w.middle.now)) w.after.now
+back_cells src w = sound src w.back.now ++ cells_from src (w.start + w.len) w.after.now
 
--- a track with some blocks in a window's place, and some clips after it
-cells_around : (src : Sources) (w : Window) (bs : List BlockRef) (after : List Clip)
-    → cells_from src 0 (w.before.now ++ clip_with w bs ∷ after)
-    ≡ front_cells src w ++ sound src bs ++ (sound src w.back.now ++ cells_from src (clip_end (clip_with w bs)) after)
-cells_around src w bs after =
+-- and all of them
+abbrev pub window_sound : Sources → Window → List Cell
+window_sound src w = front_cells src w ++ sound src w.middle.now ++ back_cells src w
+
+window_clip : (src : Sources) (m : ℕ) (t : List Clip) (w : Window) → IsWindow m t w
+    → cells_from src 0 w.before.now
+    ++ cells_from src (end_of 0 w.before.now) (record { start = w.start; blocks = window_blocks w } ∷ w.after.now)
+    ≡ window_sound src w
+window_clip src m t w h =
     let before = cells_from src 0 w.before.now in
     let gap = replicate (w.start - end_of 0 w.before.now) cell.Gap in
-    let rest = cells_from src (clip_end (clip_with w bs)) after in
-    let all : sound src (w.front.now ++ bs ++ w.back.now) ≡ sound src w.front.now ++ sound src bs ++ sound src w.back.now =
-    sound_append src (w.front.now ++ bs) w.back.now
-    ∙ ap (λ cs. cs ++ sound src w.back.now) (sound_append src w.front.now bs) in
-    cells_append src 0 w.before.now (clip_with w bs ∷ after)
-    ∙ ap (λ cs. before ++ (gap ++ cs ++ rest)) all
-    ∙ assoc_five before gap (sound src w.front.now) (sound src bs) (sound src w.back.now) rest
+    let rest = cells_from src (w.start + w.len) w.after.now in
+    let all : sound src (window_blocks w) ≡ sound src w.front.now ++ sound src w.middle.now ++ sound src w.back.now =
+    sound_append src (w.front.now ++ w.middle.now) w.back.now
+    ∙ ap (λ cs. cs ++ sound src w.back.now) (sound_append src w.front.now w.middle.now) in
+    ap₂ (λ (cs : List Cell) (n : ℕ). before ++ (gap ++ cs ++ cells_from src (w.start + n) w.after.now)) all (sym h.len)
+    ∙ assoc_five before gap (sound src w.front.now) (sound src w.middle.now) (sound src w.back.now) rest
 
-pub window_cells : (src : Sources) (m : ℕ) (t : List Clip) (w : Window) → IsWindow m t w
-    → cells_from src 0 t ≡ front_cells src w ++ sound src w.middle.now ++ back_cells src w
-window_cells src m t w h = ap (cells_from src 0) h.clips ∙ cells_around src w w.middle.now w.after.now
+length_before : (src : Sources) (m : ℕ) (t : List Clip) (w : Window) → IsWindow m t w
+    → (length (cells_from src 0 w.before.now) ≡ end_of 0 w.before.now) × (end_of 0 w.before.now ≤ w.start)
+length_before src m t w h = (
+  length-layout src w.before.now h.before,
+  omega (arith, end_before_next 0 0 w.before.now (omega arith), h.apart),
+)
 
 pub length_front : (src : Sources) (m : ℕ) (t : List Clip) (w : Window) → IsWindow m t w
     → length (front_cells src w) ≡ w.from
 length_front src m t w h =
     let before = cells_from src 0 w.before.now in
     let gap = replicate (w.start - end_of 0 w.before.now) cell.Gap in
-    let p = apart_before 0 0 w.before.now (clip_with w w.middle.now) w.after.now (omega arith) (window_apart m t w h) in
+    let p = length_before src m t w h in
     omega (
       arith,
       length-append (before ++ gap) (sound src w.front.now),
       length-append before gap,
-      length-layout src w.before.now p.0,
+      p.0,
       length-replicate {A = Cell} (w.start - end_of 0 w.before.now) cell.Gap,
       length_sound src w.front.now,
       p.1,
       h.from,
     )
 
--- the cells of the window's own track
-pub small_cells : (src : Sources) (bs : List BlockRef) → cells_from src 0 (record { start = 0; blocks = bs } ∷ []) ≡ sound src bs
-small_cells src bs = append-nil (sound src bs)
+-- the track's cells, continued up to the window's clip
+pub window_continued : (src : Sources) (m : ℕ) (t : List Clip) (w : Window) → IsWindow m t w
+    → continued w.start (cells_from src 0 t) ≡ window_sound src w
+window_continued src m t w h =
+    let at = end_of 0 w.before.now in
+    let before = cells_from src 0 w.before.now in
+    let bs = window_blocks w in
+    let p = length_before src m t w h in
+    let n : w.start ≡ length before + (w.start - at) = omega (arith, p.0, p.1) in
+    let A : ℕ → Type 0 = λ k. AreClips (w.start + k) w.after.now in
+    let after = subst A h.len (AreClips-earlier (w.start + w.len) (w.start + w.len + 1) w.after.now (omega arith) h.after) in
+    ap₂ continued n (ap (cells_from src 0) h.clips ∙ cells_append src 0 w.before.now (clip_of w.start bs ++ w.after.now))
+    ∙ continued_after (w.start - at) before (cells_from src at (clip_of w.start bs ++ w.after.now))
+    ∙ ap (λ cs. before ++ cs) (sym (of_exact src at w.start bs w.after.now p.1 after))
+    ∙ window_clip src m t w h
 
--- new cells in a window's place
+-- and alone, where it is there
+pub window_cells : (src : Sources) (m : ℕ) (t : List Clip) (w : Window) → IsWindow m t w → 0 < blocks_len w.middle.now
+    → cells_from src 0 t ≡ window_sound src w
+window_cells src m t w h some =
+    let long = length-layout src t h.layout.apart in
+    let len = window_len m t w h in
+    let within : w.start ≤ length (cells_from src 0 t) = elim (window_end m t w h) [
+      | inl e ↦ omega (arith, long, e)
+      | inr e ↦ absurd (omega (arith, e, some, len, h.from))
+    ] in
+    sym (continued_same w.start (cells_from src 0 t) within) ∙ window_continued src m t w h
+
+-- the cells of the window's own track
+pub small_cells : (src : Sources) (bs : List BlockRef) → cells_from src 0 (clip_of 0 bs) ≡ sound src bs
+small_cells src [] = refl
+small_cells src (b ∷ bs) = append-nil (sound src (b ∷ bs))
+
+-- ---- another track in a window's place
+added_cells : (src : Sources) (m : ℕ) (t : List Clip) (w : Window) (old new : ℕ) (small : List Clip) (cells : List Cell)
+    → IsWindow m t w → old ≡ blocks_len w.middle.now → AreClips 0 small → end_of 0 small ≤ new
+    → cells_from src 0 small ≡ trimmed cells → length cells ≡ new
+    → cells_from src w.from (additions w new small ++ moved (w.from + old) (w.from + new) w.after.now)
+    ≡ cells ++ back_cells src w
+added_cells src m t w old new small cells h o a l e n =
+    let from = w.from + old in
+    let to = w.from + new in
+    let es = moved from to w.after.now in
+    let back = sound src w.back.now in
+    let end = w.start + w.len in
+    let gap : ℕ = new - length (trimmed cells) in
+    let len = window_len m t w h in
+    let zero_at : 0 - 0 + w.from ≡ w.from = omega arith in
+    let later = AreClips-earlier end (end + 1) w.after.now (omega arith) h.after in
+    let here : cells_from src w.from (moved 0 w.from small) ≡ trimmed cells =
+    sym (ap (λ (k : ℕ). cells_from src k (moved 0 w.from small)) zero_at)
+    ∙ cells_moved src 0 0 w.from small (omega arith) a ∙ e in
+    let long : end_of 0 small ≡ length (trimmed cells) = sym (length-layout src small a) ∙ ap length e in
+    let k : to - end_of w.from (moved 0 w.from small) ≡ gap = omega (arith, small_end w small a, long, l) in
+    let i : to + blocks_len w.back.now ≡ end - from + to = omega (arith, len, o) in
+    let rest : cells_from src (to + blocks_len w.back.now) es ≡ cells_from src end w.after.now =
+    ap (λ (j : ℕ). cells_from src j es) i ∙ cells_moved src end from to w.after.now (omega (arith, len, o)) later in
+    let grown : trimmed cells ++ replicate gap cell.Gap ≡ cells =
+    ap (λ (j : ℕ). trimmed cells ++ replicate (j - length (trimmed cells)) cell.Gap) (sym n) ∙ regrown cells in
+    ap (cells_from src w.from) (append_assoc (moved 0 w.from small) (back_clip w new ∷ []) es)
+    ∙ cells_append src w.from (moved 0 w.from small) (back_clip w new ∷ es)
+    ∙ ap₂ (λ (xs : List Cell) (j : ℕ). xs ++ (replicate j cell.Gap ++ back ++ cells_from src (to + blocks_len w.back.now) es))
+    here k
+    ∙ ap (λ (zs : List Cell). trimmed cells ++ (replicate gap cell.Gap ++ back ++ zs)) rest
+    ∙ ap (λ (zs : List Cell). trimmed cells ++ zs) (append_assoc (replicate gap cell.Gap) back (cells_from src end w.after.now))
+    ∙ sym (append_assoc (trimmed cells) (replicate gap cell.Gap) (back_cells src w))
+    ∙ ap (λ (zs : List Cell). zs ++ back_cells src w) grown
+
 pub cells_placed : (src : Sources) (m : ℕ) (t : List Clip) (w : Window) (old new : ℕ) (small all : List Clip)
     (cells : List Cell) → IsWindow m t w → old ≡ blocks_len w.middle.now → IsAround m w old new small all
     → cells_from src 0 small ≡ trimmed cells → length cells ≡ new
     → cells_from src 0 all ≡ trimmed (front_cells src w ++ cells ++ back_cells src w)
 cells_placed src m t w old new small all cells h o a e n =
-    let bs = a.blocks in
-    let from = w.from + old in
-    let to = w.from + new in
-    let c = clip_with w w.middle.now in
-    let d = clip_with w bs in
-    let was = len_three w.front.now w.middle.now w.back.now in
-    let is = len_three w.front.now bs w.back.now in
-    let apart = AreClips-earlier (clip_end c) (clip_end c + 1) w.after.now (omega arith)
-    (apart_after 0 w.before.now c w.after.now (window_apart m t w h)) in
-    let within : from ≤ clip_end c = omega (arith, was, h.from, o) in
-    let same : clip_end d ≡ clip_end c - from + to = omega (arith, was, is, h.from, o, a.len) in
-    let told : sound src bs ≡ trimmed cells = sym (ap (cells_from src 0) a.one ∙ small_cells src bs) ∙ e in
-    let long : length (trimmed cells) ≡ length cells = omega (arith, ap length told, length_sound src bs, a.len, n) in
-    let mid : sound src bs ≡ cells = told ∙ trimmed_same cells long in
-    let after : cells_from src (clip_end d) (moved from to w.after.now) ≡ cells_from src (clip_end c) w.after.now =
-    ap (λ (k : ℕ). cells_from src k (moved from to w.after.now)) same
-    ∙ cells_moved src (clip_end c) from to w.after.now within apart in
-    let whole : cells_from src 0 all ≡ front_cells src w ++ cells ++ back_cells src w =
-    ap (cells_from src 0) a.clips
-    ∙ cells_around src w bs (moved from to w.after.now)
-    ∙ ap₂ (λ (xs : List Cell) (ys : List Cell). front_cells src w ++ xs ++ (sound src w.back.now ++ ys)) mid after in
-    sym (trimmed_layout src 0 0 all a.layout.apart) ∙ ap trimmed whole
+    let at = end_of 0 w.before.now in
+    let before = cells_from src 0 w.before.now in
+    let gap = replicate (w.start - at) cell.Gap in
+    let front = front_clip w in
+    let ds = additions w new small in
+    let es = moved (w.from + old) (w.from + new) w.after.now in
+    let p = length_before src m t w h in
+    let C : ℕ → Type 0 = λ k. cells_from src k (ds ++ es) ≡ cells ++ back_cells src w in
+    let added = subst C h.from (added_cells src m t w old new small cells h o a.apart a.within e n) in
+    sym (trimmed_layout src 0 0 all a.layout.apart)
+    ∙ ap trimmed (ap (cells_from src 0) a.clips ∙ cells_append src 0 w.before.now (joined_clips front ds ++ es))
+    ∙ trimmed_after before (cells_from src at (joined_clips front ds ++ es)) (cells_from src at (front ∷ (ds ++ es)))
+    (joined_cells src at front ds es p.1 (none_empty_parts m t w h).0 (additions_loose m t w new small h a.apart a.within)
+    (after_apart m t w old new small h o))
+    ∙ ap trimmed (ap (λ (zs : List Cell). before ++ (gap ++ sound src w.front.now ++ zs)) added
+    ∙ assoc_front before gap (sound src w.front.now) cells (back_cells src w))
+  where
+    assoc_front : (a g f c k : List Cell) → a ++ (g ++ f ++ (c ++ k)) ≡ (a ++ g ++ f) ++ c ++ k
+    assoc_front a g f c k =
+        sym (append_assoc a (g ++ f) (c ++ k))
+        ∙ ap (λ ws. ws ++ (c ++ k)) (sym (append_assoc a g f))
+        ∙ sym (append_assoc (a ++ g ++ f) c k)

@@ -1,15 +1,18 @@
 -- Edits of cells change a window alone, where their range lies in it.
-use Rattle.edit_ops.proofs.Common.{◌≡◌, ℕ, ◌+◌, ◌-◌, ◌≤◌, List, [], ◌++◌, length, map, take, drop, sym, ap, ap₂, ◌∙◌}
+use Rattle.edit_ops.proofs.Common.{◌≡◌, ℕ, ◌+◌, ◌-◌, ◌<◌, ◌≤◌, List, [], ◌++◌, length, map, take, drop, sym, ap, ap₂, ◌∙◌}
 use Rattle.edit_ops.proofs.Common.{append_assoc, arith, length-append, length-drop, take-append-le, Sources, Clip, Cell}
-use Rattle.edit_ops.proofs.Common.{trimmed, continued, end_of, part, Plan}
+use Rattle.edit_ops.proofs.Common.{trimmed, continued, end_of, part, Plan, subst, emptied, cut_cells, Cutting, Delete}
+use Rattle.edit_ops.proofs.Common.{SplitDelete, Trim}
+use Rattle.std.proofs.Common.{None, Option, Some}
 use Rattle.std.proofs.lemmas.List.{length-map, length-take}
+use Rattle.pcm_base.specs.Blocks.{blocks_len}
 use Rattle.pcm_base.specs.Edits.{changed, deleted, inserted}
 use Rattle.clip_track.specs.Clips.{cells_from}
-use Rattle.edit_ops.specs.Windows.{IsNear, IsPlaced}
+use Rattle.edit_ops.specs.{Strips.CutsWithin, Windows.IsNear, Windows.IsPlaced, Windows.cells_left}
 use Rattle.edit_ops.specs.declared.windows.Near.{Near}
-use Rattle.edit_ops.proofs.CellLists.{front_within}
+use Rattle.edit_ops.proofs.CellLists.{front_within, inserted_continued}
 use Rattle.edit_ops.proofs.WindowCells.{assoc_five, back_cells, cells_placed, drop_within, front_cells, length_front}
-use Rattle.edit_ops.proofs.WindowCells.{length_sound, small_cells, sound, take_within, window_cells}
+use Rattle.edit_ops.proofs.WindowCells.{length_sound, small_cells, sound, take_within, window_cells, window_continued}
 use Rattle.edit_ops.proofs.WindowPlans.{near_len}
 
 -- ---- of three lists, a range within the second
@@ -70,6 +73,11 @@ small_is : (src : Sources) (m from to : ℕ) (t : List Clip) (n : Near) → IsNe
     → cells_from src 0 n.small ≡ sound src n.window.middle.now
 small_is src m from to t n h = ap (cells_from src 0) h.small ∙ small_cells src n.window.middle.now
 
+-- a range that has cells
+some_middle : (m from to : ℕ) (t : List Clip) (n : Near) → IsNear m from to t n → from < to
+    → 0 < blocks_len n.window.middle.now
+some_middle m from to t n h r = omega (arith, h.past, h.within, near_len m from to t n h, r)
+
 pub means_inserted : (src : Sources) (m : ℕ) (t : List Clip) (n : Near) (old count at : ℕ) (small p : Plan)
     (given : List Cell) → IsNear m at at t n → old ≡ end_of 0 n.small
     → IsPlaced m n.window old (old + count) small p → length given ≡ count
@@ -102,14 +110,16 @@ means_inserted src m t n old count at small p given near same a g means =
     (e ∙ ap (λ (xs : List Cell). trimmed (xs ++ given ++ drop place ys)) front) size
     ∙ inserted_in (front_cells src w) ys (back_cells src w) given w.from at (length_front src m t w h) l
     (omega (arith, long, o, k, l))
-    ∙ ap (inserted at given) (sym (window_cells src m t w h))
+    ∙ ap (inserted at given) (sym (window_continued src m t w h))
+    ∙ inserted_continued w.start at given (cells_from src 0 t) (omega (arith, h.from, l))
 
 pub means_deleted : (src : Sources) (m : ℕ) (t : List Clip) (n : Near) (old from to : ℕ) (small p : Plan)
-    → IsNear m from to t n → old ≡ end_of 0 n.small → from ≤ to
+    → IsNear m from to t n → old ≡ end_of 0 n.small → from < to
     → IsPlaced m n.window old (old - (to - from)) small p
     → cells_from src 0 small.layout ≡ deleted (from - n.window.from) (to - n.window.from) (cells_from src 0 n.small)
     → cells_from src 0 p.layout ≡ deleted from to (cells_from src 0 t)
-means_deleted src m t n old from to small p near same r a means =
+means_deleted src m t n old from to small p near same rise a means =
+    let r : from ≤ to = omega (arith, rise) in
     let w = n.window in
     let h = near.window in
     let o = same ∙ near_len m from to t n near in
@@ -133,14 +143,15 @@ means_deleted src m t n old from to small p near same r a means =
     cells_placed src m t w old (old - (to - from)) small.layout p.layout cells h o a.around e size
     ∙ deleted_in (front_cells src w) ys (back_cells src w) w.from from to (length_front src m t w h) l r
     (omega (arith, long, o, k, l, r))
-    ∙ ap (deleted from to) (sym (window_cells src m t w h))
+    ∙ ap (deleted from to) (sym (window_cells src m t w h (some_middle m from to t n near rise)))
 
 pub means_changed : (src : Sources) (m : ℕ) (f : Cell → Cell) (t : List Clip) (n : Near) (old from to : ℕ)
-    (small p : Plan) → IsNear m from to t n → old ≡ end_of 0 n.small → from ≤ to
+    (small p : Plan) → IsNear m from to t n → old ≡ end_of 0 n.small → from < to
     → IsPlaced m n.window old old small p
     → cells_from src 0 small.layout ≡ changed f (from - n.window.from) (to - n.window.from) (cells_from src 0 n.small)
     → cells_from src 0 p.layout ≡ changed f from to (cells_from src 0 t)
-means_changed src m f t n old from to small p near same r a means =
+means_changed src m f t n old from to small p near same rise a means =
+    let r : from ≤ to = omega (arith, rise) in
     let w = n.window in
     let h = near.window in
     let o = same ∙ near_len m from to t n near in
@@ -171,15 +182,51 @@ means_changed src m f t n old from to small p near same r a means =
     cells_placed src m t w old old small.layout p.layout cells h o a.around e size
     ∙ changed_in f (front_cells src w) ys (back_cells src w) w.from from to (length_front src m t w h) l r
     (omega (arith, long, o, k, l, r))
-    ∙ ap (changed f from to) (sym (window_cells src m t w h))
+    ∙ ap (changed f from to) (sym (window_cells src m t w h (some_middle m from to t n near rise)))
 
 -- the cells of the range are those of the window's track
-pub part_near : (src : Sources) (m from to : ℕ) (t : List Clip) (n : Near) → IsNear m from to t n → from ≤ to
+pub part_near : (src : Sources) (m from to : ℕ) (t : List Clip) (n : Near) → IsNear m from to t n → from < to
     → part (from - n.window.from) (to - n.window.from) (cells_from src 0 n.small) ≡ part from to (cells_from src 0 t)
-part_near src m from to t n h r =
+part_near src m from to t n h rise =
+    let r : from ≤ to = omega (arith, rise) in
     let w = n.window in
     ap (part (from - w.from) (to - w.from)) (small_is src m from to t n h)
     ∙ sym (part_in (front_cells src w) (sound src w.middle.now) (back_cells src w) w.from from to
     (length_front src m t w h.window) h.past r
     (omega (arith, length_sound src w.middle.now, near_len m from to t n h, h.within, h.past, r)))
-    ∙ ap (part from to) (sym (window_cells src m t w h.window))
+    ∙ ap (part from to) (sym (window_cells src m t w h.window (some_middle m from to t n h rise)))
+
+-- ---- a range that is cut
+abbrev left_or_none : Option ℕ → ℕ
+left_or_none None = 0
+left_or_none (Some n) = n
+
+abbrev IsThere : Option ℕ → Type 0
+IsThere None = ⊥
+IsThere (Some n) = Unit {0}
+
+pub left_few : (cut : Cutting) (old count new : ℕ) → cells_left cut old count ≡ Some new → new ≤ old
+left_few Delete old count new e = let k : old - count ≡ new = ap left_or_none e in omega (arith, k)
+left_few SplitDelete old count new e = let k : old ≡ new = ap left_or_none e in omega (arith, k)
+left_few Trim old count new e = absurd (subst IsThere (sym e) tt)
+
+pub cuts_within : (cut : Cutting) (to len : ℕ) → to ≤ len → CutsWithin cut to len
+cuts_within Delete to len h = tt
+cuts_within SplitDelete to len h = tt
+cuts_within Trim to len h = h
+
+pub means_cut : (src : Sources) (m : ℕ) (cut : Cutting) (t : List Clip) (n : Near) (old new from to : ℕ) (small p : Plan)
+    → IsNear m from to t n → old ≡ end_of 0 n.small → from < to → cells_left cut old (to - from) ≡ Some new
+    → IsPlaced m n.window old new small p
+    → cells_from src 0 small.layout
+    ≡ cut_cells cut (from - n.window.from) (to - n.window.from) (cells_from src 0 n.small)
+    → cells_from src 0 p.layout ≡ cut_cells cut from to (cells_from src 0 t)
+means_cut src m Delete t n old new from to small p near same r e a means =
+    let P : ℕ → Type 0 = λ k. IsPlaced m n.window old k small p in
+    let k : new ≡ old - (to - from) = sym (ap left_or_none e) in
+    means_deleted src m t n old from to small p near same r (subst P k a) means
+means_cut src m SplitDelete t n old new from to small p near same r e a means =
+    let P : ℕ → Type 0 = λ k. IsPlaced m n.window old k small p in
+    let k : new ≡ old = sym (ap left_or_none e) in
+    means_changed src m emptied t n old from to small p near same r (subst P k a) means
+means_cut src m Trim t n old new from to small p near same r e a means = absurd (subst IsThere (sym e) tt)

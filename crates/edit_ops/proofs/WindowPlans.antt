@@ -1,15 +1,19 @@
 -- The plan of a window's track as a plan of the whole track.
-use Rattle.edit_ops.proofs.Common.{◌≡◌, ℕ, inl, inr, ◌+◌, ◌<◌, ◌≤◌, List, [], ◌∷◌, ◌++◌, length, refl, sym, ap, subst, ◌∙◌}
-use Rattle.edit_ops.proofs.Common.{append-nil, arith, Contains-append_left, Contains-append_right, Contains, BlockRef, Piece}
-use Rattle.edit_ops.proofs.Common.{AllFrom, AllHalfFull, IsHalfFull, end_of, layout_blocks, Clip, NewBlock, Plan}
+use Rattle.edit_ops.proofs.Common.{◌≡◌, ℕ, inl, inr, ◌+◌, ◌≤◌, List, [], ◌∷◌, ◌++◌, length, refl, sym, ap, ap₂, subst, ◌∙◌}
+use Rattle.edit_ops.proofs.Common.{append-nil, append_assoc, arith, Contains-append_left, Contains-append_right, Contains}
+use Rattle.edit_ops.proofs.Common.{AllFrom, AllHalfFull, BlockRef, IsHalfFull, Piece, end_of, layout_blocks, Clip, NewBlock}
+use Rattle.edit_ops.proofs.Common.{Plan}
 use Rattle.edit_ops.specs.Plans.{AllNewFrom, AreNew, AreOldOrNew, IsPlan, Start}
-use Rattle.edit_ops.specs.Windows.{IsNear, IsPlaced, IsWindow, clip_with, moved, track_with, window_clips}
+use Rattle.edit_ops.specs.Joins.{clip_of, joined_clips, moved}
+use Rattle.edit_ops.specs.Windows.{IsNear, IsPlaced, IsWindow, back_clip, front_clip, track_with, window_blocks}
 use Rattle.edit_ops.specs.declared.windows.{Near.Near, Window.Window}
-use Rattle.edit_ops.proofs.{Named.old_or_new_append, Pastes.piece_from_more}
+use Rattle.edit_ops.proofs.{Named.old_or_new_append, Pastes.piece_from_more, TouchingClips.joined_blocks}
 use Rattle.std.proofs.Common.{IfSome, None, Option, Some}
-use Rattle.pcm_base.specs.Blocks.{NoneEmpty, block_lens, blocks_len}
-use Rattle.edit_ops.proofs.WindowBlocks.{blocks_append, full_middle, half_from_full, half_full_around, half_full_in}
-use Rattle.edit_ops.proofs.WindowBlocks.{moved_blocks, none_empty_full, window_end}
+use Rattle.std.specs.Prelude.{◌⊎◌}
+use Rattle.pcm_base.specs.Blocks.{block_lens, blocks_len}
+use Rattle.edit_ops.proofs.TouchingClips.{of_blocks}
+use Rattle.edit_ops.proofs.WindowBlocks.{blocks_append, moved_blocks}
+use Rattle.edit_ops.proofs.WindowLayouts.{additions, window_end, window_len}
 
 -- more blocks to come from
 abbrev Within : List BlockRef → List BlockRef → Type 0
@@ -57,16 +61,31 @@ old_after old xs ys ns g h =
 abbrev blocks_with : Window → List BlockRef → List BlockRef
 blocks_with w bs = layout_blocks w.before.now ++ (w.front.now ++ bs ++ w.back.now ++ layout_blocks w.after.now)
 
-window_blocks : (m : ℕ) (t : List Clip) (w : Window) → IsWindow m t w → layout_blocks t ≡ blocks_with w w.middle.now
-window_blocks m t w h =
-    ap layout_blocks h.clips ∙ blocks_append w.before.now (clip_with w w.middle.now ∷ w.after.now)
+blocks_now : (m : ℕ) (t : List Clip) (w : Window) → IsWindow m t w → layout_blocks t ≡ blocks_with w w.middle.now
+blocks_now m t w h =
+    let bs = window_blocks w in
+    ap layout_blocks h.clips ∙ blocks_append w.before.now (clip_of w.start bs ++ w.after.now)
+    ∙ ap (λ (xs : List BlockRef). layout_blocks w.before.now ++ xs) (of_blocks w.start bs w.after.now)
 
-track_blocks : (w : Window) (old new : ℕ) (bs : List BlockRef) → layout_blocks (track_with w old new bs) ≡ blocks_with w bs
-track_blocks w old new bs =
+blocks_then : (w : Window) (old new : ℕ) (small : List Clip)
+    → layout_blocks (track_with w old new small) ≡ blocks_with w (layout_blocks small)
+blocks_then w old new small =
     let after = moved (w.from + old) (w.from + new) w.after.now in
-    blocks_append w.before.now (clip_with w bs ∷ after)
-    ∙ ap (λ (xs : List BlockRef). layout_blocks w.before.now ++ (w.front.now ++ bs ++ w.back.now ++ xs))
-    (moved_blocks (w.from + old) (w.from + new) w.after.now)
+    let here = moved 0 w.from small in
+    let front = w.front.now in
+    let back = w.back.now in
+    let rest = layout_blocks w.after.now in
+    let added : layout_blocks (additions w new small ++ after) ≡ layout_blocks small ++ (back ++ rest) =
+    ap layout_blocks (append_assoc here (back_clip w new ∷ []) after)
+    ∙ blocks_append here (back_clip w new ∷ after)
+    ∙ ap₂ (λ (xs : List BlockRef) (ys : List BlockRef). xs ++ (back ++ ys)) (moved_blocks 0 w.from small)
+    (moved_blocks (w.from + old) (w.from + new) w.after.now) in
+    let join : front ++ (layout_blocks small ++ (back ++ rest)) ≡ front ++ layout_blocks small ++ back ++ rest =
+    sym (append_assoc front (layout_blocks small) (back ++ rest))
+    ∙ sym (append_assoc (front ++ layout_blocks small) back rest) in
+    blocks_append w.before.now (joined_clips (front_clip w) (additions w new small) ++ after)
+    ∙ ap (λ (xs : List BlockRef). layout_blocks w.before.now ++ xs)
+    (joined_blocks (front_clip w) (additions w new small) after ∙ ap (λ (xs : List BlockRef). front ++ xs) added ∙ join)
 
 old_or_new_around : (w : Window) (bs : List BlockRef) (ns : List NewBlock) → AreOldOrNew w.middle.now bs ns
     → AreOldOrNew (blocks_with w w.middle.now) (blocks_with w bs) ns
@@ -95,37 +114,37 @@ middle_within m t w h b i =
     let front = w.front.now in
     let middle = w.middle.now in
     let P : List BlockRef → Type 0 = λ xs. Contains xs b in
-    subst P (sym (window_blocks m t w h)) (Contains-append_right (layout_blocks w.before.now) _ b
+    subst P (sym (blocks_now m t w h)) (Contains-append_right (layout_blocks w.before.now) _ b
     (Contains-append_left (front ++ middle ++ w.back.now) (layout_blocks w.after.now) b
     (Contains-append_left (front ++ middle) w.back.now b (Contains-append_right front middle b i))))
 
-pub plan_placed : (start : Start) (t : List Clip) (w : Window) (old new count : ℕ) (small p : Plan) → 0 < start.block_size
-    → IsWindow start.block_size t w → AllHalfFull start.block_size t → IsPlaced start.block_size w old new small p
-    → IsPlan start (layout_blocks (window_clips w)) count small → IsPlan start (layout_blocks t) count p
-plan_placed start t w old new count small p s h f a k =
+small_blocks : (bs : List BlockRef) → layout_blocks (clip_of 0 bs) ≡ bs
+small_blocks [] = refl
+small_blocks (b ∷ bs) = append-nil (b ∷ bs)
+
+pub plan_placed : (start : Start) (t : List Clip) (w : Window) (old new count : ℕ) (small p : Plan)
+    → IsWindow start.block_size t w → IsPlaced start.block_size w old new small p
+    → IsPlan start (layout_blocks (clip_of 0 w.middle.now)) count small → IsPlan start (layout_blocks t) count p
+plan_placed start t w old new count small p h a k =
     let m = start.block_size in
-    let bs = a.around.blocks in
-    let mine : layout_blocks (window_clips w) ≡ w.middle.now = append-nil w.middle.now in
-    let theirs : layout_blocks small.layout ≡ bs = ap layout_blocks a.around.one ∙ append-nil bs in
+    let bs = layout_blocks small.layout in
+    let mine = small_blocks w.middle.now in
     let N : List NewBlock → Type 0 = AreNew m start.next in
     let F : List NewBlock → Type 0 = AllNewFrom (layout_blocks t) count in
-    let H : List Clip → Type 0 = AllHalfFull m in
-    let inside : Within (layout_blocks (window_clips w)) (layout_blocks t) =
+    let inside : Within (layout_blocks (clip_of 0 w.middle.now)) (layout_blocks t) =
     λ b i. middle_within m t w h b (subst (λ (xs : List BlockRef). Contains xs b) mine i) in
-    let B1 : List BlockRef → Type 0 = λ xs. AreOldOrNew xs (layout_blocks small.layout) small.makes in
-    let B2 : List BlockRef → Type 0 = λ xs. AreOldOrNew w.middle.now xs small.makes in
-    let named : AreOldOrNew w.middle.now bs small.makes = subst B2 theirs (subst B1 mine k.blocks) in
+    let B1 : List BlockRef → Type 0 = λ xs. AreOldOrNew xs bs small.makes in
+    let named : AreOldOrNew w.middle.now bs small.makes = subst B1 mine k.blocks in
     let B3 : List BlockRef → Type 0 = λ xs. AreOldOrNew xs (blocks_with w bs) small.makes in
     let B4 : List BlockRef → Type 0 = λ xs. AreOldOrNew (layout_blocks t) xs small.makes in
     let B5 : List NewBlock → Type 0 = λ ns. AreOldOrNew (layout_blocks t) (layout_blocks p.layout) ns in
-    let whole : layout_blocks p.layout ≡ blocks_with w bs = ap layout_blocks a.around.clips ∙ track_blocks w old new bs in
+    let whole : layout_blocks p.layout ≡ blocks_with w bs =
+    ap layout_blocks a.around.clips ∙ blocks_then w old new small.layout in
     record {
-      half_full = subst H (sym a.around.clips) (half_full_around m (w.from + old) (w.from + new) w.before.now
-          (clip_with w w.middle.now) (clip_with w bs) w.after.now (subst H h.clips f)
-          (half_full_in m t w bs s h a.around.full));
+      half_full = a.around.half_full;
       new = subst N (sym a.makes) k.new;
       origin = subst F (sym a.makes) (new_from_more _ _ count small.makes inside k.origin);
-      blocks = subst B5 (sym a.makes) (subst B4 (sym whole) (subst B3 (sym (window_blocks m t w h))
+      blocks = subst B5 (sym a.makes) (subst B4 (sym whole) (subst B3 (sym (blocks_now m t w h))
           (old_or_new_around w bs small.makes named)));
       next_id = a.next ∙ k.next_id ∙ ap (λ (ns : List NewBlock). start.next + length ns) (sym a.makes);
     }
@@ -136,31 +155,33 @@ if_some P Q None f h = tt
 if_some P Q (Some x) f h = f x h
 
 -- ---- a window that a range lies in, and its track
-pub window_none_empty : (m : ℕ) (t : List Clip) (w : Window) → 0 < m → IsWindow m t w → NoneEmpty w.middle.now
-window_none_empty m t w s h =
-    none_empty_full m w.middle.now s (full_middle m w.front.now w.middle.now w.back.now h.full)
+small_half_full : (m : ℕ) (bs : List BlockRef) → IsHalfFull m (block_lens bs) → AllHalfFull m (clip_of 0 bs)
+small_half_full m [] h = tt
+small_half_full m (b ∷ bs) h = (h, tt)
 
-pub window_half_full : (m : ℕ) (t : List Clip) (w : Window) → 0 < m → IsWindow m t w
-    → IsHalfFull m (block_lens w.middle.now)
-window_half_full m t w s h =
-    half_from_full m _ s (full_middle m w.front.now w.middle.now w.back.now h.full)
+pub near_half_full : (m from to : ℕ) (t : List Clip) (n : Near) → IsNear m from to t n → AllHalfFull m n.small
+near_half_full m from to t n h =
+    subst (AllHalfFull m) (sym h.small) (small_half_full m n.window.middle.now h.window.middle)
 
-pub near_half_full : (m from to : ℕ) (t : List Clip) (n : Near) → 0 < m → IsNear m from to t n → AllHalfFull m n.small
-near_half_full m from to t n s h =
-    subst (AllHalfFull m) (sym h.small) (window_half_full m t n.window s h.window, tt)
+small_len : (bs : List BlockRef) → end_of 0 (clip_of 0 bs) ≡ blocks_len bs
+small_len [] = refl
+small_len (b ∷ bs) = omega arith
 
 pub near_len : (m from to : ℕ) (t : List Clip) (n : Near) → IsNear m from to t n
     → end_of 0 n.small ≡ blocks_len n.window.middle.now
-near_len m from to t n h = ap (end_of 0) h.small ∙ omega arith
+near_len m from to t n h = ap (end_of 0) h.small ∙ small_len n.window.middle.now
 
+-- it ends within the track, unless it is a gap after all clips
 pub near_end : (m from to : ℕ) (t : List Clip) (n : Near) → IsNear m from to t n
-    → n.window.from + end_of 0 n.small ≤ end_of 0 t
-near_end m from to t n h = omega (arith, near_len m from to t n h, window_end m t n.window h.window)
+    → (n.window.from + end_of 0 n.small ≤ end_of 0 t) ⊎ (end_of 0 n.small ≡ 0)
+near_end m from to t n h = elim (window_end m t n.window h.window) [
+  | inl e ↦ inl (omega (arith, e, near_len m from to t n h, window_len m t n.window h.window))
+  | inr e ↦ inr (omega (arith, e, near_len m from to t n h, window_len m t n.window h.window, h.window.from))
+]
 
 pub plan_near : (start : Start) (t : List Clip) (n : Near) (from to old new count : ℕ) (small p : Plan)
-    → 0 < start.block_size → AllHalfFull start.block_size t → IsNear start.block_size from to t n
-    → IsPlaced start.block_size n.window old new small p → IsPlan start (layout_blocks n.small) count small
-    → IsPlan start (layout_blocks t) count p
-plan_near start t n from to old new count small p s f h a k =
+    → IsNear start.block_size from to t n → IsPlaced start.block_size n.window old new small p
+    → IsPlan start (layout_blocks n.small) count small → IsPlan start (layout_blocks t) count p
+plan_near start t n from to old new count small p h a k =
     let P : List Clip → Type 0 = λ cs. IsPlan start (layout_blocks cs) count small in
-    plan_placed start t n.window old new count small p s h.window f a (subst P h.small k)
+    plan_placed start t n.window old new count small p h.window a (subst P h.small k)

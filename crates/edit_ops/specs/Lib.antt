@@ -1,4 +1,5 @@
 pub mod Changes
+pub mod Joins
 pub mod LaidClips
 pub mod Placing
 pub mod Plans

@@ -1,55 +1,84 @@
--- A window of a track: blocks of one clip that follow each other, which an edit changes alone.
-use Rattle.std.specs.Prelude.{◌≡◌, ℕ, ◌+◌, ◌-◌, ◌<◌, ◌≤◌, ◌^◌, List, [], ◌∷◌, ◌++◌}
-use Rattle.pcm_base.specs.{declared.block.BlockRef.BlockRef, Blocks.AllFull, Blocks.block_lens, Blocks.blocks_len}
-use Rattle.clip_track.specs.{declared.clips.Clip.Clip, Clips.IsLayout, Clips.end_of}
+-- A window of a track: blocks of one clip that follow each other, which an edit changes alone. In a gap there are none.
+use Rattle.std.specs.Prelude.{◌≡◌, ℕ, ◌+◌, ◌-◌, ◌<◌, ◌≤◌, ◌^◌, List, [], ◌∷◌, ◌++◌, Option, None, Some}
+use Rattle.pcm_base.specs.{declared.block.BlockRef.BlockRef, Blocks.AllFull, Blocks.IsHalfFull, Blocks.NoneEmpty}
+use Rattle.pcm_base.specs.{Blocks.block_lens, Blocks.blocks_len}
+use Rattle.clip_track.specs.{declared.clips.Clip.Clip, Clips.AllHalfFull, Clips.AreClips, Clips.IsLayout, Clips.clip_end}
+use Rattle.clip_track.specs.Clips.{end_of}
 use Rattle.edit_ops.specs.{declared.windows.Near.Near, declared.windows.Window.Window, declared.types.Plan.Plan}
+use Rattle.edit_ops.specs.{declared.strips.Cutting.Cutting, declared.strips.Cutting.TheVariants.Delete}
+use Rattle.edit_ops.specs.declared.strips.Cutting.TheVariants.{SplitDelete, Trim}
+use Rattle.edit_ops.specs.declared.joins.Joining.{Joining}
+use Rattle.edit_ops.specs.Joins.{IsJoining, clip_of, finished, joined_clips, moved}
 
--- the window's clip with some blocks in the place of the window's
-abbrev pub clip_with : Window → List BlockRef → Clip
-clip_with w bs = record { start = w.start; blocks = w.front.now ++ bs ++ w.back.now }
+-- where the next clip may begin
+abbrev pub next_of : ℕ → List Clip → ℕ
+next_of from [] = from
+next_of from (c ∷ cs) = next_of (clip_end c + 1) cs
 
--- clips that are moved from one place to another
-abbrev pub moved : ℕ → ℕ → List Clip → List Clip
-moved from to [] = []
-moved from to (c ∷ cs) = record { start = c.start - from + to; blocks = c.blocks } ∷ moved from to cs
+-- the blocks of the window's clip
+abbrev pub window_blocks : Window → List BlockRef
+window_blocks w = w.front.now ++ w.middle.now ++ w.back.now
 
--- the track with some blocks in the place of the window's, of new samples where old ones were
-abbrev pub track_with : Window → ℕ → ℕ → List BlockRef → List Clip
-track_with w old new bs = w.before.now ++ clip_with w bs ∷ moved (w.from + old) (w.from + new) w.after.now
-
--- where a window stands in a track, at block size m: in a clip of full blocks
+-- where a window stands in a track, at block size m: in a clip, or apart from all clips
 pub record IsWindow (m : ℕ) (t : List Clip) (w : Window) : Type 0 where
   pub layout : IsLayout t
-  pub clips : t ≡ w.before.now ++ clip_with w w.middle.now ∷ w.after.now
-  pub full : AllFull m (block_lens (w.front.now ++ w.middle.now ++ w.back.now))
+  pub clips : t ≡ w.before.now ++ (clip_of w.start (window_blocks w) ++ w.after.now)
+  pub before : AreClips 0 w.before.now
+  pub apart : next_of 0 w.before.now ≤ w.start
+  pub after : AreClips (w.start + w.len + 1) w.after.now
+  pub len : w.len ≡ blocks_len (window_blocks w)
+  pub none_empty : NoneEmpty (window_blocks w)
+  pub front : AllFull m (block_lens w.front.now)
+  pub middle : IsHalfFull m (block_lens w.middle.now)
+  pub back : AllFull m (block_lens w.back.now)
   pub from : w.from ≡ w.start + blocks_len w.front.now
-  pub some : 0 < blocks_len w.middle.now
-
--- a window's blocks as a track of their own
-abbrev pub window_clips : Window → List Clip
-window_clips w = record { start = 0; blocks = w.middle.now } ∷ []
 
 -- a window that a range lies in
 pub record IsNear (m from to : ℕ) (t : List Clip) (n : Near) : Type 0 where
   pub window : IsWindow m t n.window
-  pub small : n.small ≡ window_clips n.window
+  pub small : n.small ≡ clip_of 0 n.window.middle.now
   pub past : n.window.from ≤ from
   pub within : to - n.window.from ≤ end_of 0 n.small
 
--- a window's track of one clip of full blocks, put in its place in the whole track
+-- the clip up to the window, and its blocks after it, of new cells where there were old ones
+abbrev pub front_clip : Window → Clip
+front_clip w = record { start = w.start; blocks = w.front.now }
+
+abbrev pub back_clip : Window → ℕ → Clip
+back_clip w new = record { start = w.from + new; blocks = w.back.now }
+
+-- the track with another one in the window's place, of new cells where there were old ones
+abbrev pub track_with : Window → ℕ → ℕ → List Clip → List Clip
+track_with w old new small = w.before.now
+    ++ (joined_clips (front_clip w) (moved 0 w.from small ++ back_clip w new ∷ [])
+    ++ moved (w.from + old) (w.from + new) w.after.now)
+
+-- all of it but the clips after
+pub record IsJoined (m : ℕ) (w : Window) (new : ℕ) (small : List Clip) (j : Joining) : Type 0 where
+  pub joining : IsJoining m j
+  pub apart : AreClips 0 small
+  pub clips : finished j []
+      ≡ w.before.now ++ joined_clips (front_clip w) (moved 0 w.from small ++ back_clip w new ∷ [])
+
+-- another track in the place of a window's
 pub record IsAround (m : ℕ) (w : Window) (old new : ℕ) (small all : List Clip) : Type 0 where
-  pub blocks : List BlockRef
-  pub one : small ≡ record { start = 0; blocks = blocks } ∷ []
-  pub len : blocks_len blocks ≡ new
-  pub full : AllFull m (block_lens blocks)
+  pub apart : AreClips 0 small
+  pub within : end_of 0 small ≤ new
+  pub clips : all ≡ track_with w old new small
   pub layout : IsLayout all
-  pub clips : all ≡ track_with w old new blocks
+  pub half_full : AllHalfFull m all
 
 -- the same of a plan
 pub record IsPlaced (m : ℕ) (w : Window) (old new : ℕ) (small p : Plan) : Type 0 where
   pub around : IsAround m w old new small.layout p.layout
   pub makes : p.makes ≡ small.makes
   pub next : p.next ≡ small.next
+
+-- how many of some cells are left where this many are cut, if a window is enough to cut them
+abbrev pub cells_left : Cutting → ℕ → ℕ → Option ℕ
+cells_left Delete old count = Some (old - count)
+cells_left SplitDelete old count = Some old
+cells_left Trim old count = None
 
 -- no clip begins too far on
 abbrev pub StartsFit : List Clip → Type 0

@@ -7,12 +7,14 @@
 #![tactic(auto)]
 
 mod changing;
+mod joins;
 mod laying;
 mod one_track;
 mod placing;
 mod planner;
 mod planning;
 mod plans;
+mod putting;
 mod refusals;
 mod removing;
 mod run_refusals;

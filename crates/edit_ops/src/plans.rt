@@ -10,14 +10,16 @@ ghost use Rattle.edit_ops.specs.Changes.{cell_change};
 ghost use Rattle.pcm_base.specs.Sizes.{sample_count, clip_count};
 ghost use Rattle.edit_ops.specs.Plans.{IsPlan, Means, start_of};
 ghost use Rattle.edit_ops.specs.Strips.{CutsWithin, cut_cells};
+ghost use Rattle.edit_ops.specs.Windows as windows;
 
 use super::changing::Change;
 use super::planner::Planner;
 use super::planning::plan_strip;
+use super::putting::put_back;
 use super::strips;
 use super::strips::Cutting;
 use super::types::Plan;
-use super::windows::{Near, find_near, put_back};
+use super::windows::{Near, find_near};
 use clip_track::Layout;
 use pcm_base::{NoMemory, RangeEdit};
 
@@ -41,28 +43,16 @@ fn plan_cut_whole(
     Ok(plan_strip(planner, &strip)?)
 }
 
-/// Without a range, by a window around it, where there is one.
-fn plan_delete_near(
-    planner: Planner,
-    t: &Layout,
-    from: u64,
-    to: u64,
-) -> Result<Option<Plan>, NoMemory>
-    requires half_full { AllHalfFull planner.block_size t.now }
-    requires rising { from ≤ to }
-    ensures plan { IfOk result (λ o. IfSome o (λ p. IsPlan (start_of planner) (layout_blocks t.now) 0 p)) }
-    ensures cells { IfOk result (λ o. IfSome o (λ p. Means (λ src. edits.deleted from to) t.now p)) }
-    ensures few_made { IfOk result (λ o. IfSome o (λ p. length p.makes ≤ 8)) }
+/// How many of some cells are left where this many are cut, if a window is enough to cut them.
+fn cells_left(cut: Cutting, old: u64, count: u64) -> Option<u64>
+    requires { count ≤ old }
+    ensures { result ≡ windows.cells_left cut old count }
 {
-    let Some(found) = find_near(planner, t, from, to)? else {
-        return Ok(None);
-    };
-    let Near { window, small } = found;
-    let old = small.len();
-    let begin = from - window.from;
-    let end = to - window.from;
-    let plan = plan_cut_whole(planner, &small, Cutting::Delete, begin, end)?;
-    Ok(put_back(planner, t, window, old, old - (to - from), plan)?)
+    match cut {
+        Cutting::Delete => Some(old - count),
+        Cutting::SplitDelete => Some(old),
+        Cutting::Trim => None,
+    }
 }
 
 /// The same as `plan_cut`, by a window around the range, where there is one.
@@ -74,16 +64,23 @@ fn plan_cut_near(
     to: u64,
 ) -> Result<Option<Plan>, NoMemory>
     requires half_full { AllHalfFull planner.block_size t.now }
-    requires rising { from ≤ to }
+    requires rising { from < to }
     ensures plan { IfOk result (λ o. IfSome o (λ p. IsPlan (start_of planner) (layout_blocks t.now) 0 p)) }
     ensures cells { IfOk result (λ o. IfSome o (λ p. Means (λ src. cut_cells cut from to) t.now p)) }
     ensures few_made { IfOk result (λ o. IfSome o (λ p. length p.makes ≤ 8)) }
 {
-    match cut {
-        Cutting::Delete => plan_delete_near(planner, t, from, to),
-        Cutting::SplitDelete => Ok(None),
-        Cutting::Trim => Ok(None),
-    }
+    let Some(found) = find_near(planner, t, from, to)? else {
+        return Ok(None);
+    };
+    let Near { window, small } = found;
+    let old = small.len();
+    let Some(new) = cells_left(cut, old, to - from) else {
+        return Ok(None);
+    };
+    let begin = from - window.from;
+    let end = to - window.from;
+    let plan = plan_cut_whole(planner, &small, cut, begin, end)?;
+    Ok(put_back(planner, t, window, old, new, plan)?)
 }
 
 /// With a range cut, which may end, or begin, beyond the track; a trim's range is within it.
@@ -101,6 +98,9 @@ pub fn plan_cut(
     ensures cells { IfOk result (λ p. Means (λ src. cut_cells cut from to) t.now p) }
     ensures few_made { IfOk result (λ p. length p.makes ≤ 8) }
 {
+    if from >= to {
+        return plan_cut_whole(planner, t, cut, from, to);
+    }
     match plan_cut_near(planner, t, cut, from, to)? {
         Some(plan) => Ok(plan),
         None => plan_cut_whole(planner, t, cut, from, to),
@@ -137,7 +137,7 @@ fn plan_change_near(
     change: Change,
 ) -> Result<Option<Plan>, NoMemory>
     requires half_full { AllHalfFull planner.block_size t.now }
-    requires rising { from ≤ to }
+    requires rising { from < to }
     ensures plan { IfOk result (λ o. IfSome o (λ p. IsPlan (start_of planner) (layout_blocks t.now) 0 p)) }
     ensures cells { IfOk result (λ o. IfSome o
         (λ p. Means (λ src. edits.changed (cell_change change) from to) t.now p)) }
@@ -172,6 +172,9 @@ fn plan_with_change(
         let cells = edits.part from to (layout_cells src t.now) in
         length p.makes ≤ 8 + sample_count cells / planner.block_size + clip_count cells) }
 {
+    if from >= to {
+        return plan_change_whole(planner, t, from, to, change);
+    }
     match plan_change_near(planner, t, from, to, change)? {
         Some(plan) => Ok(plan),
         None => plan_change_whole(planner, t, from, to, change),

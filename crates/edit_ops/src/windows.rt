@@ -1,29 +1,30 @@
-// A window of a track: blocks of one clip, around the place of an edit.
-ghost use Rattle.std.specs.Prelude.{◌≡◌, ℕ, ◌+◌, ◌-◌, ◌≤◌, ◌<◌, ◌∷◌, ◌++◌, length, drop, IfOk, IfSome, IsTrue, OnOk};
+// A window of a track: blocks of one clip, or none in a gap, around the place of an edit.
+ghost use Rattle.std.specs.Prelude.{◌≡◌, ℕ, ◌+◌, ◌≤◌, ◌<◌, ◌++◌, ◌∷◌, length, drop, IfOk, IfSome, IsTrue};
 ghost use Rattle.pcm_base.specs.declared.limits.TheConstants.{MAX_CELLS};
-ghost use Rattle.pcm_base.specs.Blocks.{blocks_len, block_lens, AllFull, IsHalfFull, NoneEmpty};
+ghost use Rattle.pcm_base.specs.Blocks.{blocks_len, NoneEmpty};
 ghost use Rattle.block_sequence.specs.Sequences.{IsHalfFullSomewhere};
-ghost use Rattle.clip_track.specs.Clips.{AllHalfFull, IsLayout, end_of};
-ghost use Rattle.edit_ops.specs.Windows.{IsAround, IsNear, IsPlaced, IsWindow, StartsFit, clip_with, moved};
-ghost use Rattle.edit_ops.specs.Windows.{track_with, window_clips};
+ghost use Rattle.clip_track.specs.Clips.{AllHalfFull, AreClips, IsLayout};
+ghost use Rattle.edit_ops.specs.Joins.{clip_of};
+ghost use Rattle.edit_ops.specs.Windows.{IsNear, IsWindow, next_of};
 
 use super::planner::Planner;
-use super::types::Plan;
 use block_sequence::Sequence;
 use clip_track::{Clip, Layout};
 use pcm_base::{BlockRef, NoMemory};
 use std::alloc::Global;
 
-/// Blocks of a clip that follow each other, and what stands before and after them.
+/// Blocks of a clip that follow each other, and what stands before and after them. In a gap there are none.
 #[derive(Clone, Copy)]
 pub struct Window<'a> {
     /// The clips before the clip.
     pub before: &'a [Clip],
     /// Where the clip starts.
     pub start: u64,
+    /// How many samples the clip has.
+    pub len: u64,
     /// The clip's blocks before the window.
     pub front: &'a [BlockRef],
-    /// The blocks of the window, at least one.
+    /// The blocks of the window, at least one of each clip.
     pub middle: &'a [BlockRef],
     /// The clip's blocks after the window.
     pub back: &'a [BlockRef],
@@ -90,7 +91,7 @@ fn last_started(clips: &[Clip], place: u64) -> usize
     at
 }
 
-/// The window in a clip for the edit of a range that begins in it, where the clip has blocks enough.
+/// The window in a clip for the edit of a range that begins in it, or at its end.
 fn window_in<'a>(
     before: &'a [Clip],
     clip: &'a Clip,
@@ -100,25 +101,25 @@ fn window_in<'a>(
 ) -> Option<Window<'a>>
     requires layout { IsLayout (before.now ++ clip.now ∷ after.now) }
     requires rising { from ≤ to }
-    ensures window { IfSome result (λ w. (m : ℕ) → AllHalfFull m (before.now ++ clip.now ∷ after.now)
+    ensures window { IfSome result (λ w. (m : ℕ) → 0 < m → AllHalfFull m (before.now ++ clip.now ∷ after.now)
         → IsWindow m (before.now ++ clip.now ∷ after.now) w) }
     ensures past { IfSome result (λ w. w.from ≤ from) }
 {
-    let blocks = clip.blocks.as_slice();
-    if blocks.len() < 2 || from < clip.start {
+    if from < clip.start {
         return None;
     }
+    let blocks = clip.blocks.as_slice();
     let passed = pass_blocks(blocks, from - clip.start);
     let begin = clip.start + passed.size;
     let (front, rest) = blocks.split_at(passed.count);
-    let count = count_blocks(rest, to - begin);
-    let (middle, back) = rest.split_at(count);
+    let (middle, back) = rest.split_at(count_blocks(rest, to - begin));
     if middle.is_empty() {
         return None;
     }
     Some(Window {
         before,
         start: clip.start,
+        len: clip.blocks.len(),
         front,
         middle,
         back,
@@ -127,32 +128,88 @@ fn window_in<'a>(
     })
 }
 
+/// Whether some clips end before a place.
+fn end_before(clips: &[Clip], place: u64) -> bool
+    ensures { IsTrue result → next_of 0 clips.now ≤ place }
+{
+    let [.., last] = clips else {
+        return true;
+    };
+    if last.start.saturating_add(last.blocks.len()) >= place {
+        return false;
+    }
+    true
+}
+
+/// Whether some clips start after a place.
+fn start_after(clips: &[Clip], place: u64) -> bool
+    requires { AreClips 0 clips.now }
+    ensures { IsTrue result → AreClips (place + 1) clips.now }
+{
+    match clips {
+        [first, ..] => place < first.start,
+        [] => true,
+    }
+}
+
+/// The window in the gap of a place.
+fn window_between<'a>(before: &'a [Clip], after: &'a [Clip], place: u64) -> Option<Window<'a>>
+    requires layout { IsLayout (before.now ++ after.now) }
+    ensures window { IfSome result (λ w. (m : ℕ) → IsWindow m (before.now ++ after.now) w) }
+    ensures past { IfSome result (λ w. w.from ≡ place) }
+{
+    if !end_before(before, place) || !start_after(after, place) {
+        return None;
+    }
+    Some(Window {
+        before,
+        start: place,
+        len: 0,
+        front: &[],
+        middle: &[],
+        back: &[],
+        after,
+        from: place,
+    })
+}
+
 /// The window of a track for the edit of a range, where there is one: the blocks that the range meets, and one more at
 /// each side. The range may end after it.
 fn window_at<'a>(t: &'a Layout, from: u64, to: u64) -> Option<Window<'a>>
     requires { from ≤ to }
-    ensures window { IfSome result (λ w. (m : ℕ) → AllHalfFull m t.now → IsWindow m t.now w) }
+    ensures window { IfSome result (λ w. (m : ℕ) → 0 < m → AllHalfFull m t.now → IsWindow m t.now w) }
     ensures past { IfSome result (λ w. w.from ≤ from) }
 {
     let clips = t.as_slice();
     if clips.is_empty() {
         return None;
     }
-    let (before, rest) = clips.split_at(last_started(clips, from));
-    match rest {
-        [clip, after @ ..] => window_in(before, clip, after, from, to),
-        [] => None,
+    let at = last_started(clips, from);
+    let (before, rest) = clips.split_at(at);
+    let [clip, after @ ..] = rest else {
+        return None;
+    };
+    if from < clip.start {
+        return window_between(before, rest, from);
     }
+    let end = clip.start.saturating_add(clip.blocks.len());
+    if from <= end {
+        return window_in(before, clip, after, from, to);
+    }
+    let (before, after) = clips.split_at(at + 1);
+    window_between(before, after, from)
 }
 
 /// The blocks of a window as a track of their own.
 fn window_layout(alloc: Global, window: Window<'_>) -> Result<Layout, NoMemory>
-    requires some { 0 < blocks_len window.middle.now }
     requires none_empty { NoneEmpty window.middle.now }
     requires half_full { IsHalfFullSomewhere window.middle.now }
     requires few { blocks_len window.middle.now ≤ MAX_CELLS }
-    ensures { IfOk result (λ l. l ≡ window_clips window.entry) }
+    ensures { IfOk result (λ l. l ≡ clip_of 0 window.entry.middle.now) }
 {
+    if window.middle.is_empty() {
+        return Ok(Layout::new(alloc));
+    }
     let mut blocks = Vec::new(alloc);
     blocks.extend_from_slice(window.middle)?;
     let blocks = Sequence::new(blocks);
@@ -180,123 +237,4 @@ pub fn find_near<'a>(
         return Ok(None);
     }
     Ok(Some(Near { window, small }))
-}
-
-/// Adds clips, moved from one place to another.
-fn copy_clips(out: &mut Vec<Clip>, clips: &[Clip], from: u64, to: u64) -> Result<(), NoMemory>
-    requires { StartsFit (moved from to clips.now) }
-    ensures { OnOk result (out.new.items ≡ out.old.items ++ moved from to clips.now) }
-{
-    for clip in clips {
-        let start = clip.start.saturating_sub(from).saturating_add(to);
-        let blocks = clip.blocks.copy()?;
-        out.push(Clip { start, blocks })?;
-    }
-    Ok(())
-}
-
-/// The clip of a window, with other blocks in the window's place.
-fn clip_around(alloc: Global, window: Window<'_>, blocks: &[BlockRef]) -> Result<Clip, NoMemory>
-    requires none_empty { NoneEmpty (window.front.now ++ blocks.now ++ window.back.now) }
-    requires half_full { IsHalfFullSomewhere (window.front.now ++ blocks.now ++ window.back.now) }
-    requires few { blocks_len (window.front.now ++ blocks.now ++ window.back.now) ≤ MAX_CELLS }
-    ensures { IfOk result (λ c. c ≡ clip_with window.entry blocks.now) }
-{
-    let around = window.front.len().saturating_add(window.back.len());
-    let mut all = Vec::with_capacity(alloc, blocks.len().saturating_add(around))?;
-    all.extend_from_slice(window.front)?;
-    all.extend_from_slice(blocks)?;
-    all.extend_from_slice(window.back)?;
-    Ok(Clip {
-        start: window.start,
-        blocks: Sequence::new(all),
-    })
-}
-
-/// The track with other blocks in a window's place, of `new` samples where `old` ones were.
-fn track_around(
-    alloc: Global,
-    window: Window<'_>,
-    old: u64,
-    new: u64,
-    blocks: &[BlockRef],
-) -> Result<Layout, NoMemory>
-    requires layout { IsLayout (track_with window old new blocks.now) }
-    requires half_full { IsHalfFullSomewhere (window.front.now ++ blocks.now ++ window.back.now) }
-    requires sum { window.from + old + new ≤ MAX_CELLS + MAX_CELLS }
-    ensures { IfOk result (λ l. l ≡ track_with window.entry old new blocks.now) }
-{
-    let mut out = Vec::new(alloc);
-    copy_clips(&mut out, window.before, 0, 0)?;
-    out.push(clip_around(alloc, window, blocks)?)?;
-    copy_clips(&mut out, window.after, window.from + old, window.from + new)?;
-    Ok(Layout::from_clips(out)?)
-}
-
-/// Whether all of some blocks are full, of which one alone may be smaller.
-fn are_full(blocks: &[BlockRef], block_size: u32) -> bool
-    requires { IsHalfFull block_size (block_lens blocks.now) }
-    ensures { IsTrue result → AllFull block_size (block_lens blocks.now) }
-{
-    if blocks.len() == 1 {
-        return block_size as u64 <= 2 * blocks[0].len as u64;
-    }
-    true
-}
-
-/// A window's track, put in its place in the whole track: `new` samples in the place of `old` ones. There is no answer
-/// where it isn't one clip of full blocks.
-fn lay_around(
-    planner: Planner,
-    t: &Layout,
-    window: Window<'_>,
-    old: u64,
-    new: u64,
-    small: &Layout,
-) -> Result<Option<Layout>, NoMemory>
-    requires window { IsWindow planner.block_size t.now window }
-    requires old { old ≡ blocks_len window.middle.now }
-    requires few { end_of 0 t.now - old + new ≤ MAX_CELLS }
-    requires half_full { AllHalfFull planner.block_size small.now }
-    ensures { IfOk result (λ o. IfSome o (IsAround planner.block_size window.entry old new small.now)) }
-{
-    let [clip] = small.as_slice() else {
-        return Ok(None);
-    };
-    let blocks = clip.blocks.as_slice();
-    if clip.start > 0 || clip.blocks.len() != new || !are_full(blocks, planner.block_size) {
-        return Ok(None);
-    }
-    let layout = track_around(planner.alloc, window, old, new, blocks)?;
-    Ok(Some(layout))
-}
-
-/// The plan of a window's track, put in its place in the whole track, where it fits there.
-pub fn put_back(
-    planner: Planner,
-    t: &Layout,
-    window: Window<'_>,
-    old: u64,
-    new: u64,
-    plan: Plan,
-) -> Result<Option<Plan>, NoMemory>
-    requires window { IsWindow planner.block_size t.now window }
-    requires old { old ≡ blocks_len window.middle.now }
-    requires few { end_of 0 t.now - old + new ≤ MAX_CELLS }
-    requires half_full { AllHalfFull planner.block_size plan.layout }
-    ensures { IfOk result (λ o. IfSome o (IsPlaced planner.block_size window.entry old new plan)) }
-{
-    let Plan {
-        layout,
-        makes,
-        next,
-    } = plan;
-    match lay_around(planner, t, window, old, new, &layout)? {
-        Some(layout) => Ok(Some(Plan {
-            layout,
-            makes,
-            next,
-        })),
-        None => Ok(None),
-    }
 }

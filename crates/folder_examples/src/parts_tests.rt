@@ -82,7 +82,7 @@ fn parts_are_read_to_their_places(rt: HostRuntime) -> Result<(), AllocError> {
     Ok(())
 }
 
-/// How many samples each of four files has: so many that threads read them.
+/// How many samples each of four files has: enough that threads read them.
 const LEN: usize = 200_000;
 
 // The samples of a file, which differ from those of another at each place.

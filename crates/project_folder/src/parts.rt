@@ -6,8 +6,9 @@ use pcm_base::COUNTER_LIMIT;
 use std::fs::File;
 use std::thread::{Threads, join};
 
-/// How many threads read at once at most.
-const THREADS: usize = 8;
+/// How many threads read at once at most. A thread that ends gives its stack back, and each processor takes note of
+/// that. More threads make a read no faster, and delay what others compute meanwhile.
+const THREADS: usize = 2;
 
 /// How many samples a thread reads at least, or about as many, so that its start is small beside them.
 const LEAST: usize = 131_072;
@@ -45,7 +46,7 @@ fn read_each(files: &OpenFiles<File>, parts: &[Part], base: usize, out: &mut [i1
     true
 }
 
-// How many parts there are before the first that begins so many samples after a place.
+// How many parts there are before the first that begins `size` samples after a place.
 fn count_before(parts: &[Part], base: usize, size: usize) -> usize {
     for i in 0..parts.len() {
         if parts[i].to.saturating_sub(base) >= size {
@@ -55,8 +56,8 @@ fn count_before(parts: &[Part], base: usize, size: usize) -> usize {
     parts.len()
 }
 
-// Reads parts into a buffer that begins at a place, in threads that each take about so many of its samples, the last in
-// this one. It says whether all were read.
+// Reads parts into a buffer that begins at a place, in threads that each take about `size` of its samples, the
+// last in this one. It says whether all were read.
 fn read_stretches<T: Threads>(
     threads: &T,
     files: &OpenFiles<File>,

@@ -34,8 +34,8 @@ pub trait SyncFiles<F> {
 #[derive(Drop)]
 pub struct OneByOne;
 
-/// Waits for up to 16 files at once, each in a thread of its own, and reads in up to 8 threads. Where no thread can be
-/// made they are waited for and read in this one.
+/// Waits for up to 16 files at once, each in a thread of its own, and reads in up to two threads. Where no thread can
+/// be made they are waited for and read in this one.
 #[derive(Drop)]
 pub struct SideBySide<T> {
     threads: T,

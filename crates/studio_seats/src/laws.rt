@@ -39,7 +39,7 @@ pub fn turns_keep_order()
     ensures { OwnOrder }
 {}
 
-/// A pin that was made in a run, and that nobody let go, shows the mix of the project that was current then, and each
+/// A pin that was made in a run, and that nobody freed, shows the mix of the project that was current then, and each
 /// call that reads it answers so.
 pub fn pins_stay()
     ensures { PinsStay }

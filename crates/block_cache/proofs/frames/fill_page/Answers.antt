@@ -1,20 +1,26 @@
 -- The page that was read is kept.
-use Rattle.block_cache.proofs.Common.{◌*◌, ◌∙◌, arith, inl, inr, ⊎_elim, common_steps, tells_on}
+use Rattle.block_cache.proofs.Common.{◌/◌, ◌∙◌, arith, inl, inr, refl, subst, sym, ⊎_elim, IsPage, PageKey}
+use Rattle.block_cache.specs.Pages.{run_frames}
 use Rattle.block_cache.proofs.CacheLaws.{keeps_frames, keeps_turn}
-use Rattle.block_cache.proofs.PageLaws.{frame_page_read}
+use Rattle.block_cache.proofs.PageLaws.{frame_page_len, frame_page_read}
 use Rattle.block_cache.proofs.frames.fill_page.Goals as goal
 
+pub keep_frames-requires-clause-page : goal.keep_frames-requires-clause-page
+keep_frames-requires-clause-page g c =
+    let r = c.args.run in
+    subst (λ (k : PageKey). IsPage k r.count) (sym c.frame_key.ensures) (record {
+      block = c.requires.block;
+      size = omega (arith, c.requires.count, c.requires.start, frame_page_len r.level r.block (r.from / 256));
+    })
+
 pub returns-clause-cache : goal.returns-clause-cache
-returns-clause-cache g c = keeps_turn _ _ _ c.args.cache.now c.compare_kept.new.cache c.keep_frames.new.self
-    c.compare_kept.ensures.cache
-    (keeps_frames _ _ c.args.level c.args.block c.args.page c.read_compared_frames.new.out
-    c.compare_kept.new.cache c.keep_frames.new.self
-    (λ told.
-    let still = tells_on c.compare_kept.ensures.kept told in
-    frame_page_read (g.S.Store.reads c.args.store.now) (g.S.Store.reads c.compare_kept.new.store) c.args.level
-    c.args.block c.args.page (256 * c.args.page) _ c.read_compared_frames.new.out
-    c.compare_kept.ensures.kept.same_reads (omega arith) (c.in_default.ensures.header told)
-    (c.in_default-read_compared_frames.ensures.whole still (grind (arith, common_steps)))
-    (c.in_default-read_compared_frames.ensures.frames still))
+returns-clause-cache g c =
+    let r = c.args.run in
+    let files = g.S.Store.reads c.args.store.now in
+    keeps_turn _ _ _ c.args.cache.now c.read_run.new.cache c.keep_frames.new.self c.read_run.ensures.cache
+    (keeps_frames _ _ r.level r.block (r.from / 256)
+    (run_frames c.read_run.new.bytes r.level r.block.len r.from r.count) c.read_run.new.cache c.keep_frames.new.self
+    (λ told. frame_page_read files files r.level r.block (r.from / 256) r.from r.count _ refl c.requires.start
+    (c.in_default.ensures.header told) (c.in_default.ensures.whole told) (c.in_default.ensures.frames told))
     (λ e there. ⊎_elim inl (λ put. inr (put.0 ∙ c.frame_key.ensures, put.1)) (c.keep_frames.ensures.frames e there))
     c.keep_frames.ensures.headers c.keep_frames.ensures.samples c.keep_frames.ensures.pages)

@@ -18,8 +18,8 @@ pub returns-clause-sum : goal.returns-clause-sum
 returns-clause-sum g c = λ told.
     let files = g.S.Store.reads c.args.store.now in
     let p = c.args.part in
-    c.join_all.ensures ∙ ap (fold joined c.args.before) (frame_part_read files files p.level p.block.id p.block.len
-    (256 * (p.from / 256)) p.from (p.from % 256) c.args.count _ c.fill_page.new.frames _ refl (omega arith)
+    c.join_run.ensures ∙ ap (fold joined c.args.before) (frame_part_read files files p.level p.block.id p.block.len
+    (256 * (p.from / 256)) p.from (p.from % 256) c.args.count _ _ _ refl (omega arith)
     (grind (arith, common_steps)) (c.in_default.ensures.frames told) refl)
 
 pub returns-clause-whole : goal.returns-clause-whole

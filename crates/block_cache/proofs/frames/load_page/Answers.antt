@@ -7,5 +7,5 @@ pub returns-clause-frames : goal.returns-clause-frames
 returns-clause-frames g c = λ told.
     let files = g.S.Store.reads c.args.store.now in
     frame_part_read files files c.args.level c.args.block.id c.args.block.len (256 * (c.args.from / 256)) c.args.from
-    (c.args.from % 256) (length c.args.out.now) _ c.fill_page.new.frames _ refl (omega arith)
-    (grind (arith, common_steps)) (c.in_default.ensures.frames told) c.copy_from_slice.ensures.after
+    (c.args.from % 256) (length c.args.out.now) _ _ _ refl (omega arith)
+    (grind (arith, common_steps)) (c.in_default.ensures.frames told) c.copy_run.ensures

@@ -3,6 +3,7 @@ use Rattle.std.proofs.Common.{◌≡◌, ◌+◌, ◌*◌, ◌≤◌, ℕ, List,
 use Rattle.std.proofs.{lemmas.List.take_at, lemmas.List.length-take, lemmas.Grind.common_steps}
 use Rattle.disk_model.specs.Disk.{bytes_of}
 use Rattle.block_store.proofs.FrameLaws.{frames_taken}
+use Rattle.block_store.specs.Reads.{level_place}
 use Rattle.block_store.proofs.frames.read_buffer.Goals as goal
 
 -- the front of a buffer, whose first bytes were read
@@ -15,10 +16,9 @@ front_read bytes new rest at m size part e =
 
 pub returns-clause-frames : goal.returns-clause-frames
 returns-clause-frames g c = λ told.
-    let place = c.place_of.ensures.value in
+    let place : ℕ = level_place c.args.level c.args.block.len + 12 * c.args.from in
     c.take_frames.ensures
     ∙ frames_taken (bytes_of (g.S.Store.reads c.args.store.now c.args.block.id)) _ c.args.level c.args.block.len
-    c.args.from (c.place_of.result + 12 * c.args.from) (length c.args.out.now) (12 * length c.args.out.now)
-    (omega (arith, place)) refl
-    (front_read (bytes_of (g.S.Store.reads c.args.store.now c.args.block.id)) c.read_part.new.buf _ (c.place_of.result
-    + 12 * c.args.from) _ (12 * length c.args.out.now) (c.in_default.ensures.ok told) (grind (arith, common_steps)))
+    c.args.from place (length c.args.out.now) (12 * length c.args.out.now) refl refl
+    (front_read (bytes_of (g.S.Store.reads c.args.store.now c.args.block.id)) c.read_bytes.new.out _ place _
+    (12 * length c.args.out.now) (c.in_default.ensures.bytes told) (grind (arith, common_steps)))

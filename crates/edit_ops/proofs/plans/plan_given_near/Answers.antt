@@ -1,5 +1,5 @@
 -- The plan of the window's track, put in its place.
-use Rattle.edit_ops.proofs.Common.{◌+◌, List, subst, ◌∙◌, arith, NewBlock, AreWritten, stretch}
+use Rattle.edit_ops.proofs.Common.{◌+◌, List, inl, inr, subst, ◌∙◌, arith, NewBlock, AreWritten, stretch}
 use Rattle.edit_ops.proofs.Common.{layout_blocks}
 use Rattle.std.proofs.Common.{IfSome, Option}
 use Rattle.std.proofs.lemmas.List.{length-map}
@@ -19,7 +19,7 @@ plan_given_whole-requires-clause-half_full c =
     let n = c.in-Some.found in
     let P : Option Near → Type 0 = λ o. IfSome o (IsNear m c.args.at c.args.at t) in
     let h : IsNear m c.args.at c.args.at t n = subst P c.in-Some.is c.in_ok-found.ensures in
-    near_half_full m c.args.at c.args.at t n c.args.planner.some h
+    near_half_full m c.args.at c.args.at t n h
 
 pub returns-clause-plan : goal.returns-clause-plan
 returns-clause-plan c =
@@ -34,7 +34,7 @@ returns-clause-plan c =
     let small = c.in_ok-plan.plan in
     if_some (IsPlaced m n.window old new small) (λ p. IsPlan start (layout_blocks t) c.args.count p)
     c.in_ok-put_back.field-0
-    (λ p a. plan_near start t n c.args.at c.args.at old new c.args.count small p c.args.planner.some c.requires.half_full h a
+    (λ p a. plan_near start t n c.args.at c.args.at old new c.args.count small p h a
     c.in_ok-plan.ensures.plan)
     c.in_ok-put_back.ensures
 
@@ -48,7 +48,8 @@ returns-clause-cells c =
     let old = c.len-old.result in
     let new = old + c.args.count in
     let small = c.in_ok-plan.plan in
-    if_some (IsPlaced m n.window old new small) (λ p. Means (λ src. inserted c.args.at (as_cells (stretch src.given 0 c.args.count))) t p) c.in_ok-put_back.field-0
+    if_some (IsPlaced m n.window old new small)
+    (λ p. Means (λ src. inserted c.args.at (as_cells (stretch src.given 0 c.args.count))) t p) c.in_ok-put_back.field-0
     (λ p a src written.
     let W : List NewBlock → Type 0 = AreWritten src in
     let e = c.in_ok-plan.ensures.cells src (subst W a.makes written) in
@@ -63,7 +64,10 @@ plan_given_whole-requires-clause-few c =
     let n = c.in-Some.found in
     let P : Option Near → Type 0 = λ o. IfSome o (IsNear m c.args.at c.args.at t) in
     let h : IsNear m c.args.at c.args.at t n = subst P c.in-Some.is c.in_ok-found.ensures in
-    omega (arith, near_end m c.args.at c.args.at t n h, h.within, h.past, c.requires.few)
+    elim (near_end m c.args.at c.args.at t n h) [
+      | inl e ↦ omega (arith, e, h.within, h.past, c.requires.few)
+      | inr e ↦ omega (arith, e, h.within, h.past, c.requires.few)
+    ]
 
 pub put_back-requires-clause-few : goal.put_back-requires-clause-few
 put_back-requires-clause-few c =
@@ -72,4 +76,19 @@ put_back-requires-clause-few c =
     let n = c.in-Some.found in
     let P : Option Near → Type 0 = λ o. IfSome o (IsNear m c.args.at c.args.at t) in
     let h : IsNear m c.args.at c.args.at t n = subst P c.in-Some.is c.in_ok-found.ensures in
-    omega (arith, near_end m c.args.at c.args.at t n h, c.len-old.ensures.value, c.requires.few)
+    elim (near_end m c.args.at c.args.at t n h) [
+      | inl e ↦ omega (arith, e, c.len-old.ensures.value, c.requires.few)
+      | inr e ↦ omega (arith, e, c.len-old.ensures.value, c.requires.few)
+    ]
+
+pub put_back-requires-clause-far : goal.put_back-requires-clause-far
+put_back-requires-clause-far c =
+    let m = c.args.planner.block_size in
+    let t = c.args.t.now in
+    let n = c.in-Some.found in
+    let P : Option Near → Type 0 = λ o. IfSome o (IsNear m c.args.at c.args.at t) in
+    let h : IsNear m c.args.at c.args.at t n = subst P c.in-Some.is c.in_ok-found.ensures in
+    elim (near_end m c.args.at c.args.at t n h) [
+      | inl e ↦ omega (arith, e, c.len-old.ensures.value, c.requires.few)
+      | inr e ↦ omega (arith, e, h.past, c.len-old.ensures.value, c.requires.few)
+    ]

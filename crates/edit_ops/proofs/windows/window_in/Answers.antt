@@ -1,12 +1,14 @@
 -- The window stands in the clip.
-use Rattle.edit_ops.proofs.Common.{◌≡◌, ◌≤◌, ◌++◌, ◌∷◌, List, length, sym, ap, subst, ◌∙◌, append_assoc}
-use Rattle.edit_ops.proofs.Common.{arith, BlockRef}
-use Rattle.pcm_base.specs.Blocks.{AllFull, NoneEmpty, block_lens, blocks_len}
-use Rattle.edit_ops.proofs.WindowBlocks.{full_from_half, half_full_at, none_empty_at, NoneEmpty-parts, some_len, len_append}
+use Rattle.edit_ops.proofs.Common.{◌≡◌, ◌+◌, ◌<◌, ◌++◌, ◌∷◌, List, length, sym, ap, subst, ◌∙◌, append_assoc, ℕ}
+use Rattle.edit_ops.proofs.Common.{arith, BlockRef, Clip, IsHalfFull}
+use Rattle.pcm_base.specs.Blocks.{NoneEmpty, block_lens, blocks_len}
+use Rattle.clip_track.specs.Clips.{AreClips}
+use Rattle.edit_ops.proofs.TouchingClips.{of_some}
+use Rattle.edit_ops.proofs.WindowBlocks.{apart_parts, half_full_parts, half_three, len_append}
 use Rattle.edit_ops.proofs.windows.window_in.Goals as goal
 
 pub returns-clause-window : goal.returns-clause-window
-returns-clause-window c m h =
+returns-clause-window c m s h =
     let before = c.args.before.now in
     let clip = c.args.clip.now in
     let after = c.args.after.now in
@@ -20,14 +22,25 @@ returns-clause-window c m h =
     ∙ c.split_at.ensures.by_index.0
     ∙ ap (λ (xs : List BlockRef). front ++ xs) c.split_at-2.ensures.by_index.0
     ∙ sym (append_assoc front middle back) in
-    let n : 2 ≤ length clip.blocks = omega (arith, c.if-blocks-lt2.false, ap length c.as_slice-blocks.ensures.value) in
-    let F : List BlockRef → Type 0 = λ xs. AllFull m (block_lens xs) in
-    let none = NoneEmpty-parts front (middle ++ back)
-    (subst NoneEmpty (all ∙ append_assoc front middle back) (none_empty_at 0 before clip after c.requires.layout.apart)) in
+    let some : 0 < length middle = grind arith in
+    let parts = apart_parts 0 before (clip ∷ after) c.requires.layout.apart in
+    let mine = parts.1 in
+    let H : List BlockRef → Type 0 = λ xs. IsHalfFull m (block_lens xs) in
+    let half = half_three m front middle back s some (subst H all (half_full_parts m before (clip ∷ after) h).1.0) in
+    let A : ℕ → Type 0 = λ n. AreClips (clip.start + n + 1) after in
     record {
       layout = c.requires.layout;
-      clips = ap (λ (xs : List BlockRef). before ++ record { start = clip.start; blocks = xs } ∷ after) all;
-      full = subst F all (full_from_half m clip.blocks n (half_full_at m before clip after h));
+      clips = ap (λ (xs : List BlockRef). before ++ record { start = clip.start; blocks = xs } ∷ after) all
+          ∙ ap (λ (cs : List Clip). before ++ (cs ++ after)) (sym (of_some clip.start (front ++ middle ++ back)
+          (omega (arith, mine.1, ap blocks_len all))));
+      before = parts.0;
+      apart = mine.0;
+      after = subst A (sym c.len.ensures.value) mine.3;
+      len = c.len.ensures.value ∙ ap blocks_len all;
+      none_empty = subst NoneEmpty all mine.2;
+      front = half.0;
+      middle = half.1;
+      back = half.2;
       from = omega (
         arith,
         c.pass_blocks-passed.ensures.size,
@@ -35,5 +48,4 @@ returns-clause-window c m h =
         ap blocks_len c.split_at.ensures.by_index.0,
         len_append front rest,
       );
-      some = some_len middle (NoneEmpty-parts middle back none.1).0 (grind arith);
     }

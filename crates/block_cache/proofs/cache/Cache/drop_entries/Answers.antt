@@ -9,7 +9,7 @@ invariant_of-self c = (
       c.self.inside.samples.cap) (entries_of c.drop_pages.new.pages.entries c.drop_pages-2.new.pages.entries
       c.drop_pages-3.new.pages.entries c.drop_pages-2.new.pages.cap) c.self.invariant.0 c.drop_pages-2.ensures.cap
       (λ e has. inl ((lists_without c.args.id _ _ c.drop_pages-2.ensures.without e).0 has).0)
-      (λ e has. inl ((lists_without c.args.id _ _ c.drop_pages-3.ensures.without e).0 has).0),
+      (λ e has. inl ((c.drop_pages-3.ensures.without e).0 has).0),
   c.drop_pages.ensures.cap ∙ c.self.invariant.1 ∙ sym c.drop_pages-2.ensures.cap,
   c.drop_pages-3.ensures.cap ∙ c.self.invariant.2 ∙ sym c.drop_pages-2.ensures.cap,
 )
@@ -20,6 +20,6 @@ returns c = subst (λ (m : Entries). IsCacheWithout c.args.id m (entries_of c.dr
     (record {
       headers = keys_without c.args.id _ _ c.drop_pages.ensures.without;
       samples = lists_without c.args.id _ _ c.drop_pages-2.ensures.without;
-      frames = lists_without c.args.id _ _ c.drop_pages-3.ensures.without;
+      frames = c.drop_pages-3.ensures.without;
       pages = c.drop_pages-2.ensures.cap;
     })

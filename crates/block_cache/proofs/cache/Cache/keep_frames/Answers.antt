@@ -1,25 +1,25 @@
 -- What is kept is a page.
-use Rattle.block_cache.proofs.Common.{◌≡◌, length, subst, sym, ◌∙◌, refl, ◌⊎◌, inl, inr, ⊎_elim, Contains, List}
-use Rattle.block_cache.proofs.Common.{Summary, Entries, entries_of, lists_of, PageKey, IsPage}
-use Rattle.block_cache.proofs.ListLaws.{lists_kept, pages_left}
+use Rattle.block_cache.proofs.Common.{length, subst, sym, ◌∙◌, refl, inl, inr, ⊎_elim, Contains, ap}
+use Rattle.block_cache.proofs.Common.{Entries, entries_of, IsPage, ℕ}
+use Rattle.block_cache.proofs.ListLaws.{pages_left}
+use Rattle.block_cache.proofs.RunLaws.{length_run}
 use Rattle.block_cache.proofs.cache.Cache.keep_frames.Goals as goal
 
-kept : (c : goal.After-keep_page) → (e : PageKey × List Summary) → Contains (lists_of c.keep_page.new.pages.entries) e
-    → Contains (lists_of c.self.inside.frames.entries) e ⊎ ((e.0 ≡ c.args.key) × (e.1 ≡ c.args.frames.now))
-kept c = lists_kept _ _ c.args.key c.args.frames.now c.keep_page.ensures.kept
-
 pub invariant_of-self : goal.invariant_of-self
-invariant_of-self c = (
-  pages_left (entries_of c.self.inside.headers.entries c.self.inside.samples.entries c.self.inside.frames.entries
-      c.self.inside.samples.cap) (entries_of c.self.inside.headers.entries c.self.inside.samples.entries
-      c.keep_page.new.pages.entries c.self.inside.samples.cap) c.self.invariant.0 refl (λ e has. inl has) (λ e has.
-      ⊎_elim inl (λ put. inr (subst (λ k. IsPage k (length e.1)) (sym put.0) (subst (λ (xs : List Summary). IsPage
-      c.args.key (length xs)) (sym put.1) c.requires))) (kept c e has)),
-  c.self.invariant.1,
-  c.keep_page.ensures.cap ∙ c.self.invariant.2,
-)
+invariant_of-self c =
+    let r = c.args.run in
+    let size = length_run c.args.bytes.now r.level r.block.len r.from r.count in (
+      pages_left (entries_of c.self.inside.headers.entries c.self.inside.samples.entries c.self.inside.frames.entries
+          c.self.inside.samples.cap) (entries_of c.self.inside.headers.entries c.self.inside.samples.entries
+          c.keep_frame_page.new.pages.entries c.self.inside.samples.cap) c.self.invariant.0 refl (λ e has. inl has)
+          (λ e has. ⊎_elim inl (λ put. inr (subst (λ k. IsPage k (length e.1)) (sym put.0)
+          (subst (λ (n : ℕ). IsPage c.args.key n) (sym (ap length put.1 ∙ size)) c.requires.page)))
+          (c.keep_frame_page.ensures.kept e has)),
+      c.self.invariant.1,
+      c.keep_frame_page.ensures.cap ∙ c.self.invariant.2,
+    )
 
 pub returns-clause-frames : goal.returns-clause-frames
 returns-clause-frames c = λ e has. ⊎_elim
     (λ old. inl (subst (λ (m : Entries). Contains m.frames e) c.self.view_is old)) inr
-    (lists_kept _ _ c.args.key c.args.frames.now c.keep_page.ensures.kept e has)
+    (c.keep_frame_page.ensures.kept e has)

@@ -1,0 +1,86 @@
+-- What is added to the clips before a window.
+use Rattle.edit_ops.proofs.Common.{ℕ, ◌++◌, [], ◌∷◌, List, sym, ap, ap₂, subst, ◌∙◌, arith, AllHalfFull}
+use Rattle.edit_ops.proofs.Common.{BlockRef, Clip, IsHalfFull}
+use Rattle.std.proofs.Common.{IfSome, Option}
+use Rattle.pcm_base.specs.Blocks.{NoneEmpty, block_lens, blocks_len}
+use Rattle.edit_ops.specs.Joins.{Adds, joined_clips, moved}
+use Rattle.edit_ops.specs.Windows.{IsJoined, back_clip}
+use Rattle.edit_ops.specs.declared.joins.Joining.{Joining}
+use Rattle.edit_ops.proofs.WindowBlocks.{end_before_next, half_from_full, half_full_parts, starts_fit}
+use Rattle.edit_ops.proofs.WindowLayouts.{none_empty_parts, window_len}
+use Rattle.edit_ops.proofs.WindowPlans.{if_some}
+use Rattle.edit_ops.proofs.putting.join_around.Goals as goal
+
+pub begin-requires : goal.begin-requires
+begin-requires c =
+    let h = c.requires.window in
+    let before = c.args.window.before.now in
+    starts_fit 0 before h.before
+    (omega (arith, end_before_next 0 0 before (omega arith), h.apart, h.from, c.requires.few))
+
+pub add_clips-requires-clause-joining : goal.add_clips-requires-clause-joining
+add_clips-requires-clause-joining c =
+    let m = c.args.planner.block_size in
+    let t = c.args.t.now in
+    let w = c.args.window in
+    let h = c.requires.window in
+    let e = c.in_ok-joining.ensures in
+    let H : List BlockRef → Type 0 = λ bs. IsHalfFull m (block_lens bs) in
+    record {
+      end = omega (arith, e.end, e.start, ap blocks_len e.blocks, h.from);
+      few = omega (arith, e.end, c.requires.few);
+      none_empty = subst NoneEmpty (sym e.blocks) (none_empty_parts m t w h).0;
+      half_full = subst H (sym e.blocks) (half_from_full m w.front.now c.args.planner.some h.front);
+      clips = subst (AllHalfFull m) (sym e.clips)
+          (half_full_parts m w.before.now _ (subst (AllHalfFull m) h.clips c.requires.t)).0;
+    }
+
+pub overflow_sub-back-2 : goal.overflow_sub-back-2
+overflow_sub-back-2 c =
+    let h = c.requires.window in
+    omega (arith, window_len c.args.planner.block_size c.args.t.now c.args.window h, h.from)
+
+pub overflow_sub-back-3 : goal.overflow_sub-back-3
+overflow_sub-back-3 c =
+    let h = c.requires.window in
+    omega (arith, window_len c.args.planner.block_size c.args.t.now c.args.window h, h.from, c.requires.old)
+
+pub add_part-requires-clause-part : goal.add_part-requires-clause-part
+add_part-requires-clause-part c =
+    let m = c.args.planner.block_size in
+    let t = c.args.t.now in
+    let w = c.args.window in
+    let h = c.requires.window in
+    let len = window_len m t w h in
+    record {
+      size = omega (arith, len, h.from, c.requires.old);
+      few = omega (arith, len, h.from, c.requires.old, c.requires.few);
+      none_empty = (none_empty_parts m t w h).2;
+      half_full = half_from_full m w.back.now c.args.planner.some h.back;
+    }
+
+pub returns : goal.returns
+returns c =
+    let m = c.args.planner.block_size in
+    let w = c.args.window in
+    let new = c.args.new in
+    let small = c.args.small.now in
+    let back = back_clip w new in
+    let clips = c.as_slice-clips.result.now in
+    let same = c.as_slice-clips.ensures.value in
+    let j = c.in_ok-joining.joining in
+    let e = c.in_ok-joining.ensures in
+    let P : Option Joining → Type 0 = λ o. IfSome o (Adds m j (moved 0 w.from clips)) in
+    let adds : Adds m j (moved 0 w.from clips) c.in-Some.most = subst P c.in-Some.is c.in_ok-most.ensures in
+    let all = adds.clips (back ∷ [])
+    ∙ ap₂ (λ (cs : List Clip) (bs : List BlockRef). cs
+    ++ joined_clips (record { start = j.start; blocks = bs }) (moved 0 w.from clips ++ back ∷ [])) e.clips e.blocks
+    ∙ ap₂ (λ (n : ℕ) (cs : List Clip). w.before.now
+    ++ joined_clips (record { start = n; blocks = w.front.now }) (moved 0 w.from cs ++ back ∷ [])) e.start same in
+    if_some (Adds m c.in-Some.most (back ∷ [])) (IsJoined m w new small) c.in_ok-add_part.field-0
+    (λ n a. record {
+      joining = a.joining;
+      apart = c.as_slice-clips.ensures.apart.apart;
+      clips = a.clips [] ∙ all;
+    })
+    c.in_ok-add_part.ensures

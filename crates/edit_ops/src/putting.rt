@@ -1,0 +1,153 @@
+// A track with another track in a window's place.
+ghost use Rattle.std.specs.Prelude.{◌≡◌, ◌+◌, ◌-◌, ◌≤◌, ◌++◌, [], IfOk, IfSome, OnOk};
+ghost use Rattle.pcm_base.specs.declared.limits.TheConstants.{MAX_CELLS};
+ghost use Rattle.pcm_base.specs.Blocks.{blocks_len};
+ghost use Rattle.clip_track.specs.Clips.{AllHalfFull, end_of};
+ghost use Rattle.edit_ops.specs.Joins.{IsJoining, finished, moved};
+ghost use Rattle.edit_ops.specs.Windows.{IsAround, IsJoined, IsPlaced, IsWindow, StartsFit};
+
+use super::joins::{Joining, Part, add_clips, add_part, close};
+use super::planner::Planner;
+use super::types::Plan;
+use super::windows::Window;
+use clip_track::{Clip, Layout};
+use pcm_base::NoMemory;
+use std::alloc::Global;
+
+/// Adds clips, moved from one place to another.
+fn copy_clips(out: &mut Vec<Clip>, clips: &[Clip], from: u64, to: u64) -> Result<(), NoMemory>
+    requires { StartsFit (moved from to clips.now) }
+    ensures { OnOk result (out.new.items ≡ out.old.items ++ moved from to clips.now) }
+{
+    for clip in clips {
+        let start = clip.start.saturating_sub(from).saturating_add(to);
+        let blocks = clip.blocks.copy()?;
+        out.push(Clip { start, blocks })?;
+    }
+    Ok(())
+}
+
+/// How many blocks the clip of a window may get up to its first gap.
+fn room_of(window: Window<'_>, small: &[Clip]) -> usize {
+    let front = window.front.len();
+    let back = window.back.len();
+    match small {
+        [] => front.saturating_add(back),
+        [one] => front
+            .saturating_add(one.blocks.as_slice().len())
+            .saturating_add(back),
+        [first, ..] => front.saturating_add(first.blocks.as_slice().len()),
+    }
+}
+
+/// The clips before a window, and its clip up to it, with room for some blocks.
+fn begin(alloc: Global, window: Window<'_>, room: usize) -> Result<Joining, NoMemory>
+    requires { StartsFit window.before.now }
+    ensures clips { IfOk result (λ j. j.clips.items ≡ window.entry.before.now) }
+    ensures start { IfOk result (λ j. j.start ≡ window.entry.start) }
+    ensures end { IfOk result (λ j. j.end ≡ window.entry.from) }
+    ensures blocks { IfOk result (λ j. j.blocks.items ≡ window.entry.front.now) }
+{
+    let mut clips = Vec::new(alloc);
+    copy_clips(&mut clips, window.before, 0, 0)?;
+    let mut blocks = Vec::with_capacity(alloc, room)?;
+    blocks.extend_from_slice(window.front)?;
+    Ok(Joining {
+        clips,
+        start: window.start,
+        end: window.from,
+        blocks,
+    })
+}
+
+/// The clips up to a window and in it, and its clip after it.
+fn join_around(
+    planner: Planner,
+    t: &Layout,
+    window: Window<'_>,
+    old: u64,
+    new: u64,
+    small: &Layout,
+) -> Result<Option<Joining>, NoMemory>
+    requires window { IsWindow planner.block_size t.now window }
+    requires old { old ≡ blocks_len window.middle.now }
+    requires within { end_of 0 small.now ≤ new }
+    requires few { window.from + new + blocks_len window.back.now ≤ MAX_CELLS }
+    requires t { AllHalfFull planner.block_size t.now }
+    requires small { AllHalfFull planner.block_size small.now }
+    ensures { IfOk result (λ o. IfSome o (IsJoined planner.block_size window.entry new small.now)) }
+{
+    let clips = small.as_slice();
+    let joining = begin(planner.alloc, window, room_of(window, clips))?;
+    let Some(most) = add_clips(planner, joining, clips, window.from)? else {
+        return Ok(None);
+    };
+    let back = Part {
+        start: window.from + new,
+        size: window.len - (window.from - window.start) - old,
+        blocks: window.back,
+    };
+    Ok(add_part(planner, most, back)?)
+}
+
+/// The track with another one in a window's place, of `new` cells where there were `old`.
+fn track_around(
+    planner: Planner,
+    t: &Layout,
+    window: Window<'_>,
+    old: u64,
+    new: u64,
+    small: &Layout,
+) -> Result<Option<Layout>, NoMemory>
+    requires window { IsWindow planner.block_size t.now window }
+    requires old { old ≡ blocks_len window.middle.now }
+    requires within { end_of 0 small.now ≤ new }
+    requires few { end_of 0 t.now - old + new ≤ MAX_CELLS }
+    requires far { window.from + new ≤ MAX_CELLS }
+    requires t { AllHalfFull planner.block_size t.now }
+    requires small { AllHalfFull planner.block_size small.now }
+    ensures { IfOk result (λ o. IfSome o (IsAround planner.block_size window.entry old new small.now)) }
+{
+    let Some(joining) = join_around(planner, t, window, old, new, small)? else {
+        return Ok(None);
+    };
+    let mut all = close(joining)?;
+    copy_clips(&mut all, window.after, window.from + old, window.from + new)?;
+    let layout = Layout::from_clips(all)?;
+    Ok(Some(layout))
+}
+
+/// The plan of a window's track, put in its place in the whole track, where it fits there.
+pub fn put_back(
+    planner: Planner,
+    t: &Layout,
+    window: Window<'_>,
+    old: u64,
+    new: u64,
+    plan: Plan,
+) -> Result<Option<Plan>, NoMemory>
+    requires window { IsWindow planner.block_size t.now window }
+    requires old { old ≡ blocks_len window.middle.now }
+    requires few { end_of 0 t.now - old + new ≤ MAX_CELLS }
+    requires far { window.from + new ≤ MAX_CELLS }
+    requires t { AllHalfFull planner.block_size t.now }
+    requires small { AllHalfFull planner.block_size plan.layout }
+    ensures { IfOk result (λ o. IfSome o (IsPlaced planner.block_size window.entry old new plan)) }
+{
+    let Plan {
+        layout,
+        makes,
+        next,
+    } = plan;
+    if layout.len() > new {
+        return Ok(None);
+    }
+    match track_around(planner, t, window, old, new, &layout)? {
+        Some(layout) => Ok(Some(Plan {
+            layout,
+            makes,
+            next,
+        })),
+        None => Ok(None),
+    }
+}
