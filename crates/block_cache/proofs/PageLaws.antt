@@ -5,7 +5,7 @@ use Rattle.block_cache.proofs.Common.{bytes_of, BlockRef, Summary, frame_count, 
 use Rattle.block_cache.proofs.Common.{HasHeader, frame_len, level_place, stored_frames, PageKey, IsFramePage, IsPage}
 use Rattle.block_cache.proofs.Common.{IsSamplePage, frame_key, frames_end, page_end, page_len, sample_key, Entries}
 use Rattle.block_cache.proofs.Common.{IsCacheOf, frames_within, size_of}
-use Rattle.std.proofs.lemmas.List.{get_or-drop, get_or-take, length-take, same_lists}
+use Rattle.std.proofs.lemmas.List.{drop-drop, drop-take, get_or-drop, get_or-take, length-take, same_lists, take-take}
 use Rattle.std.proofs.lemmas.List.FromFn.{get_or-map-range_with_len}
 use Rattle.std.proofs.{lemmas.List.Sums.fold-append}
 use Rattle.std.specs.{Int.w16, Int.cast_signed, Prelude.fold}
@@ -14,7 +14,7 @@ use Rattle.sample_block.specs.Faults.{number_at}
 use Rattle.sample_block.proofs.Laws.{get_samples, length_samples}
 use Rattle.block_store.specs.Reads.{stored_frame}
 use Rattle.block_store.proofs.FrameLaws.{frames_more, frames_taken, length_stored}
-use Rattle.block_cache.specs.Pages.{run_frames}
+use Rattle.block_cache.specs.Pages.{AreFrameBytes, run_frames}
 
 samples_cut : (bytes : List ℕ) (at m skip n : ℕ) → skip + n ≤ m
     → take n (drop skip (samples_in bytes at m)) ≡ samples_in bytes (at + 2 * skip) n
@@ -142,6 +142,58 @@ run_read was now l id len from n size part same wide got =
     frames_taken (bytes_of (now id)) part l len from (level_place l len + 12 * from) n size refl wide got
     ∙ ap (λ (f : Files). stored_frames (bytes_of (f id)) l len from n) same
 
+-- a piece of the front of a list
+piece : (xs : List ℕ) (size k m : ℕ) → k + m ≤ size → take m (drop k (take size xs)) ≡ take m (drop k xs)
+piece xs size k m le =
+    let all : size ≡ k + (size - k) = omega arith in
+    ap (λ (n : ℕ). take m (drop k (take n xs))) all ∙ ap (take m) (drop-take k (size - k) xs)
+    ∙ take-take m (size - k) (drop k xs) (omega arith)
+
+-- bytes of frames that were read
+pub frame_bytes_read : (was now : Files) (l : Level) (b : BlockRef) (from size : ℕ) (bytes : List ℕ) → now ≡ was
+    → HasHeader b.id b.len (bytes_of (was b.id))
+    → level_place l b.len + 12 * from + size ≤ length (bytes_of (now b.id))
+    → bytes ≡ take size (drop (level_place l b.len + 12 * from) (bytes_of (now b.id)))
+    → AreFrameBytes was l b from bytes
+frame_bytes_read was now l b from size bytes same header whole got =
+    let at : ℕ = level_place l b.len + 12 * from in
+    let file : List ℕ = bytes_of (now b.id) in
+    let is : file ≡ bytes_of (was b.id) = ap (λ (f : Files). bytes_of (f b.id)) same in
+    let there : at + size ≤ length (bytes_of (was b.id)) = subst (λ (ys : List ℕ). at + size ≤ length ys) is whole in
+    let front = length-take size (drop at file) in
+    let rest = length-drop at file in
+    let long : length bytes ≡ size = ap length got ∙ omega (arith, front, rest, whole) in record {
+      header = header;
+      whole = omega (arith, there, long);
+      taken = got ∙ ap (λ (n : ℕ). take n (drop at file)) (sym long)
+          ∙ ap (λ (ys : List ℕ). take (length bytes) (drop at ys)) is;
+    }
+
+-- one page of frames whose bytes were read
+pub page_among : (files : Files) (l : Level) (b : BlockRef) (from at page n : ℕ) (bytes part : List ℕ)
+    → AreFrameBytes files l b from bytes → from ≤ 256 * page → at ≡ 12 * (256 * page - from)
+    → at + 12 * n ≤ length bytes → part ≡ take (at + 12 * n - at) (drop at bytes)
+    → IsFramePage files l (frame_key l b page) (run_frames part l b.len (256 * page) n)
+page_among files l b from at page n bytes part read order place le got =
+    let file : List ℕ = bytes_of (files b.id) in
+    let size : at + 12 * n - at ≡ 12 * n = omega arith in
+    let there : level_place l b.len + 12 * from + at ≡ level_place l b.len + 12 * (256 * page) =
+    omega (arith, place, order) in
+    let taken : part ≡ take (12 * n) (drop (level_place l b.len + 12 * (256 * page)) file) =
+    got ∙ ap (λ (k : ℕ). take k (drop at bytes)) size
+    ∙ ap (λ (ys : List ℕ). take (12 * n) (drop at ys)) read.taken
+    ∙ piece (drop (level_place l b.len + 12 * from) file) (length bytes) at (12 * n) le
+    ∙ ap (take (12 * n)) (drop-drop at (level_place l b.len + 12 * from) file)
+    ∙ ap (λ (k : ℕ). take (12 * n) (drop k file)) there in
+    frame_page_read files files l b page (256 * page) n (run_frames part l b.len (256 * page) n) refl refl read.header
+    (omega (arith, read.whole, le, place, order))
+    (run_read files files l b.id b.len (256 * page) n (12 * n) part refl refl taken)
+
+-- a block has few frames
+pub frames_few : (l : Level) (len : ℕ) → len ≤ 262144 → frame_count (frame_len l) len ≤ 1024
+frames_few Short len le = omega (arith, le)
+frames_few Long len le = omega (arith, le)
+
 -- how many frames are on a page
 pub frame_page_len : (l : Level) (b : BlockRef) (page : ℕ)
     → page_len (frame_key l b page) ≡ min 256 (frame_count (frame_len l) b.len - 256 * page)
@@ -170,6 +222,13 @@ end_within true l b from n size whole some one is le end = omega (arith, end, le
 end_within false l b from n size whole some one is le end =
     let last = page_last (level_place l b.len) (frame_count (frame_len l) b.len) from n some one in
     omega (arith, last, end, is)
+
+-- frames end after the header
+pub end_high : (once : Bool) (l : Level) (b : BlockRef) (end : ℕ) → 16 ≤ frames_end once l b end
+end_high true Short b end = omega arith
+end_high true Long b end = omega arith
+end_high false Short b end = omega arith
+end_high false Long b end = omega arith
 
 -- what the cache has of a page is right
 pub kept_frames : (files : Files) (c : Entries) (once : Bool) (l : Level) (b : BlockRef) (from n : ℕ) (k : PageKey)

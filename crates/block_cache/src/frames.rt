@@ -12,6 +12,7 @@ ghost use Rattle.block_cache.specs.Entries.{HasKey};
 ghost use Rattle.block_cache.specs.Pages.{frames_end, page_end, run_frames, frame_key as key_at};
 ghost use Rattle.block_cache.specs.Caches.{HasFrames, IsCacheOf, KeepsCache, SameCache};
 
+use super::ahead::{PAGES, load_ahead};
 use super::cache::Cache;
 use super::headers::compare_kept;
 use super::keys::frame_key;
@@ -435,6 +436,89 @@ fn join_loaded<S: Store>(
     Ok(join_run(before, bytes, run, part.from % PAGE, count))
 }
 
+/// The same: the block's frames are read from that page on, and their pages are kept. The page is read alone where the
+/// file ends before the last of them, and where it was not kept.
+fn join_ahead<S: Store>(
+    store: &mut S,
+    cache: &mut Cache,
+    part: FramePart,
+    count: usize,
+    before: Summary,
+) -> Result<Summary, BlockFault>
+    requires block { IsBlock part.block.id part.block.len }
+    requires within { part.from + count ≤ frame_count (frame_len part.level) part.block.len }
+    requires some { 0 < count }
+    requires one { part.from % 256 + count ≤ 256 }
+    requires cached { IsTrue (S.tells store.old) → IsCacheOf (S.reads store.old) cache.old }
+    requires kept { part.once ≡ false }
+    ensures cache { KeepsCache (S.tells store.old) (S.reads store.old) (part.block ∷ []) cache.old cache.new }
+    ensures sum { IsTrue (S.tells store.old) → IfOk result (λ s. s ≡ fold joined before
+        (stored_frames (bytes_of (S.reads store.old part.block.id)) part.level part.block.len part.from count)) }
+    ensures header { IsTrue (S.tells store.old)
+        → OnOk result (HasHeader part.block.id part.block.len (bytes_of (S.reads store.old part.block.id))) }
+    ensures whole { IsTrue (S.tells store.old) → OnOk result
+        (frames_end part.once part.level part.block (part.from + count)
+        ≤ length (bytes_of (S.reads store.old part.block.id))) }
+    ensures damaged { IsTrue (S.tells store.old) → IfErr result (λ e. IsReadFault part.block.id part.block.len
+        (frames_end part.once part.level part.block (part.from + count))
+        (bytes_of (S.reads store.old part.block.id)) e) }
+    ensures kept { Kept S.Store store.old store.new }
+    ensures faults { Counted result (S.read_fault_count store.old) (S.read_fault_count store.new) }
+{
+    let start = PAGE * (part.from / PAGE);
+    let run = FrameRun {
+        block: part.block,
+        level: part.level,
+        from: start,
+        count: frames_in(part.level, part.block.len as usize) - start,
+    };
+    if let Err(fault) = load_ahead(store, cache, run) {
+        return Err(fault);
+    }
+    let key = frame_key(part.level, part.block, (part.from / PAGE) as u32);
+    if let Some(all) = cache.join_frames(key, part.from % PAGE, count, before) {
+        return Ok(all);
+    }
+    join_loaded(store, cache, part, count, before)
+}
+
+/// The same of a page that is not kept: more pages of the block are read with it, where it has more after this one, and
+/// where the cache has room for as many as a block has.
+fn join_missed<S: Store>(
+    store: &mut S,
+    cache: &mut Cache,
+    part: FramePart,
+    count: usize,
+    before: Summary,
+) -> Result<Summary, BlockFault>
+    requires block { IsBlock part.block.id part.block.len }
+    requires within { part.from + count ≤ frame_count (frame_len part.level) part.block.len }
+    requires some { 0 < count }
+    requires one { part.from % 256 + count ≤ 256 }
+    requires cached { IsTrue (S.tells store.old) → IsCacheOf (S.reads store.old) cache.old }
+    requires kept { part.once ≡ false }
+    ensures cache { KeepsCache (S.tells store.old) (S.reads store.old) (part.block ∷ []) cache.old cache.new }
+    ensures sum { IsTrue (S.tells store.old) → IfOk result (λ s. s ≡ fold joined before
+        (stored_frames (bytes_of (S.reads store.old part.block.id)) part.level part.block.len part.from count)) }
+    ensures header { IsTrue (S.tells store.old)
+        → OnOk result (HasHeader part.block.id part.block.len (bytes_of (S.reads store.old part.block.id))) }
+    ensures whole { IsTrue (S.tells store.old) → OnOk result
+        (frames_end part.once part.level part.block (part.from + count)
+        ≤ length (bytes_of (S.reads store.old part.block.id))) }
+    ensures damaged { IsTrue (S.tells store.old) → IfErr result (λ e. IsReadFault part.block.id part.block.len
+        (frames_end part.once part.level part.block (part.from + count))
+        (bytes_of (S.reads store.old part.block.id)) e) }
+    ensures kept { Kept S.Store store.old store.new }
+    ensures faults { Counted result (S.read_fault_count store.old) (S.read_fault_count store.new) }
+{
+    let start = PAGE * (part.from / PAGE);
+    let rest = frames_in(part.level, part.block.len as usize) - start;
+    if rest > PAGE && cache.pages() >= PAGES as u64 {
+        return join_ahead(store, cache, part, count, before);
+    }
+    join_loaded(store, cache, part, count, before)
+}
+
 /// The same, and the frames are read alone.
 #[inline(never)]
 fn join_alone<S: Store>(
@@ -514,7 +598,7 @@ fn join_page<S: Store>(
     if part.once {
         return join_alone(store, cache, part, count, before);
     }
-    join_loaded(store, cache, part, count, before)
+    join_missed(store, cache, part, count, before)
 }
 
 /// Joins frames, those of a page at a time.

@@ -9,6 +9,7 @@
 //! of blocks that have no entry; a law says that the cache then stays right.
 #![tactic(auto)]
 
+mod ahead;
 mod cache;
 mod drops;
 mod frame_page;

@@ -247,7 +247,8 @@ impl<S: Store> BlockReader<S> {
     }
 
     /// Joins a number of frames of a level of a block, from a frame on. They come as those of `frames`, or `once` as those
-    /// of `frames_once`. Of a page that the cache has they are joined where they are, and not copied.
+    /// of `frames_once`. Of a page that the cache has they are joined where they are, and not copied. With a page
+    /// that it does not have those of the block after it are read and kept, unless `once`, if the file has them.
     #[tactic(auto, using(crate::proofs::CacheLaws::cached_on))]
     pub fn join_frames(
         &mut self,

@@ -1,7 +1,9 @@
+pub mod Fronts
 pub mod Fuse
 pub mod Laid
 pub mod Laying
 pub mod Origins
 pub mod Places
 pub mod Room
+pub mod Rows
 pub mod Sequences

@@ -1,5 +1,5 @@
 -- What holds of every sequence of blocks, by its type.
-use Rattle.std.specs.Prelude.{◌≡◌, ℕ, ◌≤◌, List}
+use Rattle.std.specs.Prelude.{◌≡◌, ℕ, ◌≤◌, List, length}
 use Rattle.pcm_base.specs.Blocks.{block_lens, blocks_len, NoneEmpty, IsHalfFull}
 use Rattle.pcm_base.specs.{declared.limits.TheConstants.MAX_CELLS, declared.block.BlockRef.BlockRef}
 
@@ -7,9 +7,10 @@ use Rattle.pcm_base.specs.{declared.limits.TheConstants.MAX_CELLS, declared.bloc
 abbrev pub IsHalfFullSomewhere : List BlockRef → Type 0
 IsHalfFullSomewhere bs = (m : ℕ) × IsHalfFull m (block_lens bs)
 
--- the blocks of a sequence, and how many samples they hold
-pub record IsSequence (bs : List BlockRef) (len : ℕ) : Type 0 where
+-- the blocks of a sequence, how many they are, and how many samples they hold
+pub record IsSequence (bs : List BlockRef) (count len : ℕ) : Type 0 where
   pub full : IsHalfFullSomewhere bs
   pub none_empty : NoneEmpty bs
+  pub same_count : length bs ≡ count
   pub same_len : blocks_len bs ≡ len
   pub few : len ≤ MAX_CELLS

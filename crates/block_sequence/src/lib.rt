@@ -9,10 +9,18 @@
 mod cutting;
 mod fusing;
 mod parts;
+mod row_appends;
+mod row_edges;
+mod row_fronts;
+mod row_lists;
+mod row_pieces;
+mod row_splices;
+mod rows;
 mod seq;
 mod types;
 
 pub use fusing::fuse;
 pub use parts::{part_of, piece_len};
+pub use rows::{ROW_MOST, Row};
 pub use seq::Sequence;
 pub use types::{Laid, Pieces};

@@ -1,6 +1,6 @@
 -- Pages that are there: of the same entries, of fewer cells, and of what comes after.
 use Rattle.cell_reader.proofs.Common.{◌≡◌, ◌∙◌, ℕ, ◌+◌, ◌≤◌, List, [], ◌∷◌, ◌++◌, refl, arith, BlockRef, Clip, Entries}
-use Rattle.cell_reader.proofs.Common.{HasSamples, same_none, View, HasBlocks, HasClips}
+use Rattle.cell_reader.proofs.Common.{HasSamples, same_none, View, HasBlocks, HasClips, blocks_len, subst}
 use Rattle.std.proofs.Common.{true}
 use Rattle.block_cache.specs.Caches.{SameCache}
 use Rattle.block_cache.proofs.{CacheLaws.same_turn, HitLaws.samples_next}
@@ -54,6 +54,21 @@ pub seen_part : (a : Entries) (from to at end : ℕ) (cs : List Clip) → from �
     → HasSeen a at end cs
 seen_part a from to at end cs low high has =
     clips_part a (record { from = from; to = to }) (record { from = at; to = end }) cs low high has
+
+-- the blocks before others, and those after
+pub blocks_front : (a : Entries) (view : View) (at : ℕ) (xs ys : List BlockRef) → HasBlocks a view at (xs ++ ys)
+    → HasBlocks a view at xs
+blocks_front a view at [] ys has = tt
+blocks_front a view at (x ∷ xs) ys has = (has.0, blocks_front a view (at + x.len) xs ys has.1)
+
+pub blocks_back : (a : Entries) (view : View) (at : ℕ) (xs ys : List BlockRef) → HasBlocks a view at (xs ++ ys)
+    → HasBlocks a view (at + blocks_len xs) ys
+blocks_back a view at [] ys has =
+    let e : at ≡ at + 0 = omega arith in
+    subst (λ n. HasBlocks a view n ys) e has
+blocks_back a view at (x ∷ xs) ys has =
+    let e : at + x.len + blocks_len xs ≡ at + blocks_len (x ∷ xs) = omega arith in
+    subst (λ n. HasBlocks a view n ys) e (blocks_back a view (at + x.len) xs ys has.1)
 
 -- the clips after others
 pub kept_back : (a : Entries) (view : View) (front more : List Clip) → HasClips a view (front ++ more)

@@ -11,7 +11,7 @@ use Rattle.std.specs.{List.Sorted.IsNonDecreasingBy}
 use Rattle.std.proofs.Common.{◌^◌}
 use Rattle.std.proofs.lemmas.List.{replicate-append-replicate, take-append-drop, take_all}
 use Rattle.cell_reader.proofs.KeptLaws.{kept_back}
-use Rattle.cell_reader.specs.Rests.{rest_cell}
+use Rattle.cell_reader.specs.{Kept.left_blocks, Rests.rest_cell}
 use Rattle.cell_reader.proofs.{RestLaws.cells_at, RestLaws.length_from, SeenLaws.named_front, SeenLaws.named_back}
 use Rattle.pcm_base.specs.declared.sound.Cell.TheVariants as cell
 
@@ -63,7 +63,7 @@ starts_rise at (c ∷ cs) are (suc i) (suc j) d le lt =
 -- the rest from a place on before the start of a clip, after which it has those that follow
 module _ (from : ℕ) (front more : List Clip) (c : Clip) (r : TrackRest) (late : end_of 0 front ≤ r.at)
     (passed : r.at ≤ from) (before : r.at ≤ c.start) (start : r.start ≡ c.start) (end : r.end ≡ clip_end c)
-    (blocks : r.blocks.now ≡ c.blocks) (clips : r.clips.now ≡ more) where
+    (blocks : left_blocks r ≡ c.blocks) (clips : r.clips.now ≡ more) (row : r.row_end ≡ r.start + blocks_len r.blocks.now) where
   near_rest : AreClips 0 (front ++ c ∷ more) → end_of 0 (front ++ c ∷ more) ≤ 2 ^ 32
       → AllNamed (layout_blocks (front ++ c ∷ more)) → IsRest r
   near_rest are few named =
@@ -76,6 +76,7 @@ module _ (from : ℕ) (front more : List Clip) (c : Clip) (r : TrackRest) (late 
       named_back (layout_blocks front) (layout_blocks (c ∷ more)) (subst N (blocks_apart front (c ∷ more)) named) in
       record {
         later = omega (arith, before, start);
+        row = row;
         whole = omega (arith, start, end, ap blocks_len blocks);
         apart = subst A (sym end) (subst C (sym clips) here);
         few = omega (
@@ -99,8 +100,8 @@ module _ (from : ℕ) (front more : List Clip) (c : Clip) (r : TrackRest) (late 
       let sound : List Cell = map cell.Sample (block_samples src c.blocks) in
       let rest : List Cell = cells_from src (clip_end c) more in
       let is : rest_cells src r ≡ (gap ++ sound) ++ rest =
-      ap (λ n. cells_at src r.at n r.end r.blocks.now r.clips.now) start
-      ∙ ap (λ n. cells_at src r.at c.start n r.blocks.now r.clips.now) end
+      ap (λ n. cells_at src r.at n r.end (left_blocks r) r.clips.now) start
+      ∙ ap (λ n. cells_at src r.at c.start n (left_blocks r) r.clips.now) end
       ∙ ap (λ bs. cells_at src r.at c.start (clip_end c) bs r.clips.now) blocks
       ∙ ap (λ cs. cells_at src r.at c.start (clip_end c) c.blocks cs) clips in
       let size : c.start - e ≡ (r.at - e) + (c.start - r.at) = omega (arith, late, before) in
@@ -129,11 +130,11 @@ module _ (from : ℕ) (front more : List Clip) (c : Clip) (r : TrackRest) (late 
   near_blocks =
       blocks_apart front (c ∷ more)
       ∙ ap (λ bs. layout_blocks front ++ (bs ++ layout_blocks more)) (sym blocks)
-      ∙ ap (λ cs. layout_blocks front ++ (r.blocks.now ++ layout_blocks cs)) (sym clips)
+      ∙ ap (λ cs. layout_blocks front ++ (left_blocks r ++ layout_blocks cs)) (sym clips)
 
   near_kept : (a : Entries) (view : View) → HasClips a view (front ++ c ∷ more) → HasRest a view r
   near_kept a view has =
-      let P : ℕ → Type 0 = λ n. HasBlocks a view n r.blocks.now in
+      let P : ℕ → Type 0 = λ n. HasBlocks a view n (left_blocks r) in
       let B : List BlockRef → Type 0 = HasBlocks a view c.start in
       let C : List Clip → Type 0 = HasClips a view in
       let left = kept_back a view front (c ∷ more) has in

@@ -10,8 +10,9 @@ use Rattle.cell_reader.proofs.Common.{Entries, HasBlocks, HasClips, HasRest, res
 use Rattle.cell_reader.proofs.Common.{place_in, Puts, View, TrackRest}
 use Rattle.std.proofs.lemmas.List.{get_or-take, get_or-drop, get_or_past, get_or-replicate, get_or-map}
 use Rattle.std.proofs.lemmas.List.{get_or_append_left, ext_get_or}
-use Rattle.cell_reader.specs.Rests.{AreSeen}
-use Rattle.cell_reader.proofs.{PartLists.take_front, SeenLaws.named_front, SeenLaws.named_back}
+use Rattle.block_sequence.proofs.FlatRows.{blocks_len-append, block_samples-append}
+use Rattle.cell_reader.specs.{Kept.left_blocks, Rests.AreSeen, Rests.EndsBehind}
+use Rattle.cell_reader.proofs.{KeptLaws.blocks_back, PartLists.take_front, SeenLaws.named_front, SeenLaws.named_back}
 use borrow.Rule.Slice.PartMut.{put_mid}
 use Rattle.pcm_base.specs.declared.sound.Cell.TheVariants as cell
 
@@ -42,65 +43,73 @@ moved from cs r r' gone xs rest passed size cells same blocks kept is = record {
   kept = λ a from to has. kept a (record { from = from; to = to }) (is.kept a from to has);
 }
 
-module _ (r r' : TrackRest) (b : BlockRef) (same : r.blocks.now ≡ b ∷ r'.blocks.now) (at : r'.at ≡ r.start + b.len)
-    (start : r'.start ≡ r'.at) (end : r'.end ≡ r.end) (clips : r'.clips.now ≡ r.clips.now) where
-  pub block_rest : IsRest r → IsRest r'
-  block_rest is =
+module _ (r r' : TrackRest) (gone : List BlockRef) (same : left_blocks r ≡ gone ++ left_blocks r') (at : r'.at
+    ≡ r.start + blocks_len gone) (start : r'.start ≡ r'.at) (row : r'.row_end ≡ r'.start + blocks_len r'.blocks.now)
+    (end : r'.end ≡ r.end) (clips : r'.clips.now ≡ r.clips.now) where
+  abbrev left : List BlockRef
+  left = left_blocks r'
+
+  pub blocks_rest : IsRest r → IsRest r'
+  blocks_rest is =
       let N : List BlockRef → Type 0 = AllNamed in
       let C : List Clip → Type 0 = λ cs. AreClips r.end cs in
       let L : List Clip → Type 0 = λ cs. AllNamed (layout_blocks cs) in
       let A : ℕ → Type 0 = λ n. AreClips n r'.clips.now in
       record {
         later = omega (arith, start);
-        whole = omega (arith, start, at, end, is.whole, ap blocks_len same);
+        row = row;
+        whole = omega (arith, start, at, end, is.whole, ap blocks_len same, blocks_len-append gone left);
         apart = subst A (sym end) (subst C (sym clips) is.apart);
         few = omega (arith, ap (end_of r.end) clips, ap (λ n. end_of n r'.clips.now) end, is.few);
-        named = (subst N same is.named).1;
+        named = named_back gone left (subst N same is.named);
         clips_named = subst L (sym clips) is.clips_named;
       }
 
-  block_cells : (src : Sources) → rest_cells src r
-      ≡ (replicate (r.start - r.at) cell.Gap ++ map cell.Sample (stretch (src.block b.id) 0 b.len)) ++ rest_cells src r'
-  block_cells src =
+  blocks_cells : (src : Sources) → rest_cells src r
+      ≡ (replicate (r.start - r.at) cell.Gap ++ map cell.Sample (block_samples src gone)) ++ rest_cells src r'
+  blocks_cells src =
       let gap : List Cell = replicate (r.start - r.at) cell.Gap in
-      let one : List Cell = map cell.Sample (stretch (src.block b.id) 0 b.len) in
-      let more : List Cell = map cell.Sample (block_samples src r'.blocks.now) in
+      let one : List Cell = map cell.Sample (block_samples src gone) in
+      let more : List Cell = map cell.Sample (block_samples src left) in
       let rest : List Cell = cells_from src r.end r.clips.now in
       let none : 0 ≡ r'.start - r'.at = omega (arith, start) in
       ap (λ (bs : List BlockRef). cells_at src r.at r.start r.end bs r.clips.now) same
       ∙ ap (λ (xs : List Cell). (gap ++ xs) ++ rest)
-      (map-append cell.Sample (stretch (src.block b.id) 0 b.len) (block_samples src r'.blocks.now))
+      (ap (map cell.Sample) (block_samples-append src gone left)
+      ∙ map-append cell.Sample (block_samples src gone) (block_samples src left))
       ∙ ap (λ (xs : List Cell). xs ++ rest) (sym (append_assoc gap one more))
       ∙ append_assoc (gap ++ one) more rest
       ∙ ap (λ (xs : List Cell). (gap ++ one) ++ (more ++ xs)) (ap₂ (λ n cs. cells_from src n cs) (sym end) (sym clips))
       ∙ ap (λ (n : ℕ). (gap ++ one) ++ ((replicate n cell.Gap ++ more) ++ cells_from src r'.end r'.clips.now)) none
 
-  block_kept : (a : Entries) (view : View) → HasRest a view r → HasRest a view r'
-  block_kept a view has =
+  blocks_kept : (a : Entries) (view : View) → HasRest a view r → HasRest a view r'
+  blocks_kept a view has =
       let B : List BlockRef → Type 0 = HasBlocks a view r.start in
-      let P : ℕ → Type 0 = λ n. HasBlocks a view n r'.blocks.now in
+      let P : ℕ → Type 0 = λ n. HasBlocks a view n left in
       let C : List Clip → Type 0 = HasClips a view in
-      (subst P (sym (start ∙ at)) (subst B same has.0).1, subst C (sym clips) has.1)
+      (subst P (sym (start ∙ at)) (blocks_back a view r.start gone left (subst B same has.0)), subst C (sym clips) has.1)
 
-  pub block_passed : IsRest r → (from : ℕ) (cs : List Clip) → r'.at ≤ from → IsRestOf from cs r → IsRestOf from cs r'
-  block_passed ok from cs passed is =
+  pub blocks_passed : IsRest r → (from : ℕ) (cs : List Clip) → r'.at ≤ from → IsRestOf from cs r → IsRestOf from cs r'
+  blocks_passed ok from cs passed is =
       let xs : Sources → List Cell =
-      λ src. replicate (r.start - r.at) cell.Gap ++ map cell.Sample (stretch (src.block b.id) 0 b.len) in
-      moved from cs r r' (b ∷ []) xs (block_rest ok) passed
+      λ src. replicate (r.start - r.at) cell.Gap ++ map cell.Sample (block_samples src gone) in
+      moved from cs r r' gone xs (blocks_rest ok) passed
       (λ src. omega (
         arith,
-        length-append (replicate (r.start - r.at) cell.Gap) (map cell.Sample (stretch (src.block b.id) 0 b.len)),
+        length-append (replicate (r.start - r.at) cell.Gap) (map cell.Sample (block_samples src gone)),
         length-replicate (r.start - r.at) cell.Gap,
-        length-map (stretch (src.block b.id) 0 b.len) cell.Sample,
-        length-stretch (src.block b.id) 0 b.len,
+        length-map (block_samples src gone) cell.Sample,
+        length-blocks src gone,
         at,
         ok.later,
       ))
-      block_cells (ap₂ (λ n ds. end_of n ds) end clips) (ap₂ (λ bs ds. bs ++ layout_blocks ds) same (sym clips))
-      block_kept is
+      blocks_cells (ap₂ (λ n ds. end_of n ds) end clips)
+      (ap₂ (λ bs ds. bs ++ layout_blocks ds) same (sym clips) ∙ append_assoc gone left (layout_blocks r'.clips.now))
+      blocks_kept is
 
 module _ (r r' : TrackRest) (c : Clip) (same : r.clips.now ≡ c ∷ r'.clips.now) (at : r'.at ≡ r.end) (start : r'.start
-    ≡ c.start) (end : r'.end ≡ c.start + blocks_len c.blocks) (blocks : r'.blocks.now ≡ c.blocks) where
+    ≡ c.start) (end : r'.end ≡ c.start + blocks_len c.blocks) (blocks : left_blocks r' ≡ c.blocks)
+    (row : r'.row_end ≡ r'.start + blocks_len r'.blocks.now) where
   pub clip_rest : IsRest r → IsRest r'
   clip_rest is =
       let C : List Clip → Type 0 = λ cs. AreClips r.end cs in
@@ -111,6 +120,7 @@ module _ (r r' : TrackRest) (c : Clip) (same : r.clips.now ≡ c ∷ r'.clips.no
       let all = subst L same is.clips_named in
       record {
         later = omega (arith, at, start, here.0);
+        row = row;
         whole = omega (arith, start, end, ap blocks_len blocks);
         apart = subst A (sym end) (AreClips-next r.end c r'.clips.now here);
         few = omega (arith, ap (end_of r.end) same, ap (λ n. end_of n r'.clips.now) end, is.few);
@@ -119,10 +129,10 @@ module _ (r r' : TrackRest) (c : Clip) (same : r.clips.now ≡ c ∷ r'.clips.no
       }
 
   clip_cells : (src : Sources) → rest_cells src r
-      ≡ (replicate (r.start - r.at) cell.Gap ++ map cell.Sample (block_samples src r.blocks.now)) ++ rest_cells src r'
+      ≡ (replicate (r.start - r.at) cell.Gap ++ map cell.Sample (block_samples src (left_blocks r))) ++ rest_cells src r'
   clip_cells src =
       let gap : List Cell = replicate (r.start - r.at) cell.Gap in
-      let sound : List Cell = map cell.Sample (block_samples src r.blocks.now) in
+      let sound : List Cell = map cell.Sample (block_samples src (left_blocks r)) in
       ap (λ (ds : List Clip). (gap ++ sound) ++ cells_from src r.end ds) same
       ∙ ap (λ (xs : List Cell). (gap ++ sound) ++ xs)
       (ap₂ (λ n e. (replicate n cell.Gap ++ map cell.Sample (block_samples src c.blocks))
@@ -133,7 +143,7 @@ module _ (r r' : TrackRest) (c : Clip) (same : r.clips.now ≡ c ∷ r'.clips.no
   clip_kept : (a : Entries) (view : View) → HasRest a view r → HasRest a view r'
   clip_kept a view has =
       let C : List Clip → Type 0 = HasClips a view in
-      let P : ℕ → Type 0 = λ n. HasBlocks a view n r'.blocks.now in
+      let P : ℕ → Type 0 = λ n. HasBlocks a view n (left_blocks r') in
       let B : List BlockRef → Type 0 = HasBlocks a view c.start in
       let more = subst C same has.1 in
       (subst P (sym start) (subst B (sym blocks) more.0), more.1)
@@ -141,21 +151,21 @@ module _ (r r' : TrackRest) (c : Clip) (same : r.clips.now ≡ c ∷ r'.clips.no
   pub clip_passed : IsRest r → (from : ℕ) (cs : List Clip) → r'.at ≤ from → IsRestOf from cs r → IsRestOf from cs r'
   clip_passed ok from cs passed is =
       let xs : Sources → List Cell =
-      λ src. replicate (r.start - r.at) cell.Gap ++ map cell.Sample (block_samples src r.blocks.now) in
-      moved from cs r r' r.blocks.now xs (clip_rest ok) passed
+      λ src. replicate (r.start - r.at) cell.Gap ++ map cell.Sample (block_samples src (left_blocks r)) in
+      moved from cs r r' (left_blocks r) xs (clip_rest ok) passed
       (λ src. omega (
         arith,
-        length-append (replicate (r.start - r.at) cell.Gap) (map cell.Sample (block_samples src r.blocks.now)),
+        length-append (replicate (r.start - r.at) cell.Gap) (map cell.Sample (block_samples src (left_blocks r))),
         length-replicate (r.start - r.at) cell.Gap,
-        length-map (block_samples src r.blocks.now) cell.Sample,
-        length-blocks src r.blocks.now,
+        length-map (block_samples src (left_blocks r)) cell.Sample,
+        length-blocks src (left_blocks r),
         at,
         ok.later,
         ok.whole,
       ))
       clip_cells (sym (ap (end_of r.end) same ∙ ap (λ n. end_of n r'.clips.now) (sym end)))
-      (ap (λ (ds : List Clip). r.blocks.now ++ layout_blocks ds) same
-      ∙ ap (λ (bs : List BlockRef). r.blocks.now ++ (bs ++ layout_blocks r'.clips.now)) (sym blocks)) clip_kept is
+      (ap (λ (ds : List Clip). left_blocks r ++ layout_blocks ds) same
+      ∙ ap (λ (bs : List BlockRef). left_blocks r ++ (bs ++ layout_blocks r'.clips.now)) (sym blocks)) clip_kept is
 
 -- a rest from one place on is one from a later place on
 pub rest_later : (from to : ℕ) (cs : List Clip) (r : TrackRest) → from ≤ to → IsRestOf from cs r → IsRestOf to cs r
@@ -167,6 +177,11 @@ rest_later from to cs r le is = record {
   blocks = is.blocks;
   kept = is.kept;
 }
+
+-- blocks that start after a place end after it
+pub ends_later : (from start : ℕ) (bs : List BlockRef) → from < start → EndsBehind from start bs
+ends_later from start [] lt = tt
+ends_later from start (b ∷ bs) lt = omega (arith, lt)
 
 -- clips end no earlier than they begin
 pub ends_from : (at : ℕ) (cs : List Clip) → AreClips at cs → at ≤ end_of at cs
@@ -194,14 +209,14 @@ pub length_rest : (src : Sources) (r : TrackRest) → IsRest r
     → r.at + length (rest_cells src r) ≡ end_of r.end r.clips.now
 length_rest src r is =
     let gap : List Cell = replicate (r.start - r.at) cell.Gap in
-    let sound : List Cell = map cell.Sample (block_samples src r.blocks.now) in
+    let sound : List Cell = map cell.Sample (block_samples src (left_blocks r)) in
     omega (
       arith,
       length-append (gap ++ sound) (cells_from src r.end r.clips.now),
       length-append gap sound,
       length-replicate (r.start - r.at) cell.Gap,
-      length-map (block_samples src r.blocks.now) cell.Sample,
-      length-blocks src r.blocks.now,
+      length-map (block_samples src (left_blocks r)) cell.Sample,
+      length-blocks src (left_blocks r),
       length_from src r.end r.clips.now is.apart,
       is.later,
       is.whole,

@@ -1,6 +1,7 @@
 -- The pages that a view of a track wants are all there.
-use Rattle.std.specs.Prelude.{ℕ, ◌+◌, ◌-◌, List, [], ◌∷◌}
+use Rattle.std.specs.Prelude.{ℕ, ◌+◌, ◌-◌, List, [], ◌∷◌, ◌++◌}
 use Rattle.pcm_base.specs.declared.block.BlockRef.{BlockRef}
+use Rattle.block_sequence.specs.Rows.{flat}
 use Rattle.clip_track.specs.declared.clips.Clip.{Clip}
 use Rattle.block_cache.specs.Caches.{Entries, HasSamples}
 use Rattle.cell_reader.specs.{declared.places.View.View, declared.rest.TrackRest.TrackRest, Seen.place_in}
@@ -19,9 +20,13 @@ abbrev pub HasClips : Entries → View → List Clip → Type 0
 HasClips c view [] = Unit {0}
 HasClips c view (x ∷ xs) = HasBlocks c view x.start x.blocks × HasClips c view xs
 
+-- the blocks that are left of a clip: those of a row, and the rows after it
+abbrev pub left_blocks : TrackRest → List BlockRef
+left_blocks r = r.blocks.now ++ flat r.rows.now
+
 -- of what is left of a track
 abbrev pub HasRest : Entries → View → TrackRest → Type 0
-HasRest c view r = HasBlocks c view r.start r.blocks.now × HasClips c view r.clips.now
+HasRest c view r = HasBlocks c view r.start (left_blocks r) × HasClips c view r.clips.now
 
 -- of a layout, from one place to another
 abbrev pub HasSeen : Entries → (from to : ℕ) → List Clip → Type 0

@@ -7,28 +7,29 @@ use Rattle.clip_track.specs.declared.clips.Clip.{Clip}
 use Rattle.clip_track.specs.Clips.{AreClips, end_of, cells_from, layout_cells, layout_blocks}
 use Rattle.sample_block.specs.Sources.{AllNamed}
 use Rattle.block_cache.specs.Caches.{Entries}
-use Rattle.cell_reader.specs.{declared.rest.TrackRest.TrackRest, Kept.HasRest, Kept.HasSeen}
+use Rattle.cell_reader.specs.{declared.rest.TrackRest.TrackRest, Kept.left_blocks, Kept.HasRest, Kept.HasSeen}
 use Rattle.pcm_base.specs.declared.sound.Cell.TheVariants as cell
 
 -- its cells, from its place on
 abbrev pub rest_cells : Sources → TrackRest → List Cell
 rest_cells src r = replicate (r.start - r.at) cell.Gap ++ map cell.Sample
-    (block_samples src r.blocks.now) ++ cells_from src r.end r.clips.now
+    (block_samples src (left_blocks r)) ++ cells_from src r.end r.clips.now
 
 -- the cell at a place of the track
 abbrev pub rest_cell : Sources → TrackRest → ℕ → Cell
 rest_cell src r i = slice_index_or (rest_cells src r) (i - r.at) cell.Gap
 
 abbrev pub rest_blocks : TrackRest → List BlockRef
-rest_blocks r = r.blocks.now ++ layout_blocks r.clips.now
+rest_blocks r = left_blocks r ++ layout_blocks r.clips.now
 
 -- blocks that a disk may have, and clips after them, each at its place
 pub record IsRest (r : TrackRest) : Type 0 where
   pub later : r.at ≤ r.start
-  pub whole : r.end ≡ r.start + blocks_len r.blocks.now
+  pub row : r.row_end ≡ r.start + blocks_len r.blocks.now
+  pub whole : r.end ≡ r.start + blocks_len (left_blocks r)
   pub apart : AreClips r.end r.clips.now
   pub few : end_of r.end r.clips.now ≤ MAX_CELLS
-  pub named : AllNamed r.blocks.now
+  pub named : AllNamed (left_blocks r)
   pub clips_named : AllNamed (layout_blocks r.clips.now)
 
 -- the first of some blocks ends after a place, where there is one
@@ -39,7 +40,7 @@ EndsBehind from start (b ∷ bs) = from < start + b.len
 -- no clip and no block that ends by a place stands in front any more
 pub record IsPast (from : ℕ) (r : TrackRest) : Type 0 where
   pub clip : r.clips.now ≡ [] ⊎ (from < r.end)
-  pub block : EndsBehind from r.start r.blocks.now
+  pub block : EndsBehind from r.start (left_blocks r)
 
 -- the rest of a track, which has all of it from a place on
 pub record IsRestOf (from : ℕ) (cs : List Clip) (r : TrackRest) : Type 0 where

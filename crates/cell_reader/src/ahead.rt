@@ -1,15 +1,17 @@
 // Cells of a track, by what is left of it.
-ghost use Rattle.std.specs.Prelude.{◌≡◌, ◌≤◌, ◌<◌, ◌+◌, ◌^◌, length, IsTrue, IsOkUnless, OnOk};
+ghost use Rattle.std.specs.Prelude.{◌≡◌, ◌≤◌, ◌<◌, ◌+◌, ◌^◌, length, map, IsTrue, IsOkUnless, OnOk};
 ghost use Rattle.block_store.specs.declared.fault.BlockFault.TheVariants as fault;
 ghost use Rattle.block_cache.specs.Readers.{Hits, Reads};
-ghost use Rattle.cell_reader.specs.Kept.{HasRest, HasSeen};
+ghost use Rattle.cell_reader.specs.Kept.{HasBlocks, HasRest, HasSeen, left_blocks};
+ghost use Rattle.pcm_base.specs.Blocks.{block_samples};
+ghost use Rattle.pcm_base.specs.declared.sound.Cell.TheVariants.{Sample};
 ghost use Rattle.clip_track.specs.Clips.{layout_blocks};
 ghost use Rattle.sample_block.specs.Sources.{sources_of, AllWhole};
 ghost use Rattle.cell_reader.specs.Seen.{Puts};
 ghost use Rattle.cell_reader.specs.Rests.{rest_cells, rest_blocks, IsRest, IsRestOf, AreSeen};
 ghost use Rattle.cell_reader.specs.Stored.{stored_of};
 
-use super::blocks::put_blocks;
+use super::blocks::{put_blocks, put_rows};
 use super::clips::put_clips;
 use super::forms::FromCell;
 use super::places::{View, fill_gaps, place_in, put_gap};
@@ -18,6 +20,24 @@ use block_cache::BlockReader;
 use block_store::BlockFault;
 use clip_track::Layout;
 use disk_model::Store;
+
+/// Puts the blocks that are left of a clip where the view has them.
+fn put_sound<S: Store, T: FromCell>(
+    reader: &mut BlockReader<S>,
+    rest: &TrackRest,
+    view: View,
+    out: &mut [T],
+) -> Result<(), BlockFault>
+    requires rest { IsRest rest.now }
+    requires size { view.from + length out.old ≡ view.to }
+    ensures reads { Reads (left_blocks rest.now) reader.old reader.new result }
+    ensures hit { Hits (HasBlocks reader.old.cache view rest.now.start (left_blocks rest.now)) reader.old reader.new result }
+    ensures stored { IsTrue (S.tells reader.old.store) → OnOk result (Puts T.made view rest.now.start
+        (map Sample (block_samples (stored_of (S.reads reader.old.store)) (left_blocks rest.now))) out.old out.new) }
+{
+    put_blocks(reader, rest.blocks, view, rest.start, out)?;
+    put_rows(reader, rest.rows, view, rest.row_end, out)
+}
 
 /// Puts a rest where the view has it.
 fn put_rest<S: Store, T: FromCell>(
@@ -34,13 +54,13 @@ fn put_rest<S: Store, T: FromCell>(
         (Puts T.made view rest.now.at (rest_cells (stored_of (S.reads reader.old.store)) rest.now) out.old out.new) }
 {
     put_gap(view, rest.at, rest.start - rest.at, out);
-    put_blocks(reader, rest.blocks, view, rest.start, out)?;
+    put_sound(reader, rest, view, out)?;
     put_clips(reader, rest.clips, view, rest.end, out)
 }
 
-/// Reads the cells of a track from a place on, and gaps past its end, or what is heard of them, until `out` is full. What is left of the track is
-/// handed in, so that what was passed is not looked at again. It looks at no block after those that are seen. After an
-/// error `out` may have been written in part.
+/// Reads the cells of a track from a place on, and gaps past its end, or what is heard of them, until `out` is full.
+/// What is left of the track is handed in, so that what was passed is not looked at again. It looks at no block after
+/// those that are seen. After an error `out` may have been written in part.
 pub fn read_ahead<S: Store, T: FromCell>(
     reader: &mut BlockReader<S>,
     layout: &Layout,

@@ -10,7 +10,7 @@ ghost use Rattle.sample_block.specs.Sources.{AllNamed};
 ghost use Rattle.cell_reader.specs.Seen.{Puts};
 ghost use Rattle.cell_reader.specs.Stored.{stored_of};
 
-use super::blocks::put_blocks;
+use super::blocks::put_rows;
 use super::forms::FromCell;
 use super::places::{View, put_gap};
 use block_cache::BlockReader;
@@ -37,7 +37,7 @@ fn put_clip<S: Store, T: FromCell>(
         ++ map cell.Sample (block_samples (stored_of (S.reads reader.old.store)) clip.now.blocks)) out.old out.new) }
 {
     put_gap(view, at, clip.start - at, out);
-    put_blocks(reader, clip.blocks.as_slice(), view, clip.start, out)
+    put_rows(reader, clip.blocks.rows(), view, clip.start, out)
 }
 
 /// Puts clips, and the gaps before them from a place on, where the view has them. None after the view is looked at.

@@ -8,7 +8,7 @@ use Rattle.clip_track.proofs.Common.{ItemsFit, clip_end, items_from, sound_items
 use Rattle.std.proofs.{lemmas.List.Elements.Contains-append_right}
 use Rattle.clip_track.specs.Items.{item_blocks}
 use Rattle.clip_track.specs.Clips.{layout_blocks}
-use Rattle.clip_track.specs.Rests.{sound_from, IsWithin, IsLeft}
+use Rattle.clip_track.specs.Rests.{left_blocks, sound_from, IsWithin, IsLeft}
 use Rattle.clip_track.specs.{declared.rest.Left.Left}
 use Rattle.clip_track.proofs.Strips.{item_some, part_none, part_past, part_within, AreItems-append, strip_cells-part}
 use Rattle.clip_track.proofs.Strips.{length-strip_cells, strip_len-append, item_part_ok, ItemFits-part, item_part_len}
@@ -92,8 +92,12 @@ sound_ok passed (b ∷ bs) some within =
 
 pub AreItems-left : (l : Left) → IsLeft l → AreItems (left_items l)
 AreItems-left l is =
-    AreItems-append _ _ (AreItems-append _ _ (AreItems-gap l.gaps) (sound_ok l.passed l.blocks.now is.some is.within))
+    AreItems-append _ _ (AreItems-append _ _ (AreItems-gap l.gaps) (sound_ok l.passed (left_blocks l) is.some is.within))
     (AreItems-items l.end l.end l.clips.now is.apart)
+
+pub none_empty_after : (bs cs : List BlockRef) → NoneEmpty (bs ++ cs) → NoneEmpty cs
+none_empty_after [] cs h = h
+none_empty_after (b ∷ bs) cs h = none_empty_after bs cs h.1
 
 -- from one clip to the next
 pub sound_whole : (bs : List BlockRef) → sound_from 0 bs ≡ sound_items bs

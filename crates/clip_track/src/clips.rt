@@ -4,6 +4,7 @@ ghost use Rattle.std.specs.Prelude.{Contains};
 ghost use Rattle.pcm_base.specs.declared.limits.TheConstants.{MAX_CELLS};
 ghost use Rattle.pcm_base.specs.Pieces.{Sources};
 ghost use Rattle.pcm_base.specs.declared.block.BlockRef.{BlockRef};
+ghost use Rattle.block_sequence.specs.Rows.{flat};
 ghost use Rattle.clip_track.specs.Items as strip;
 ghost use Rattle.clip_track.specs.Clips as layout;
 ghost use Rattle.pcm_base.specs.Sizes.{clip_count, sample_count};
@@ -13,7 +14,7 @@ ghost use Rattle.clip_track.specs.Rough.{rough_items, ItemsShort};
 use super::items::{Item, Strip, append_part, push_gap};
 use super::rest::{Rest, rest_from, take_items};
 use super::shared::SharedClips;
-use block_sequence::Sequence;
+use block_sequence::{Row, Sequence};
 use pcm_base::{BlockRef, NoMemory, Piece};
 use std::alloc::{AllocError, Global};
 use std::marker::Model;
@@ -45,7 +46,7 @@ impl Model for Layout {
     ghost invariant = { λ l. IsLayout l.clips };
 }
 
-fn append_blocks(out: &mut Vec<Item>, blocks: &[BlockRef]) -> Result<(), AllocError>
+fn append_row(out: &mut Vec<Item>, blocks: &[BlockRef]) -> Result<(), AllocError>
     ensures { OnOk result (out.new.items ≡ out.old.items ++ layout.sound_items blocks.now) }
 {
     for block in blocks {
@@ -53,6 +54,15 @@ fn append_blocks(out: &mut Vec<Item>, blocks: &[BlockRef]) -> Result<(), AllocEr
         let to = block.len;
         let piece = Piece::Old { block, from: 0, to };
         out.push(Item::Sound { piece })?;
+    }
+    Ok(())
+}
+
+fn append_blocks(out: &mut Vec<Item>, rows: &[Row]) -> Result<(), AllocError>
+    ensures { OnOk result (out.new.items ≡ out.old.items ++ layout.sound_items (flat rows.now)) }
+{
+    for row in rows {
+        append_row(out, row.as_slice())?;
     }
     Ok(())
 }
@@ -65,7 +75,7 @@ fn append_clip(out: &mut Vec<Item>, clip: &Clip, at: u64) -> Result<u64, AllocEr
     ensures end { IfOk result (λ end. end ≡ layout.clip_end clip.now) }
 {
     push_gap(out, clip.start - at)?;
-    append_blocks(out, clip.blocks.as_slice())?;
+    append_blocks(out, clip.blocks.rows())?;
     Ok(clip.start + clip.blocks.len())
 }
 

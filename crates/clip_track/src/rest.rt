@@ -1,13 +1,15 @@
 // What is left of a layout from a place on, stretch by stretch.
-ghost use Rattle.std.specs.Prelude.{◌≡◌, ◌+◌, ◌-◌, ◌≤◌, ◌<◌, [], ◌∷◌, IfOk};
+ghost use Rattle.std.specs.Prelude.{◌≡◌, ◌+◌, ◌-◌, ◌≤◌, ◌<◌, ◌++◌, [], ◌∷◌, IfOk};
 ghost use Rattle.pcm_base.specs.declared.limits.TheConstants.{MAX_CELLS};
 ghost use Rattle.pcm_base.specs.Blocks.{blocks_len};
+ghost use Rattle.block_sequence.specs.Rows.{flat};
 ghost use Rattle.clip_track.specs.Clips.{AreClips, IsLayout, clip_end, end_of, items_from};
 ghost use Rattle.clip_track.specs.Items.{AreItems, items_after, part_items};
 ghost use Rattle.clip_track.specs.Rests.{IsLeft, IsNext, left_items, stretch_item};
 
 use super::clips::Clip;
 use super::items::{Item, item_len, part_of_item};
+use block_sequence::Row;
 use pcm_base::{BlockRef, Piece};
 use std::alloc::{AllocError, Global};
 use std::marker::Model;
@@ -37,12 +39,14 @@ impl Stretch {
     }
 }
 
-// Gaps, the blocks of a clip, of the first of which `passed` samples are passed, and the clips after its end.
+// Gaps, the blocks of a row, of the first of which `passed` samples are passed, the rows of the clip after it, and the
+// clips after its end.
 #[derive(Clone, Copy)]
 struct Left<'a> {
     gaps: u64,
     passed: u32,
     blocks: &'a [BlockRef],
+    rows: &'a [Row],
     end: u64,
     clips: &'a [Clip],
 }
@@ -94,6 +98,29 @@ impl<'a> Rest<'a> {
     }
 }
 
+// The same, with the next row entered where no block is left of the one before.
+fn with_row<'a>(left: Left<'a>) -> Left<'a>
+    requires { IsLeft left }
+    ensures left { IsLeft result }
+    ensures same { left_items result ≡ left_items left.entry }
+    ensures gaps { result.gaps ≡ left.entry.gaps }
+    ensures all { result.blocks.now ++ flat result.rows.now ≡ left.entry.blocks.now ++ flat left.entry.rows.now }
+    ensures first { result.blocks.now ≡ [] → flat result.rows.now ≡ [] }
+    ensures clips { result.clips.now ≡ left.entry.clips.now }
+{
+    if !left.blocks.is_empty() {
+        return left;
+    }
+    match left.rows {
+        [row, more @ ..] => Left {
+            blocks: row.as_slice(),
+            rows: more,
+            ..left
+        },
+        [] => left,
+    }
+}
+
 // The same, with the next clip entered where nothing stands before it.
 fn entered<'a>(left: Left<'a>) -> Left<'a>
     requires { IsLeft left }
@@ -101,6 +128,7 @@ fn entered<'a>(left: Left<'a>) -> Left<'a>
     ensures same { left_items result ≡ left_items left.entry }
     ensures first { result.gaps ≡ 0 → result.blocks.now ≡ [] → left_items result ≡ [] }
 {
+    let left = with_row(left);
     if left.gaps > 0 {
         return left;
     }
@@ -108,7 +136,7 @@ fn entered<'a>(left: Left<'a>) -> Left<'a>
         return left;
     }
     match left.clips {
-        [clip, more @ ..] => enter(left.end, clip, more),
+        [clip, more @ ..] => with_row(enter(left.end, clip, more)),
         [] => left,
     }
 }
@@ -119,7 +147,8 @@ fn enter<'a>(end: u64, clip: &'a Clip, more: &'a [Clip]) -> Left<'a>
     requires few { end_of end (clip.now ∷ more.now) ≤ MAX_CELLS }
     ensures left { IsLeft result }
     ensures items { left_items result ≡ items_from end (clip.now ∷ more.now) }
-    ensures sound { result.blocks.now ≡ clip.now.blocks }
+    ensures row { result.blocks.now ≡ [] }
+    ensures sound { flat result.rows.now ≡ clip.now.blocks }
     ensures whole { result.passed ≡ 0 }
     ensures end { result.end ≡ clip_end clip.now }
     ensures clips { result.clips.now ≡ more.now }
@@ -127,13 +156,14 @@ fn enter<'a>(end: u64, clip: &'a Clip, more: &'a [Clip]) -> Left<'a>
     Left {
         gaps: clip.start - end,
         passed: 0,
-        blocks: clip.blocks.as_slice(),
+        blocks: &[],
+        rows: clip.blocks.rows(),
         end: clip.start + clip.blocks.len(),
         clips: more,
     }
 }
 
-// Blocks of a clip, of which `count` samples are passed, and what is left after them.
+// Blocks of a row, of which `count` samples are passed, and what is left after them.
 fn pass_blocks<'a>(left: Left<'a>, count: u64) -> Left<'a>
     requires left { IsLeft left }
     requires front { left.gaps ≡ 0 }
@@ -159,6 +189,37 @@ fn pass_blocks<'a>(left: Left<'a>, count: u64) -> Left<'a>
     left
 }
 
+// Rows of a clip, of which `count` samples are passed, and what is left after them.
+fn pass_rows<'a>(left: Left<'a>, count: u64) -> Left<'a>
+    requires left { IsLeft left }
+    requires front { left.gaps ≡ 0 }
+    requires whole { left.passed ≡ 0 }
+    requires row { left.blocks.now ≡ [] }
+    requires within { count < blocks_len (flat left.rows.now) }
+    ensures left { IsLeft result }
+    ensures items { left_items result ≡ items_after count (left_items left.entry) }
+{
+    let mut skip = count;
+    let mut rows = left.rows;
+    'rows: while let [row, more @ ..] = rows {
+        if skip < row.len() {
+            let blocks = row.as_slice();
+            let rows = more;
+            return pass_blocks(
+                Left {
+                    blocks,
+                    rows,
+                    ..left
+                },
+                skip,
+            );
+        }
+        skip -= row.len();
+        rows = more;
+    }
+    left
+}
+
 // What is left from a place on that lies before the end of the first clip.
 fn within<'a>(end: u64, clip: &'a Clip, more: &'a [Clip], place: u64) -> Left<'a>
     requires apart { AreClips end (clip.now ∷ more.now) }
@@ -173,7 +234,7 @@ fn within<'a>(end: u64, clip: &'a Clip, more: &'a [Clip], place: u64) -> Left<'a
         let gaps = clip.start - place;
         return Left { gaps, ..left };
     }
-    pass_blocks(Left { gaps: 0, ..left }, place - clip.start)
+    pass_rows(Left { gaps: 0, ..left }, place - clip.start)
 }
 
 // What is left of some clips from a place on.
@@ -196,6 +257,7 @@ fn left_from<'a>(clips: &'a [Clip], place: u64) -> Left<'a>
         gaps: 0,
         passed: 0,
         blocks: &[],
+        rows: &[],
         end,
         clips: &[],
     }

@@ -1,9 +1,12 @@
 -- Windows of tracks: the blocks of a clip, and the clips before and after it.
 use Rattle.edit_ops.proofs.Common.{◌≡◌, ℕ, ◌+◌, ◌-◌, ◌<◌, ◌≤◌, List, [], ◌∷◌, ◌++◌, length, drop, refl, sym, ap, ap₂, subst}
 use Rattle.edit_ops.proofs.Common.{◌∙◌, append-nil, arith, length-append, BlockRef, Clip, AllHalfFull, IsHalfFull, clip_end}
-use Rattle.edit_ops.proofs.Common.{end_of, get_or, layout_blocks, append_assoc}
-use Rattle.std.proofs.lemmas.List.{drop_more}
+use Rattle.edit_ops.proofs.Common.{end_of, get_or, inl, inr, layout_blocks, append_assoc, length-drop, take, ◌*◌}
+use Rattle.std.proofs.lemmas.List.{drop-append-le, drop-drop, drop_more, length-take, take-append-drop}
+use Rattle.std.specs.Prelude.{◌⊎◌}
 use Rattle.pcm_base.specs.Blocks.{AllFull, NoneEmpty, block_lens, blocks_len}
+use Rattle.block_sequence.specs.Rows.{flat, from_to, IsEdge}
+use Rattle.block_sequence.proofs.{Appended.from_to_by, FlatRows.flat_split, FromTo.from_to_all}
 use Rattle.clip_track.specs.Clips.{AreClips}
 use Rattle.clip_track.proofs.Layouts.{AreClips-earlier, ends_later}
 use Rattle.edit_ops.specs.Joins.{moved}
@@ -33,7 +36,56 @@ pub some_len : (bs : List BlockRef) → NoneEmpty bs → 0 < length bs → 0 < b
 some_len [] h l = absurd (omega (arith, l))
 some_len (b ∷ bs) h l = omega (arith, h.0)
 
+-- ---- blocks of a sequence from one place up to another
+pub three_whole : (b e : ℕ) (bs : List BlockRef) → b ≤ e → e ≤ length bs
+    → from_to 0 b bs ++ from_to b e bs ++ from_to e (length bs) bs ≡ bs
+three_whole b e bs h k =
+    ap (λ (xs : List BlockRef). xs ++ from_to e (length bs) bs) (from_to_by 0 b e bs (omega arith) h)
+    ∙ from_to_by 0 e (length bs) bs (omega arith) k
+    ∙ from_to_all (length bs) bs (omega arith)
+
+pub front_len : (b : ℕ) (bs : List BlockRef) → blocks_len (from_to 0 b bs) + blocks_len (drop b bs) ≡ blocks_len bs
+front_len b bs =
+    let e : b - 0 ≡ b = omega arith in
+    ap (λ n. blocks_len (take n bs) + blocks_len (drop b bs)) e
+    ∙ sym (len_append (take b bs) (drop b bs))
+    ∙ ap blocks_len (take-append-drop b bs)
+
+pub part_length : (b e : ℕ) (bs : List BlockRef) → b ≤ e → e ≤ length bs → length (from_to b e bs) ≡ e - b
+part_length b e bs h k = omega (arith, length-take (e - b) (drop b bs), length-drop b bs, h, k)
+
+-- rows up to an edge and after it
+pub edge_room : (rows : List (List BlockRef)) (row at : ℕ) → IsEdge rows row at
+    → at + length (flat (drop row rows)) ≡ length (flat rows)
+edge_room rows row at e =
+    let all = ap length (flat_split rows row) in
+    omega (arith, all, length-append (flat (take row rows)) (flat (drop row rows)), e.same_at)
+
+-- blocks that a row begins
+pub row_passed : (n k : ℕ) (all row rest : List BlockRef) → drop n all ≡ row ++ rest → k ≤ length row
+    → blocks_len (drop (n + k) all) ≡ blocks_len (drop k row) + blocks_len rest
+row_passed n k all row rest e h =
+    ap blocks_len (sym (drop-drop k n all) ∙ ap (drop k) e ∙ drop-append-le k row rest h)
+    ∙ len_append (drop k row) rest
+
 -- ---- full blocks
+pub all_full : (m : ℕ) (bs : List BlockRef) → (length bs ≡ 1 → m ≤ 2 * blocks_len bs) → IsHalfFull m (block_lens bs)
+    → AllFull m (block_lens bs)
+all_full m [] h k = tt
+all_full m (b ∷ []) h k = ((omega (arith, h refl), k.1), tt)
+all_full m (b ∷ c ∷ bs) h k = k
+
+pub touch_none : (m : ℕ) (xs ys : List BlockRef) → (length xs ≡ 0) ⊎ (length ys ≡ 0) → IsHalfFull m (block_lens xs)
+    → IsHalfFull m (block_lens ys) → IsHalfFull m (block_lens (xs ++ ys))
+touch_none m [] ys h a b = b
+touch_none m (x ∷ xs) [] h a b =
+    let H : List BlockRef → Type 0 = λ bs. IsHalfFull m (block_lens bs) in
+    subst H (sym (append-nil (x ∷ xs))) a
+touch_none m (x ∷ xs) (y ∷ ys) h a b = elim h [
+  | inl e ↦ absurd (omega (arith, e))
+  | inr e ↦ absurd (omega (arith, e))
+]
+
 full_parts : (m : ℕ) (xs ys : List BlockRef) → AllFull m (block_lens (xs ++ ys))
     → AllFull m (block_lens xs) × AllFull m (block_lens ys)
 full_parts m [] ys h = (tt, h)

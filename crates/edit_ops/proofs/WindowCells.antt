@@ -9,6 +9,7 @@ use Rattle.pcm_base.proofs.Pieces.{drop-past}
 use Rattle.block_sequence.proofs.Whole.{length-blocks}
 use Rattle.clip_track.specs.Clips.{AreClips, cells_from}
 use Rattle.clip_track.proofs.Layouts.{AreClips-earlier, length-layout}
+use Rattle.edit_ops.specs.Windows.{back_of, front_of, middle_of}
 use Rattle.edit_ops.specs.Joins.{clip_of, joined_clips, moved}
 use Rattle.edit_ops.specs.Windows.{IsAround, IsWindow, back_clip, front_clip, window_blocks}
 use Rattle.edit_ops.specs.declared.windows.Window.{Window}
@@ -94,14 +95,14 @@ cells_moved src at from to (c ∷ cs) l h =
 -- the cells before a window, and those after it
 abbrev pub front_cells : Sources → Window → List Cell
 front_cells src w = cells_from src 0 w.before.now ++ replicate (w.start - end_of 0 w.before.now) cell.Gap
-    ++ sound src w.front.now
+    ++ sound src (front_of w)
 
 abbrev pub back_cells : Sources → Window → List Cell
-back_cells src w = sound src w.back.now ++ cells_from src (w.start + w.len) w.after.now
+back_cells src w = sound src (back_of w) ++ cells_from src (w.start + w.len) w.after.now
 
 -- and all of them
 abbrev pub window_sound : Sources → Window → List Cell
-window_sound src w = front_cells src w ++ sound src w.middle.now ++ back_cells src w
+window_sound src w = front_cells src w ++ sound src (middle_of w) ++ back_cells src w
 
 window_clip : (src : Sources) (m : ℕ) (t : List Clip) (w : Window) → IsWindow m t w
     → cells_from src 0 w.before.now
@@ -111,11 +112,11 @@ window_clip src m t w h =
     let before = cells_from src 0 w.before.now in
     let gap = replicate (w.start - end_of 0 w.before.now) cell.Gap in
     let rest = cells_from src (w.start + w.len) w.after.now in
-    let all : sound src (window_blocks w) ≡ sound src w.front.now ++ sound src w.middle.now ++ sound src w.back.now =
-    sound_append src (w.front.now ++ w.middle.now) w.back.now
-    ∙ ap (λ cs. cs ++ sound src w.back.now) (sound_append src w.front.now w.middle.now) in
+    let all : sound src (window_blocks w) ≡ sound src (front_of w) ++ sound src (middle_of w) ++ sound src (back_of w) =
+    sound_append src (front_of w ++ middle_of w) (back_of w)
+    ∙ ap (λ cs. cs ++ sound src (back_of w)) (sound_append src (front_of w) (middle_of w)) in
     ap₂ (λ (cs : List Cell) (n : ℕ). before ++ (gap ++ cs ++ cells_from src (w.start + n) w.after.now)) all (sym h.len)
-    ∙ assoc_five before gap (sound src w.front.now) (sound src w.middle.now) (sound src w.back.now) rest
+    ∙ assoc_five before gap (sound src (front_of w)) (sound src (middle_of w)) (sound src (back_of w)) rest
 
 length_before : (src : Sources) (m : ℕ) (t : List Clip) (w : Window) → IsWindow m t w
     → (length (cells_from src 0 w.before.now) ≡ end_of 0 w.before.now) × (end_of 0 w.before.now ≤ w.start)
@@ -132,11 +133,11 @@ length_front src m t w h =
     let p = length_before src m t w h in
     omega (
       arith,
-      length-append (before ++ gap) (sound src w.front.now),
+      length-append (before ++ gap) (sound src (front_of w)),
       length-append before gap,
       p.0,
       length-replicate {A = Cell} (w.start - end_of 0 w.before.now) cell.Gap,
-      length_sound src w.front.now,
+      length_sound src (front_of w),
       p.1,
       h.from,
     )
@@ -158,7 +159,7 @@ window_continued src m t w h =
     ∙ window_clip src m t w h
 
 -- and alone, where it is there
-pub window_cells : (src : Sources) (m : ℕ) (t : List Clip) (w : Window) → IsWindow m t w → 0 < blocks_len w.middle.now
+pub window_cells : (src : Sources) (m : ℕ) (t : List Clip) (w : Window) → IsWindow m t w → 0 < blocks_len (middle_of w)
     → cells_from src 0 t ≡ window_sound src w
 window_cells src m t w h some =
     let long = length-layout src t h.layout.apart in
@@ -176,7 +177,7 @@ small_cells src (b ∷ bs) = append-nil (sound src (b ∷ bs))
 
 -- ---- another track in a window's place
 added_cells : (src : Sources) (m : ℕ) (t : List Clip) (w : Window) (old new : ℕ) (small : List Clip) (cells : List Cell)
-    → IsWindow m t w → old ≡ blocks_len w.middle.now → AreClips 0 small → end_of 0 small ≤ new
+    → IsWindow m t w → old ≡ blocks_len (middle_of w) → AreClips 0 small → end_of 0 small ≤ new
     → cells_from src 0 small ≡ trimmed cells → length cells ≡ new
     → cells_from src w.from (additions w new small ++ moved (w.from + old) (w.from + new) w.after.now)
     ≡ cells ++ back_cells src w
@@ -184,7 +185,7 @@ added_cells src m t w old new small cells h o a l e n =
     let from = w.from + old in
     let to = w.from + new in
     let es = moved from to w.after.now in
-    let back = sound src w.back.now in
+    let back = sound src (back_of w) in
     let end = w.start + w.len in
     let gap : ℕ = new - length (trimmed cells) in
     let len = window_len m t w h in
@@ -195,14 +196,14 @@ added_cells src m t w old new small cells h o a l e n =
     ∙ cells_moved src 0 0 w.from small (omega arith) a ∙ e in
     let long : end_of 0 small ≡ length (trimmed cells) = sym (length-layout src small a) ∙ ap length e in
     let k : to - end_of w.from (moved 0 w.from small) ≡ gap = omega (arith, small_end w small a, long, l) in
-    let i : to + blocks_len w.back.now ≡ end - from + to = omega (arith, len, o) in
-    let rest : cells_from src (to + blocks_len w.back.now) es ≡ cells_from src end w.after.now =
+    let i : to + blocks_len (back_of w) ≡ end - from + to = omega (arith, len, o) in
+    let rest : cells_from src (to + blocks_len (back_of w)) es ≡ cells_from src end w.after.now =
     ap (λ (j : ℕ). cells_from src j es) i ∙ cells_moved src end from to w.after.now (omega (arith, len, o)) later in
     let grown : trimmed cells ++ replicate gap cell.Gap ≡ cells =
     ap (λ (j : ℕ). trimmed cells ++ replicate (j - length (trimmed cells)) cell.Gap) (sym n) ∙ regrown cells in
     ap (cells_from src w.from) (append_assoc (moved 0 w.from small) (back_clip w new ∷ []) es)
     ∙ cells_append src w.from (moved 0 w.from small) (back_clip w new ∷ es)
-    ∙ ap₂ (λ (xs : List Cell) (j : ℕ). xs ++ (replicate j cell.Gap ++ back ++ cells_from src (to + blocks_len w.back.now) es))
+    ∙ ap₂ (λ (xs : List Cell) (j : ℕ). xs ++ (replicate j cell.Gap ++ back ++ cells_from src (to + blocks_len (back_of w)) es))
     here k
     ∙ ap (λ (zs : List Cell). trimmed cells ++ (replicate gap cell.Gap ++ back ++ zs)) rest
     ∙ ap (λ (zs : List Cell). trimmed cells ++ zs) (append_assoc (replicate gap cell.Gap) back (cells_from src end w.after.now))
@@ -210,7 +211,7 @@ added_cells src m t w old new small cells h o a l e n =
     ∙ ap (λ (zs : List Cell). zs ++ back_cells src w) grown
 
 pub cells_placed : (src : Sources) (m : ℕ) (t : List Clip) (w : Window) (old new : ℕ) (small all : List Clip)
-    (cells : List Cell) → IsWindow m t w → old ≡ blocks_len w.middle.now → IsAround m w old new small all
+    (cells : List Cell) → IsWindow m t w → old ≡ blocks_len (middle_of w) → IsAround m w old new small all
     → cells_from src 0 small ≡ trimmed cells → length cells ≡ new
     → cells_from src 0 all ≡ trimmed (front_cells src w ++ cells ++ back_cells src w)
 cells_placed src m t w old new small all cells h o a e n =
@@ -228,8 +229,8 @@ cells_placed src m t w old new small all cells h o a e n =
     ∙ trimmed_after before (cells_from src at (joined_clips front ds ++ es)) (cells_from src at (front ∷ (ds ++ es)))
     (joined_cells src at front ds es p.1 (none_empty_parts m t w h).0 (additions_loose m t w new small h a.apart a.within)
     (after_apart m t w old new small h o))
-    ∙ ap trimmed (ap (λ (zs : List Cell). before ++ (gap ++ sound src w.front.now ++ zs)) added
-    ∙ assoc_front before gap (sound src w.front.now) cells (back_cells src w))
+    ∙ ap trimmed (ap (λ (zs : List Cell). before ++ (gap ++ sound src (front_of w) ++ zs)) added
+    ∙ assoc_front before gap (sound src (front_of w)) cells (back_cells src w))
   where
     assoc_front : (a g f c k : List Cell) → a ++ (g ++ f ++ (c ++ k)) ≡ (a ++ g ++ f) ++ c ++ k
     assoc_front a g f c k =

@@ -8,6 +8,7 @@ use Rattle.std.proofs.lemmas.List.{length-map, length-take}
 use Rattle.pcm_base.specs.Blocks.{blocks_len}
 use Rattle.pcm_base.specs.Edits.{changed, deleted, inserted}
 use Rattle.clip_track.specs.Clips.{cells_from}
+use Rattle.edit_ops.specs.Windows.{middle_of}
 use Rattle.edit_ops.specs.{Strips.CutsWithin, Windows.IsNear, Windows.IsPlaced, Windows.cells_left}
 use Rattle.edit_ops.specs.declared.windows.Near.{Near}
 use Rattle.edit_ops.proofs.CellLists.{front_within, inserted_continued}
@@ -70,12 +71,12 @@ changed_in f xs ys zs n from to e l r h =
 
 -- ---- plans of a window's track
 small_is : (src : Sources) (m from to : ℕ) (t : List Clip) (n : Near) → IsNear m from to t n
-    → cells_from src 0 n.small ≡ sound src n.window.middle.now
-small_is src m from to t n h = ap (cells_from src 0) h.small ∙ small_cells src n.window.middle.now
+    → cells_from src 0 n.small ≡ sound src (middle_of n.window)
+small_is src m from to t n h = ap (cells_from src 0) h.small ∙ small_cells src (middle_of n.window)
 
 -- a range that has cells
 some_middle : (m from to : ℕ) (t : List Clip) (n : Near) → IsNear m from to t n → from < to
-    → 0 < blocks_len n.window.middle.now
+    → 0 < blocks_len (middle_of n.window)
 some_middle m from to t n h r = omega (arith, h.past, h.within, near_len m from to t n h, r)
 
 pub means_inserted : (src : Sources) (m : ℕ) (t : List Clip) (n : Near) (old count at : ℕ) (small p : Plan)
@@ -90,9 +91,9 @@ means_inserted src m t n old count at small p given near same a g means =
     let l = near.past in
     let k : at - w.from ≤ old = omega (arith, near.within, same) in
     let e = means ∙ ap (inserted (at - w.from) given) (small_is src m at at t n near) in
-    let ys = sound src w.middle.now in
+    let ys = sound src (middle_of w) in
     let place = at - w.from in
-    let long = length_sound src w.middle.now in
+    let long = length_sound src (middle_of w) in
     let front : take place (continued place ys) ≡ take place ys = front_within place ys (omega (arith, long, o, k)) in
     let cells = take place ys ++ given ++ drop place ys in
     let size : length cells ≡ old + count = omega (
@@ -126,8 +127,8 @@ means_deleted src m t n old from to small p near same rise a means =
     let l = near.past in
     let k : to - w.from ≤ old = omega (arith, near.within, same) in
     let e = means ∙ ap (deleted (from - w.from) (to - w.from)) (small_is src m from to t n near) in
-    let ys = sound src w.middle.now in
-    let long = length_sound src w.middle.now in
+    let ys = sound src (middle_of w) in
+    let long = length_sound src (middle_of w) in
     let cells = take (from - w.from) ys ++ drop (to - w.from) ys in
     let size : length cells ≡ old - (to - from) = omega (
       arith,
@@ -158,8 +159,8 @@ means_changed src m f t n old from to small p near same rise a means =
     let l = near.past in
     let k : to - w.from ≤ old = omega (arith, near.within, same) in
     let e = means ∙ ap (changed f (from - w.from) (to - w.from)) (small_is src m from to t n near) in
-    let ys = sound src w.middle.now in
-    let long = length_sound src w.middle.now in
+    let ys = sound src (middle_of w) in
+    let long = length_sound src (middle_of w) in
     let t' = take (from - w.from) ys in
     let p' = part (from - w.from) (to - w.from) ys in
     let d' = drop (to - w.from) ys in
@@ -191,9 +192,9 @@ part_near src m from to t n h rise =
     let r : from ≤ to = omega (arith, rise) in
     let w = n.window in
     ap (part (from - w.from) (to - w.from)) (small_is src m from to t n h)
-    ∙ sym (part_in (front_cells src w) (sound src w.middle.now) (back_cells src w) w.from from to
+    ∙ sym (part_in (front_cells src w) (sound src (middle_of w)) (back_cells src w) w.from from to
     (length_front src m t w h.window) h.past r
-    (omega (arith, length_sound src w.middle.now, near_len m from to t n h, h.within, h.past, r)))
+    (omega (arith, length_sound src (middle_of w), near_len m from to t n h, h.within, h.past, r)))
     ∙ ap (part from to) (sym (window_cells src m t w h.window (some_middle m from to t n h rise)))
 
 -- ---- a range that is cut

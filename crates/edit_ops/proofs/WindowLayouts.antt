@@ -5,6 +5,7 @@ use Rattle.std.specs.Prelude.{◌⊎◌}
 use Rattle.pcm_base.specs.Blocks.{NoneEmpty, blocks_len}
 use Rattle.clip_track.specs.Clips.{AreClips, IsLayout}
 use Rattle.clip_track.proofs.Layouts.{AreClips-earlier, ends_later}
+use Rattle.edit_ops.specs.Windows.{back_of, front_of, middle_of}
 use Rattle.edit_ops.specs.Joins.{clip_of, joined_clips, moved}
 use Rattle.edit_ops.specs.Windows.{IsWindow, back_clip, front_clip, next_of, track_with, window_blocks}
 use Rattle.edit_ops.specs.declared.windows.Window.{Window}
@@ -17,10 +18,10 @@ abbrev pub additions : Window → ℕ → List Clip → List Clip
 additions w new small = moved 0 w.from small ++ back_clip w new ∷ []
 
 pub none_empty_parts : (m : ℕ) (t : List Clip) (w : Window) → IsWindow m t w
-    → NoneEmpty w.front.now × NoneEmpty w.middle.now × NoneEmpty w.back.now
+    → NoneEmpty (front_of w) × NoneEmpty (middle_of w) × NoneEmpty (back_of w)
 none_empty_parts m t w h =
-    let a = NoneEmpty-parts (w.front.now ++ w.middle.now) w.back.now h.none_empty in
-    let b = NoneEmpty-parts w.front.now w.middle.now a.0 in
+    let a = NoneEmpty-parts (front_of w ++ middle_of w) (back_of w) h.none_empty in
+    let b = NoneEmpty-parts (front_of w) (middle_of w) a.0 in
     (b.0, b.1, a.1)
 
 moved_small : (w : Window) (small : List Clip) → AreClips 0 small → AreClips w.from (moved 0 w.from small)
@@ -43,16 +44,16 @@ additions_loose m t w new small h a l =
     (moved_small w small a) (omega (arith, small_end w small a, l)) (none_empty_parts m t w h).2)
 
 pub additions_end : (w : Window) (new : ℕ) (small : List Clip)
-    → end_of (clip_end (front_clip w)) (additions w new small) ≡ w.from + new + blocks_len w.back.now
+    → end_of (clip_end (front_clip w)) (additions w new small) ≡ w.from + new + blocks_len (back_of w)
 additions_end w new small = end_append (clip_end (front_clip w)) (moved 0 w.from small) (back_clip w new ∷ [])
 
 pub window_len : (m : ℕ) (t : List Clip) (w : Window) → IsWindow m t w
-    → w.start + w.len ≡ w.from + blocks_len w.middle.now + blocks_len w.back.now
-window_len m t w h = omega (arith, h.len, h.from, len_three w.front.now w.middle.now w.back.now)
+    → w.start + w.len ≡ w.from + blocks_len (middle_of w) + blocks_len (back_of w)
+window_len m t w h = omega (arith, h.len, h.from, len_three (front_of w) (middle_of w) (back_of w))
 
 -- the clips after the window, moved
 pub after_apart : (m : ℕ) (t : List Clip) (w : Window) (old new : ℕ) (small : List Clip) → IsWindow m t w
-    → old ≡ blocks_len w.middle.now
+    → old ≡ blocks_len (middle_of w)
     → AreClips (end_of (clip_end (front_clip w)) (additions w new small) + 1)
     (moved (w.from + old) (w.from + new) w.after.now)
 after_apart m t w old new small h o =
@@ -92,7 +93,7 @@ window_end m t w h = elim (window_last m t w h) [
   | inr e ↦ inr e.0
 ]
 
-pub middle_few : (m : ℕ) (t : List Clip) (w : Window) → IsWindow m t w → blocks_len w.middle.now ≤ 4294967296
+pub middle_few : (m : ℕ) (t : List Clip) (w : Window) → IsWindow m t w → blocks_len (middle_of w) ≤ 4294967296
 middle_few m t w h =
     let len = window_len m t w h in
     elim (window_end m t w h) [
@@ -100,9 +101,9 @@ middle_few m t w h =
       | inr e ↦ omega (arith, len, e, h.from)
     ]
 
-pub back_few : (m : ℕ) (t : List Clip) (w : Window) (old new : ℕ) → IsWindow m t w → old ≡ blocks_len w.middle.now
+pub back_few : (m : ℕ) (t : List Clip) (w : Window) (old new : ℕ) → IsWindow m t w → old ≡ blocks_len (middle_of w)
     → end_of 0 t - old + new ≤ 4294967296 → w.from + new ≤ 4294967296
-    → w.from + new + blocks_len w.back.now ≤ 4294967296
+    → w.from + new + blocks_len (back_of w) ≤ 4294967296
 back_few m t w old new h o few far =
     let len = window_len m t w h in
     elim (window_end m t w h) [
@@ -111,7 +112,7 @@ back_few m t w old new h o few far =
     ]
 
 pub layout_around : (m : ℕ) (t : List Clip) (w : Window) (old new : ℕ) (small : List Clip) → IsWindow m t w
-    → old ≡ blocks_len w.middle.now → AreClips 0 small → end_of 0 small ≤ new
+    → old ≡ blocks_len (middle_of w) → AreClips 0 small → end_of 0 small ≤ new
     → end_of 0 t - old + new ≤ 4294967296 → w.from + new ≤ 4294967296 → IsLayout (track_with w old new small)
 layout_around m t w old new small h o a l few far =
     let from = w.from + old in

@@ -3,6 +3,7 @@ use Rattle.edit_ops.proofs.Common.{◌≡◌, ℕ, inl, inr, ◌+◌, ◌≤◌,
 use Rattle.edit_ops.proofs.Common.{append-nil, append_assoc, arith, Contains-append_left, Contains-append_right, Contains}
 use Rattle.edit_ops.proofs.Common.{AllFrom, AllHalfFull, BlockRef, IsHalfFull, Piece, end_of, layout_blocks, Clip, NewBlock}
 use Rattle.edit_ops.proofs.Common.{Plan}
+use Rattle.edit_ops.specs.Windows.{back_of, front_of, middle_of}
 use Rattle.edit_ops.specs.Plans.{AllNewFrom, AreNew, AreOldOrNew, IsPlan, Start}
 use Rattle.edit_ops.specs.Joins.{clip_of, joined_clips, moved}
 use Rattle.edit_ops.specs.Windows.{IsNear, IsPlaced, IsWindow, back_clip, front_clip, track_with, window_blocks}
@@ -59,9 +60,9 @@ old_after old xs ys ns g h =
 
 -- the blocks of a track with some blocks in a window's place
 abbrev blocks_with : Window → List BlockRef → List BlockRef
-blocks_with w bs = layout_blocks w.before.now ++ (w.front.now ++ bs ++ w.back.now ++ layout_blocks w.after.now)
+blocks_with w bs = layout_blocks w.before.now ++ (front_of w ++ bs ++ back_of w ++ layout_blocks w.after.now)
 
-blocks_now : (m : ℕ) (t : List Clip) (w : Window) → IsWindow m t w → layout_blocks t ≡ blocks_with w w.middle.now
+blocks_now : (m : ℕ) (t : List Clip) (w : Window) → IsWindow m t w → layout_blocks t ≡ blocks_with w (middle_of w)
 blocks_now m t w h =
     let bs = window_blocks w in
     ap layout_blocks h.clips ∙ blocks_append w.before.now (clip_of w.start bs ++ w.after.now)
@@ -72,8 +73,8 @@ blocks_then : (w : Window) (old new : ℕ) (small : List Clip)
 blocks_then w old new small =
     let after = moved (w.from + old) (w.from + new) w.after.now in
     let here = moved 0 w.from small in
-    let front = w.front.now in
-    let back = w.back.now in
+    let front = front_of w in
+    let back = back_of w in
     let rest = layout_blocks w.after.now in
     let added : layout_blocks (additions w new small ++ after) ≡ layout_blocks small ++ (back ++ rest) =
     ap layout_blocks (append_assoc here (back_clip w new ∷ []) after)
@@ -87,15 +88,15 @@ blocks_then w old new small =
     ∙ ap (λ (xs : List BlockRef). layout_blocks w.before.now ++ xs)
     (joined_blocks (front_clip w) (additions w new small) after ∙ ap (λ (xs : List BlockRef). front ++ xs) added ∙ join)
 
-old_or_new_around : (w : Window) (bs : List BlockRef) (ns : List NewBlock) → AreOldOrNew w.middle.now bs ns
-    → AreOldOrNew (blocks_with w w.middle.now) (blocks_with w bs) ns
+old_or_new_around : (w : Window) (bs : List BlockRef) (ns : List NewBlock) → AreOldOrNew (middle_of w) bs ns
+    → AreOldOrNew (blocks_with w (middle_of w)) (blocks_with w bs) ns
 old_or_new_around w bs ns h =
-    let all = blocks_with w w.middle.now in
+    let all = blocks_with w (middle_of w) in
     let before = layout_blocks w.before.now in
     let after = layout_blocks w.after.now in
-    let front = w.front.now in
-    let middle = w.middle.now in
-    let back = w.back.now in
+    let front = front_of w in
+    let middle = middle_of w in
+    let back = back_of w in
     let one : Within (front ++ middle ++ back ++ after) all =
     λ b i. Contains-append_right before (front ++ middle ++ back ++ after) b i in
     let clip : Within (front ++ middle ++ back) all =
@@ -109,14 +110,14 @@ old_or_new_around w bs ns h =
     (old_before all front bs ns (λ b i. start b (Contains-append_left front middle b i))
     (old_or_new_more middle all bs ns (λ b i. start b (Contains-append_right front middle b i)) h))))
 
-middle_within : (m : ℕ) (t : List Clip) (w : Window) → IsWindow m t w → Within w.middle.now (layout_blocks t)
+middle_within : (m : ℕ) (t : List Clip) (w : Window) → IsWindow m t w → Within (middle_of w) (layout_blocks t)
 middle_within m t w h b i =
-    let front = w.front.now in
-    let middle = w.middle.now in
+    let front = front_of w in
+    let middle = middle_of w in
     let P : List BlockRef → Type 0 = λ xs. Contains xs b in
     subst P (sym (blocks_now m t w h)) (Contains-append_right (layout_blocks w.before.now) _ b
-    (Contains-append_left (front ++ middle ++ w.back.now) (layout_blocks w.after.now) b
-    (Contains-append_left (front ++ middle) w.back.now b (Contains-append_right front middle b i))))
+    (Contains-append_left (front ++ middle ++ back_of w) (layout_blocks w.after.now) b
+    (Contains-append_left (front ++ middle) (back_of w) b (Contains-append_right front middle b i))))
 
 small_blocks : (bs : List BlockRef) → layout_blocks (clip_of 0 bs) ≡ bs
 small_blocks [] = refl
@@ -124,17 +125,17 @@ small_blocks (b ∷ bs) = append-nil (b ∷ bs)
 
 pub plan_placed : (start : Start) (t : List Clip) (w : Window) (old new count : ℕ) (small p : Plan)
     → IsWindow start.block_size t w → IsPlaced start.block_size w old new small p
-    → IsPlan start (layout_blocks (clip_of 0 w.middle.now)) count small → IsPlan start (layout_blocks t) count p
+    → IsPlan start (layout_blocks (clip_of 0 (middle_of w))) count small → IsPlan start (layout_blocks t) count p
 plan_placed start t w old new count small p h a k =
     let m = start.block_size in
     let bs = layout_blocks small.layout in
-    let mine = small_blocks w.middle.now in
+    let mine = small_blocks (middle_of w) in
     let N : List NewBlock → Type 0 = AreNew m start.next in
     let F : List NewBlock → Type 0 = AllNewFrom (layout_blocks t) count in
-    let inside : Within (layout_blocks (clip_of 0 w.middle.now)) (layout_blocks t) =
+    let inside : Within (layout_blocks (clip_of 0 (middle_of w))) (layout_blocks t) =
     λ b i. middle_within m t w h b (subst (λ (xs : List BlockRef). Contains xs b) mine i) in
     let B1 : List BlockRef → Type 0 = λ xs. AreOldOrNew xs bs small.makes in
-    let named : AreOldOrNew w.middle.now bs small.makes = subst B1 mine k.blocks in
+    let named : AreOldOrNew (middle_of w) bs small.makes = subst B1 mine k.blocks in
     let B3 : List BlockRef → Type 0 = λ xs. AreOldOrNew xs (blocks_with w bs) small.makes in
     let B4 : List BlockRef → Type 0 = λ xs. AreOldOrNew (layout_blocks t) xs small.makes in
     let B5 : List NewBlock → Type 0 = λ ns. AreOldOrNew (layout_blocks t) (layout_blocks p.layout) ns in
@@ -161,15 +162,15 @@ small_half_full m (b ∷ bs) h = (h, tt)
 
 pub near_half_full : (m from to : ℕ) (t : List Clip) (n : Near) → IsNear m from to t n → AllHalfFull m n.small
 near_half_full m from to t n h =
-    subst (AllHalfFull m) (sym h.small) (small_half_full m n.window.middle.now h.window.middle)
+    subst (AllHalfFull m) (sym h.small) (small_half_full m (middle_of n.window) h.window.middle)
 
 small_len : (bs : List BlockRef) → end_of 0 (clip_of 0 bs) ≡ blocks_len bs
 small_len [] = refl
 small_len (b ∷ bs) = omega arith
 
 pub near_len : (m from to : ℕ) (t : List Clip) (n : Near) → IsNear m from to t n
-    → end_of 0 n.small ≡ blocks_len n.window.middle.now
-near_len m from to t n h = ap (end_of 0) h.small ∙ small_len n.window.middle.now
+    → end_of 0 n.small ≡ blocks_len (middle_of n.window)
+near_len m from to t n h = ap (end_of 0) h.small ∙ small_len (middle_of n.window)
 
 -- it ends within the track, unless it is a gap after all clips
 pub near_end : (m from to : ℕ) (t : List Clip) (n : Near) → IsNear m from to t n

@@ -1,7 +1,8 @@
 -- Clips that are added to others, where those that touch become one.
-use Rattle.std.specs.Prelude.{◌≡◌, ℕ, ◌+◌, ◌-◌, ◌≤◌, List, [], ◌∷◌, ◌++◌, if◌then◌else◌, ◌==◌}
+use Rattle.std.specs.Prelude.{◌≡◌, ℕ, ◌+◌, ◌-◌, ◌≤◌, List, [], ◌∷◌, ◌++◌, length, if◌then◌else◌, ◌==◌}
 use Rattle.pcm_base.specs.{declared.block.BlockRef.BlockRef, declared.limits.TheConstants.MAX_CELLS}
 use Rattle.pcm_base.specs.Blocks.{IsHalfFull, NoneEmpty, block_lens, blocks_len}
+use Rattle.block_sequence.specs.Rows.{from_to}
 use Rattle.clip_track.specs.{declared.clips.Clip.Clip, Clips.AllHalfFull, Clips.clip_end}
 use Rattle.edit_ops.specs.{declared.joins.Joining.Joining, declared.joins.Part.Part}
 
@@ -22,28 +23,34 @@ abbrev pub moved : ℕ → ℕ → List Clip → List Clip
 moved from to [] = []
 moved from to (c ∷ cs) = record { start = c.start - from + to; blocks = c.blocks } ∷ moved from to cs
 
+-- the blocks of a part
+abbrev pub part_blocks : Part → List BlockRef
+part_blocks p = from_to p.from p.to p.blocks.now
+
 -- the part as a clip
 abbrev pub part_clip : Part → Clip
-part_clip p = record { start = p.start; blocks = p.blocks.now }
+part_clip p = record { start = p.start; blocks = part_blocks p }
 
 -- blocks at a place of a track, half full at block size m
 pub record IsPart (m : ℕ) (p : Part) : Type 0 where
-  pub size : p.size ≡ blocks_len p.blocks.now
+  pub rising : p.from ≤ p.to
+  pub within : p.to ≤ length p.blocks.now
+  pub size : p.size ≡ blocks_len (part_blocks p)
   pub few : p.start + p.size ≤ MAX_CELLS
-  pub none_empty : NoneEmpty p.blocks.now
-  pub half_full : IsHalfFull m (block_lens p.blocks.now)
+  pub none_empty : NoneEmpty (part_blocks p)
+  pub half_full : IsHalfFull m (block_lens (part_blocks p))
 
 -- what holds while clips are added, at block size m
 pub record IsJoining (m : ℕ) (j : Joining) : Type 0 where
-  pub end : j.end ≡ j.start + blocks_len j.blocks.items
+  pub end : j.end ≡ j.start + blocks_len j.blocks
   pub few : j.end ≤ MAX_CELLS
-  pub none_empty : NoneEmpty j.blocks.items
-  pub half_full : IsHalfFull m (block_lens j.blocks.items)
+  pub none_empty : NoneEmpty j.blocks
+  pub half_full : IsHalfFull m (block_lens j.blocks)
   pub clips : AllHalfFull m j.clips.items
 
 -- the clips that there are once some more are added
 abbrev pub finished : Joining → List Clip → List Clip
-finished j ds = j.clips.items ++ joined_clips (record { start = j.start; blocks = j.blocks.items }) ds
+finished j ds = j.clips.items ++ joined_clips (record { start = j.start; blocks = j.blocks }) ds
 
 -- some clips are added
 pub record Adds (m : ℕ) (j : Joining) (ds : List Clip) (n : Joining) : Type 0 where

@@ -1,15 +1,15 @@
 // Clips that are added to others, where those that touch become one.
-ghost use Rattle.std.specs.Prelude.{◌≡◌, ◌+◌, ◌≤◌, ◌<◌, ◌++◌, [], ◌∷◌, IfOk, IfSome, IsTrue};
+ghost use Rattle.std.specs.Prelude.{◌≡◌, ◌+◌, ◌≤◌, ◌<◌, ◌++◌, List, [], ◌∷◌, length, IfOk, IfSome, IsTrue};
 ghost use Rattle.pcm_base.specs.declared.limits.TheConstants.{MAX_CELLS};
-ghost use Rattle.pcm_base.specs.Blocks.{block_lens, blocks_len, AllFull, IsHalfFull, NoneEmpty};
-ghost use Rattle.block_sequence.specs.Sequences.{IsHalfFullSomewhere};
+ghost use Rattle.pcm_base.specs.Blocks.{block_lens, blocks_len, AllFull, IsHalfFull};
+ghost use Rattle.pcm_base.specs.declared.block.BlockRef.{BlockRef};
 ghost use Rattle.clip_track.specs.Clips.{AllHalfFull, AreClips, end_of};
-ghost use Rattle.edit_ops.specs.Joins.{Adds, IsJoining, IsPart, finished, moved, part_clip};
+ghost use Rattle.edit_ops.specs.Joins.{Adds, IsJoining, IsPart, finished, moved, part_blocks, part_clip};
 
 use super::planner::Planner;
 use block_sequence::Sequence;
 use clip_track::Clip;
-use pcm_base::{BlockRef, NoMemory};
+use pcm_base::NoMemory;
 
 /// Clips, and one more after them that may still grow. Where it has no blocks it is none.
 #[derive(Drop)]
@@ -21,47 +21,49 @@ pub struct Joining {
     /// Where it ends.
     pub end: u64,
     /// Its blocks.
-    pub blocks: Vec<BlockRef>,
+    pub blocks: Sequence,
 }
 
-/// Blocks at a place of a track.
+/// Blocks at a place of a track: those of a sequence from one place up to another.
 #[derive(Clone, Copy)]
 pub struct Part<'a> {
     pub start: u64,
     /// How many samples they have.
     pub size: u64,
-    pub blocks: &'a [BlockRef],
+    pub blocks: &'a Sequence,
+    pub from: usize,
+    pub to: usize,
 }
 
-/// Whether all of some blocks are full, of which one alone may be smaller.
-fn are_full(blocks: &[BlockRef], block_size: u32) -> bool
-    requires { IsHalfFull block_size (block_lens blocks.now) }
-    ensures { IsTrue result → AllFull block_size (block_lens blocks.now) }
+/// Whether all of some blocks are full, of which one alone may be smaller: `count` blocks of `size` samples in all.
+fn are_full(count: usize, size: u64, block_size: u32) -> bool
+    requires { size ≤ MAX_CELLS }
+    ensures { IsTrue result → (bs : List BlockRef) → length bs ≡ count → blocks_len bs ≡ size
+        → IsHalfFull block_size (block_lens bs) → AllFull block_size (block_lens bs) }
 {
-    if blocks.len() == 1 {
-        return block_size as u64 <= 2 * blocks[0].len as u64;
+    if count == 1 && 2 * size < block_size as u64 {
+        return false;
     }
     true
 }
 
-/// Whether some blocks and those after them may be one clip.
-fn may_touch(front: &[BlockRef], back: &[BlockRef], block_size: u32) -> bool
+/// Whether some blocks and those of a part after them may be one clip.
+fn may_touch(front: &Sequence, back: Part<'_>, block_size: u32) -> bool
     requires front { IsHalfFull block_size (block_lens front.now) }
-    requires back { IsHalfFull block_size (block_lens back.now) }
+    requires back { IsPart block_size back }
     requires some { 0 < block_size }
-    ensures { IsTrue result → IsHalfFull block_size (block_lens (front.now ++ back.now)) }
+    ensures { IsTrue result → IsHalfFull block_size (block_lens (front.now ++ part_blocks back.entry)) }
 {
-    if front.is_empty() || back.is_empty() {
+    let many = front.count();
+    let count = back.to - back.from;
+    if many == 0 || count == 0 {
         return true;
     }
-    are_full(front, block_size) && are_full(back, block_size)
+    are_full(many, front.len(), block_size) && are_full(count, back.size, block_size)
 }
 
 /// The clips, with the one that grew as the last.
 pub fn close(joining: Joining) -> Result<Vec<Clip>, NoMemory>
-    requires none_empty { NoneEmpty joining.blocks.items }
-    requires half_full { IsHalfFullSomewhere joining.blocks.items }
-    requires few { blocks_len joining.blocks.items ≤ MAX_CELLS }
     ensures { IfOk result (λ v. v.items ≡ finished joining []) }
 {
     let Joining {
@@ -70,10 +72,9 @@ pub fn close(joining: Joining) -> Result<Vec<Clip>, NoMemory>
         end: _,
         blocks,
     } = joining;
-    if blocks.is_empty() {
+    if blocks.count() == 0 {
         return Ok(clips);
     }
-    let blocks = Sequence::new(blocks);
     clips.push(Clip { start, blocks })?;
     Ok(clips)
 }
@@ -85,10 +86,9 @@ fn begin_part(planner: Planner, clips: Vec<Clip>, part: Part<'_>) -> Result<Join
     ensures joining { IfOk result (IsJoining planner.block_size) }
     ensures clips { IfOk result (λ n. n.clips.items ≡ clips.items) }
     ensures part { IfOk result (λ n. n.start ≡ part.entry.start) }
-    ensures blocks { IfOk result (λ n. n.blocks.items ≡ part.entry.blocks.now) }
+    ensures blocks { IfOk result (λ n. n.blocks ≡ part_blocks part.entry) }
 {
-    let mut blocks = Vec::new(planner.alloc);
-    blocks.extend_from_slice(part.blocks)?;
+    let blocks = Sequence::empty(planner.alloc).append(part.blocks, part.from, part.to)?;
     Ok(Joining {
         clips,
         start: part.start,
@@ -111,16 +111,16 @@ pub fn add_part(
         let clips = close(joining)?;
         return Ok(Some(begin_part(planner, clips, part)?));
     }
-    if !may_touch(joining.blocks.as_slice(), part.blocks, planner.block_size) {
+    if !may_touch(&joining.blocks, part, planner.block_size) {
         return Ok(None);
     }
     let Joining {
         clips,
         start,
         end,
-        mut blocks,
+        blocks,
     } = joining;
-    blocks.extend_from_slice(part.blocks)?;
+    let blocks = blocks.append(part.blocks, part.from, part.to)?;
     Ok(Some(Joining {
         clips,
         start,
@@ -147,7 +147,9 @@ pub fn add_clips(
         let part = Part {
             start: clip.start + by,
             size: clip.blocks.len(),
-            blocks: clip.blocks.as_slice(),
+            blocks: &clip.blocks,
+            from: 0,
+            to: clip.blocks.count(),
         };
         let Some(next) = add_part(planner, all, part)? else {
             return Ok(None);

@@ -72,7 +72,7 @@ fn name_clips(planner: Planner, clips: Vec<LaidClip>) -> Result<Plan, NoMemory>
         let LaidClip { start, laid } = clip;
         let named = name_blocks(planner.alloc, laid, id, &mut makes)?;
         id = named.next;
-        let blocks = Sequence::new(named.blocks);
+        let blocks = Sequence::new(named.blocks)?;
         out.push(Clip { start, blocks })?;
     }
     Ok(Plan {

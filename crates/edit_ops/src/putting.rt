@@ -4,15 +4,15 @@ ghost use Rattle.pcm_base.specs.declared.limits.TheConstants.{MAX_CELLS};
 ghost use Rattle.pcm_base.specs.Blocks.{blocks_len};
 ghost use Rattle.clip_track.specs.Clips.{AllHalfFull, end_of};
 ghost use Rattle.edit_ops.specs.Joins.{IsJoining, finished, moved};
-ghost use Rattle.edit_ops.specs.Windows.{IsAround, IsJoined, IsPlaced, IsWindow, StartsFit};
+ghost use Rattle.edit_ops.specs.Windows.{IsAround, IsJoined, IsPlaced, IsWindow, StartsFit, back_of, front_of, middle_of};
 
 use super::joins::{Joining, Part, add_clips, add_part, close};
 use super::planner::Planner;
 use super::types::Plan;
 use super::windows::Window;
+use block_sequence::Sequence;
 use clip_track::{Clip, Layout};
 use pcm_base::NoMemory;
-use std::alloc::Global;
 
 /// Adds clips, moved from one place to another.
 fn copy_clips(out: &mut Vec<Clip>, clips: &[Clip], from: u64, to: u64) -> Result<(), NoMemory>
@@ -27,31 +27,19 @@ fn copy_clips(out: &mut Vec<Clip>, clips: &[Clip], from: u64, to: u64) -> Result
     Ok(())
 }
 
-/// How many blocks the clip of a window may get up to its first gap.
-fn room_of(window: Window<'_>, small: &[Clip]) -> usize {
-    let front = window.front.len();
-    let back = window.back.len();
-    match small {
-        [] => front.saturating_add(back),
-        [one] => front
-            .saturating_add(one.blocks.as_slice().len())
-            .saturating_add(back),
-        [first, ..] => front.saturating_add(first.blocks.as_slice().len()),
-    }
-}
-
-/// The clips before a window, and its clip up to it, with room for some blocks.
-fn begin(alloc: Global, window: Window<'_>, room: usize) -> Result<Joining, NoMemory>
-    requires { StartsFit window.before.now }
+/// The clips before a window, and its clip up to it.
+fn begin(planner: Planner, t: &Layout, window: Window<'_>) -> Result<Joining, NoMemory>
+    requires window { IsWindow planner.block_size t.now window }
+    requires few { window.from ≤ MAX_CELLS }
+    requires t { AllHalfFull planner.block_size t.now }
+    ensures joining { IfOk result (IsJoining planner.block_size) }
     ensures clips { IfOk result (λ j. j.clips.items ≡ window.entry.before.now) }
     ensures start { IfOk result (λ j. j.start ≡ window.entry.start) }
-    ensures end { IfOk result (λ j. j.end ≡ window.entry.from) }
-    ensures blocks { IfOk result (λ j. j.blocks.items ≡ window.entry.front.now) }
+    ensures blocks { IfOk result (λ j. j.blocks ≡ front_of window.entry) }
 {
-    let mut clips = Vec::new(alloc);
+    let mut clips = Vec::new(planner.alloc);
     copy_clips(&mut clips, window.before, 0, 0)?;
-    let mut blocks = Vec::with_capacity(alloc, room)?;
-    blocks.extend_from_slice(window.front)?;
+    let blocks = Sequence::empty(planner.alloc).append(window.blocks, 0, window.begin)?;
     Ok(Joining {
         clips,
         start: window.start,
@@ -70,22 +58,24 @@ fn join_around(
     small: &Layout,
 ) -> Result<Option<Joining>, NoMemory>
     requires window { IsWindow planner.block_size t.now window }
-    requires old { old ≡ blocks_len window.middle.now }
+    requires old { old ≡ blocks_len (middle_of window) }
     requires within { end_of 0 small.now ≤ new }
-    requires few { window.from + new + blocks_len window.back.now ≤ MAX_CELLS }
+    requires few { window.from + new + blocks_len (back_of window) ≤ MAX_CELLS }
     requires t { AllHalfFull planner.block_size t.now }
     requires small { AllHalfFull planner.block_size small.now }
     ensures { IfOk result (λ o. IfSome o (IsJoined planner.block_size window.entry new small.now)) }
 {
     let clips = small.as_slice();
-    let joining = begin(planner.alloc, window, room_of(window, clips))?;
+    let joining = begin(planner, t, window)?;
     let Some(most) = add_clips(planner, joining, clips, window.from)? else {
         return Ok(None);
     };
     let back = Part {
         start: window.from + new,
         size: window.len - (window.from - window.start) - old,
-        blocks: window.back,
+        blocks: window.blocks,
+        from: window.end,
+        to: window.count,
     };
     Ok(add_part(planner, most, back)?)
 }
@@ -100,7 +90,7 @@ fn track_around(
     small: &Layout,
 ) -> Result<Option<Layout>, NoMemory>
     requires window { IsWindow planner.block_size t.now window }
-    requires old { old ≡ blocks_len window.middle.now }
+    requires old { old ≡ blocks_len (middle_of window) }
     requires within { end_of 0 small.now ≤ new }
     requires few { end_of 0 t.now - old + new ≤ MAX_CELLS }
     requires far { window.from + new ≤ MAX_CELLS }
@@ -127,7 +117,7 @@ pub fn put_back(
     plan: Plan,
 ) -> Result<Option<Plan>, NoMemory>
     requires window { IsWindow planner.block_size t.now window }
-    requires old { old ≡ blocks_len window.middle.now }
+    requires old { old ≡ blocks_len (middle_of window) }
     requires few { end_of 0 t.now - old + new ≤ MAX_CELLS }
     requires far { window.from + new ≤ MAX_CELLS }
     requires t { AllHalfFull planner.block_size t.now }

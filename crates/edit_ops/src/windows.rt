@@ -2,13 +2,14 @@
 ghost use Rattle.std.specs.Prelude.{◌≡◌, ℕ, ◌+◌, ◌≤◌, ◌<◌, ◌++◌, ◌∷◌, length, drop, IfOk, IfSome, IsTrue};
 ghost use Rattle.pcm_base.specs.declared.limits.TheConstants.{MAX_CELLS};
 ghost use Rattle.pcm_base.specs.Blocks.{blocks_len, NoneEmpty};
+ghost use Rattle.block_sequence.specs.Rows.{flat};
 ghost use Rattle.block_sequence.specs.Sequences.{IsHalfFullSomewhere};
 ghost use Rattle.clip_track.specs.Clips.{AllHalfFull, AreClips, IsLayout};
 ghost use Rattle.edit_ops.specs.Joins.{clip_of};
-ghost use Rattle.edit_ops.specs.Windows.{IsNear, IsWindow, next_of};
+ghost use Rattle.edit_ops.specs.Windows.{IsNear, IsWindow, middle_of, next_of};
 
 use super::planner::Planner;
-use block_sequence::Sequence;
+use block_sequence::{Row, Sequence};
 use clip_track::{Clip, Layout};
 use pcm_base::{BlockRef, NoMemory};
 use std::alloc::Global;
@@ -22,12 +23,14 @@ pub struct Window<'a> {
     pub start: u64,
     /// How many samples the clip has.
     pub len: u64,
-    /// The clip's blocks before the window.
-    pub front: &'a [BlockRef],
-    /// The blocks of the window, at least one of each clip.
-    pub middle: &'a [BlockRef],
-    /// The clip's blocks after the window.
-    pub back: &'a [BlockRef],
+    /// The clip's blocks. In a gap they are those of a clip beside it, and the three numbers of blocks are 0.
+    pub blocks: &'a Sequence,
+    /// How many of the clip's blocks stand before the window.
+    pub begin: usize,
+    /// How many there are up to the window's end. A window of a clip has at least one.
+    pub end: usize,
+    /// How many there are in all.
+    pub count: usize,
     /// The clips after the clip.
     pub after: &'a [Clip],
     /// The place in the track where the window begins.
@@ -66,17 +69,48 @@ fn pass_blocks(blocks: &[BlockRef], place: u64) -> Passed
     Passed { count, size }
 }
 
-/// How many of some blocks an edit needs that reaches up to a place: the block of the place, and one more.
-fn count_blocks(blocks: &[BlockRef], place: u64) -> usize
-    ensures { result ≤ length blocks.now }
+/// Whether the blocks of a row end by a place, and the first block of the next row too.
+fn is_passed(row: &Row, next: &Row, place: u64) -> bool
+    ensures { IsTrue result → blocks_len row.now ≤ place }
 {
-    let mut count = 0;
-    let mut left = place;
-    'rows: while count < blocks.len() && blocks[count].len as u64 <= left {
-        left -= blocks[count].len as u64;
-        count += 1;
+    let len = row.len();
+    let first = next.as_slice()[0];
+    len <= place && first.len as u64 <= place - len
+}
+
+/// The blocks of a row, or none where there is no row.
+#[tactic(auto, using(block_sequence::proofs::FlatRows::flat_next, block_sequence::proofs::FlatRows::flat_end))]
+fn blocks_at(rows: &[Row], at: usize) -> &[BlockRef]
+    requires { at ≤ length rows.now }
+    ensures { flat (drop at rows.now) ≡ result.now ++ flat (drop (at + 1) rows.now) }
+{
+    if at < rows.len() {
+        return rows[at].as_slice();
     }
-    blocks.len().min(count.saturating_add(2))
+    &[]
+}
+
+/// The blocks of some rows that end by a place, but for the last of them. It takes a step for each row, and then one
+/// for each block of one row.
+fn pass_rows(rows: &[Row], place: u64) -> Passed
+    requires { length (flat rows.now) ≤ MAX_CELLS }
+    ensures within { result.count ≤ length (flat rows.now) }
+    ensures size { result.size + blocks_len (drop result.count (flat rows.now)) ≡ blocks_len (flat rows.now) }
+    ensures past { result.size ≤ place }
+{
+    let mut at = 0;
+    let mut count = 0;
+    let mut size = 0;
+    'rows: while at + 1 < rows.len() && is_passed(&rows[at], &rows[at + 1], place - size) {
+        size += rows[at].len();
+        count += rows[at].as_slice().len();
+        at += 1;
+    }
+    let passed = pass_blocks(blocks_at(rows, at), place - size);
+    Passed {
+        count: count + passed.count,
+        size: size + passed.size,
+    }
 }
 
 /// The last clip that starts by a place, or the first of all.
@@ -108,23 +142,25 @@ fn window_in<'a>(
     if from < clip.start {
         return None;
     }
-    let blocks = clip.blocks.as_slice();
-    let passed = pass_blocks(blocks, from - clip.start);
-    let begin = clip.start + passed.size;
-    let (front, rest) = blocks.split_at(passed.count);
-    let (middle, back) = rest.split_at(count_blocks(rest, to - begin));
-    if middle.is_empty() {
+    let rows = clip.blocks.rows();
+    let first = pass_rows(rows, from - clip.start);
+    let last = pass_rows(rows, to - clip.start);
+    // After those passed come the last that ends by the place, the one at the place, and one more.
+    let count = clip.blocks.count();
+    let end = count.min(last.count.saturating_add(3));
+    if end <= first.count {
         return None;
     }
     Some(Window {
         before,
         start: clip.start,
         len: clip.blocks.len(),
-        front,
-        middle,
-        back,
+        blocks: &clip.blocks,
+        begin: first.count,
+        end,
+        count,
         after,
-        from: begin,
+        from: clip.start + first.size,
     })
 }
 
@@ -152,8 +188,13 @@ fn start_after(clips: &[Clip], place: u64) -> bool
     }
 }
 
-/// The window in the gap of a place.
-fn window_between<'a>(before: &'a [Clip], after: &'a [Clip], place: u64) -> Option<Window<'a>>
+/// The window in the gap of a place, beside a clip.
+fn window_between<'a>(
+    before: &'a [Clip],
+    beside: &'a Clip,
+    after: &'a [Clip],
+    place: u64,
+) -> Option<Window<'a>>
     requires layout { IsLayout (before.now ++ after.now) }
     ensures window { IfSome result (λ w. (m : ℕ) → IsWindow m (before.now ++ after.now) w) }
     ensures past { IfSome result (λ w. w.from ≡ place) }
@@ -165,9 +206,10 @@ fn window_between<'a>(before: &'a [Clip], after: &'a [Clip], place: u64) -> Opti
         before,
         start: place,
         len: 0,
-        front: &[],
-        middle: &[],
-        back: &[],
+        blocks: &beside.blocks,
+        begin: 0,
+        end: 0,
+        count: 0,
         after,
         from: place,
     })
@@ -190,29 +232,29 @@ fn window_at<'a>(t: &'a Layout, from: u64, to: u64) -> Option<Window<'a>>
         return None;
     };
     if from < clip.start {
-        return window_between(before, rest, from);
+        return window_between(before, clip, rest, from);
     }
     let end = clip.start.saturating_add(clip.blocks.len());
     if from <= end {
         return window_in(before, clip, after, from, to);
     }
     let (before, after) = clips.split_at(at + 1);
-    window_between(before, after, from)
+    window_between(before, clip, after, from)
 }
 
 /// The blocks of a window as a track of their own.
 fn window_layout(alloc: Global, window: Window<'_>) -> Result<Layout, NoMemory>
-    requires none_empty { NoneEmpty window.middle.now }
-    requires half_full { IsHalfFullSomewhere window.middle.now }
-    requires few { blocks_len window.middle.now ≤ MAX_CELLS }
-    ensures { IfOk result (λ l. l ≡ clip_of 0 window.entry.middle.now) }
+    requires rising { window.begin ≤ window.end }
+    requires within { window.end ≤ length window.blocks.now }
+    requires none_empty { NoneEmpty (middle_of window) }
+    requires half_full { IsHalfFullSomewhere (middle_of window) }
+    requires few { blocks_len (middle_of window) ≤ MAX_CELLS }
+    ensures { IfOk result (λ l. l ≡ clip_of 0 (middle_of window.entry)) }
 {
-    if window.middle.is_empty() {
+    if window.begin == window.end {
         return Ok(Layout::new(alloc));
     }
-    let mut blocks = Vec::new(alloc);
-    blocks.extend_from_slice(window.middle)?;
-    let blocks = Sequence::new(blocks);
+    let blocks = Sequence::empty(alloc).append(window.blocks, window.begin, window.end)?;
     let mut clips = Vec::new(alloc);
     clips.push(Clip { start: 0, blocks })?;
     Ok(Layout::from_clips(clips)?)

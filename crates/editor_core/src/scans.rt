@@ -19,8 +19,8 @@ use undo_history::History;
 fn add_clips(clips: &[Clip], blocks: &mut Vec<BlockRef>) -> Result<(), NoMemory>
     ensures { OnOk result (blocks.new.items ≡ blocks.old.items ++ layout_blocks clips.now) }
 {
-    for i in 0..clips.len() {
-        blocks.extend_from_slice(clips[i].blocks.as_slice())?;
+    for clip in clips {
+        clip.blocks.append_to(blocks, 0, clip.blocks.count())?;
     }
     Ok(())
 }

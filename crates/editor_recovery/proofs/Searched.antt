@@ -5,6 +5,7 @@ use Rattle.editor_recovery.proofs.Common.{nat_lt, nat_le, ◌&&◌, if◌then◌
 use Rattle.editor_recovery.proofs.Common.{size_of, Clip, layout_blocks, Track, point_blocks, all_parts, some_is}
 use Rattle.editor_recovery.proofs.Common.{AgreesWith, IsUpTo, is_up_to, earlier, one_more, first_wrong, AreSearched}
 use Rattle.std.proofs.lemmas.Bool.{and_from, or_left, or_right, eq-eqb, lt-ltb, le-leb}
+use Rattle.block_sequence.specs.Rows.{flat}
 use Rattle.layout_uses.specs.{Laws.AreAmong, Laws.IsAmong, Layouts.AreNumbered}
 use Rattle.layout_uses.proofs.Numbers.{among_agrees, agrees_one}
 use Rattle.editor_recovery.specs.Sizes.{IsSearched}
@@ -94,7 +95,14 @@ nothing_new sizes found [] all = refl
 nothing_new sizes found (b ∷ bs) all =
     ap (λ (f : Option BlockRef). first_wrong sizes f bs) all.0 ∙ nothing_new sizes found bs all.1
 
--- ---- blocks of clips and of tracks
+-- ---- blocks of rows, clips and tracks
+
+pub row_part : (Q : BlockRef → Type 0) (rs : List (List BlockRef)) (i : ℕ) (r : List BlockRef)
+    → slice_get rs i ≡ Some r → AllByRecursion Q (flat rs) → AllByRecursion Q r
+row_part Q [] i r here all = absurd cc
+row_part Q (s ∷ ss) zero r here all =
+    let same : s ≡ r = cc in subst (AllByRecursion Q) same (all_parts Q s (flat ss) all).0
+row_part Q (s ∷ ss) (suc i) r here all = row_part Q ss i r here (all_parts Q s (flat ss) all).1
 
 pub clip_part : (Q : BlockRef → Type 0) (cs : List Clip) (i : ℕ) (c : Clip) → slice_get cs i ≡ Some c
     → AllByRecursion Q (layout_blocks cs) → AllByRecursion Q c.blocks

@@ -3,6 +3,7 @@ ghost use Rattle.std.specs.Prelude.{◌≡◌, ◌≤◌, ◌==◌, ℕ, None, I
 ghost use Rattle.std.specs.List.{All, AllByRecursion};
 ghost use Rattle.pcm_base.specs.declared.limits.TheConstants.{MAX_BLOCK_SAMPLES};
 ghost use Rattle.sample_block.specs.Spelling.{IsBlock};
+ghost use Rattle.block_sequence.specs.Rows.{flat};
 ghost use Rattle.clip_track.specs.Clips.{layout_blocks};
 ghost use Rattle.project_state.specs.Meaning.{point_blocks, history_blocks};
 ghost use Rattle.project_state.specs.declared.track.Track.{Track};
@@ -11,6 +12,7 @@ ghost use Rattle.layout_uses.specs.Layouts.{AgreesWith, AreNumbered, history_tra
 ghost use Rattle.editor_recovery.specs.Measured.{size_in};
 ghost use Rattle.editor_recovery.specs.Sizes.{AreSearched, earlier, first_wrong, one_more};
 
+use block_sequence::Row;
 use clip_track::Clip;
 use pcm_base::{BlockRef, NoMemory};
 use project_state::{Point, Track};
@@ -85,6 +87,18 @@ fn wrong_among(sizes: &Sizes, found: Option<BlockRef>, blocks: &[BlockRef]) -> O
     found
 }
 
+// The search goes on through rows.
+fn wrong_rows(sizes: &Sizes, found: Option<BlockRef>, rows: &[Row]) -> Option<BlockRef>
+    requires { All (λ b. IsBlock b.id b.len) (flat rows.now) }
+    ensures { result ≡ first_wrong (size_in sizes.now) found (flat rows.now) }
+{
+    let mut found = found;
+    for row in rows {
+        found = wrong_among(sizes, found, row.as_slice());
+    }
+    found
+}
+
 // The search goes on through clips.
 fn wrong_clips(sizes: &Sizes, found: Option<BlockRef>, clips: &[Clip]) -> Option<BlockRef>
     requires { All (λ b. IsBlock b.id b.len) (layout_blocks clips.now) }
@@ -92,7 +106,7 @@ fn wrong_clips(sizes: &Sizes, found: Option<BlockRef>, clips: &[Clip]) -> Option
 {
     let mut found = found;
     for clip in clips {
-        found = wrong_among(sizes, found, clip.blocks.as_slice());
+        found = wrong_rows(sizes, found, clip.blocks.rows());
     }
     found
 }

@@ -4,6 +4,7 @@ use Rattle.layout_uses.proofs.Common.{◌++◌, take, drop, append_assoc, take-a
 use Rattle.layout_uses.proofs.Common.{append-nil, flat_map-append, BlockRef, Counts, IsNamed, occurrences, Clip}
 use Rattle.layout_uses.proofs.Common.{layout_blocks, take_some, HasAll, Dropped, HasIds, Held}
 use Rattle.std.proofs.Common.{flat_map}
+use Rattle.block_sequence.specs.Rows.{flat}
 use Rattle.layout_uses.proofs.Times.{dropped_append, has_rest, has_left, held_append, there_rest, there_left, Few}
 use Rattle.layout_uses.proofs.Times.{few_rest, few_left, named_of, named_same}
 
@@ -43,6 +44,11 @@ module _ {X : Type 0} (f : X → List BlockRef) (xs : List X) (i : ℕ) (x : X) 
 pub single : (bs : List BlockRef) → flat_map (λ (b : BlockRef). b ∷ []) bs ≡ bs
 single [] = refl
 single (b ∷ bs) = ap (λ (z : List BlockRef). b ∷ z) (single bs)
+
+-- the rows of a clip
+pub rows_flat : (rs : List (List BlockRef)) → flat rs ≡ flat_map (λ (r : List BlockRef). r) rs
+rows_flat [] = refl
+rows_flat (r ∷ rs) = ap (λ (z : List BlockRef). r ++ z) (rows_flat rs)
 
 -- the clips of a layout
 pub layout_flat : (cs : List Clip) → layout_blocks cs ≡ flat_map (λ (c : Clip). c.blocks) cs

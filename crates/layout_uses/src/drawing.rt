@@ -6,21 +6,22 @@ ghost use Rattle.project_state.specs.Tracks.{AllBelow};
 ghost use Rattle.project_state.specs.Numbers.{AreNewOrCurrent, unnumbered};
 ghost use Rattle.layout_uses.specs.Drawing.{Draws, DrawsPoint};
 
+use block_sequence::Sequence;
 use clip_track::Clip;
-use pcm_base::{BlockRef, NoMemory};
+use pcm_base::NoMemory;
 use project_state::{Point, Track};
 use std::alloc::Global;
 
-fn same_blocks(a: &[BlockRef], b: &[BlockRef]) -> bool
+#[tactic(auto, using(block_sequence::proofs::Fronts::common_all))]
+fn same_blocks(a: &Sequence, b: &Sequence) -> bool
     ensures { IsTrue result → a.now ≡ b.now }
 {
-    if a.len() != b.len() {
+    let count = a.count();
+    if b.count() != count {
         return false;
     }
-    for i in 0..a.len() {
-        if a[i] != b[i] {
-            return false;
-        }
+    if a.common(b) != count {
+        return false;
     }
     true
 }
@@ -32,9 +33,7 @@ fn same_clips(a: &[Clip], b: &[Clip]) -> bool
         return false;
     }
     for i in 0..a.len() {
-        if a[i].start != b[i].start
-            || !same_blocks(a[i].blocks.as_slice(), b[i].blocks.as_slice())
-        {
+        if a[i].start != b[i].start || !same_blocks(&a[i].blocks, &b[i].blocks) {
             return false;
         }
     }

@@ -18,7 +18,7 @@ use Rattle.sample_block.proofs.Laws.{get_samples}
 use Rattle.disk_model.specs.{Disk.bytes_of, declared.parts.Part.Part, Parts.AreParts, Parts.filled}
 use Rattle.disk_model.specs.Parts.{part_samples, samples_from}
 use Rattle.disk_model.proofs.Buffers.{filled_at, length_part}
-use Rattle.cell_reader.specs.{declared.rest.TrackRest.TrackRest}
+use Rattle.cell_reader.specs.{declared.rest.TrackRest.TrackRest, Kept.HasBlocks, Kept.left_blocks}
 use Rattle.mixdown.specs.Stretches.{heard_sample}
 use Rattle.mix_reader.specs.{declared.plans.Run.Run, Plans.ArePlans, Plans.ArePut, Plans.IsAlone, Plans.IsPlan}
 use lib.ListN.{set}
@@ -54,7 +54,7 @@ first_cell n i j m f ys more is lt =
 
 -- the first block of what is left of a track
 pub first_alone : (from len : ℕ) (cs : List Clip) (r : TrackRest) (b : BlockRef) (bs : List BlockRef) (skip : ℕ)
-    → IsRestOf from cs r → r.blocks.now ≡ b ∷ bs → r.start ≤ from → skip ≡ from - r.start → skip + len ≤ b.len
+    → IsRestOf from cs r → left_blocks r ≡ b ∷ bs → r.start ≤ from → skip ≡ from - r.start → skip + len ≤ b.len
     → IsAlone from len cs b skip
 first_alone from len cs r b bs skip is first low at fits = record {
   named = (subst (λ (xs : List BlockRef). AllNamed xs) first is.rest.named).0;
@@ -71,7 +71,8 @@ first_alone from len cs r b bs skip is first low at fits = record {
       (cells_from src r.end r.clips.now) (omega (arith, at, low, is.rest.later)) (omega (arith, fits, lt));
   pages = λ c has i above below.
       let kept = is.kept c from (from + len) has in
-      let blocks = rw first at kept.0 in
+      let blocks = subst (λ (xs : List BlockRef). HasBlocks c (record { from = from; to = from + len }) r.start xs)
+      first kept.0 in
       blocks.0 i (omega (arith, above, at)) (omega (arith, below, at, low, fits));
 }
 

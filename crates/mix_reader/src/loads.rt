@@ -301,8 +301,8 @@ fn fill<S: Store>(
 }
 
 /// Loads the samples of the tracks that are heard, with their gains and sides, from a place on: as many frames as there
-/// are, up to `n`. A gap is a sample of 0. It answers how many. All memory is asked for before the disk is. After an error what is loaded may
-/// have been replaced in part.
+/// are, up to `n`. A gap is a sample of 0. It answers how many. All memory is asked for before the disk is. After an
+/// error what is loaded may have been replaced in part.
 pub fn load_stretch<S: Store>(
     reader: &mut BlockReader<S>,
     point: &Point,

@@ -3,9 +3,10 @@ use Rattle.std.proofs.Common.{◌≡◌, ◌≤◌, ◌<◌, ◌^◌, ◌+◌, �
 use Rattle.std.proofs.Common.{◌∙◌, arith, Fits}
 use Rattle.std.proofs.lemmas.Simd.{Each2-of, Each1-zip2, sum-zip2, fold-sum, sum_bound, sum_fits}
 use Rattle.std.proofs.lemmas.List.Sums.{sum_by-append, sum_by-cons, sum_by-take-le}
+use Rattle.std.proofs.lemmas.List.Elements.{All-take, All-drop}
 use Rattle.std.proofs.Math.Seq.{take-add}
 use Rattle.std.specs.Simd.Lanes.{zip2, Each2, Steps, fold_l, sum_l}
-use Rattle.std.specs.{Prelude.ℤ, Prelude.sum_by, Int.w32}
+use Rattle.std.specs.{Prelude.ℤ, Prelude.sum_by, Prelude.FitsSigned, Int.w16, Int.w32}
 use Rattle.peak_summary.specs.{Peaks.square, Peaks.AreSamples, Lanes.AreAtMost, Lanes.HasGrown}
 use Rattle.peak_summary.proofs.Joins.{squares_le}
 
@@ -40,6 +41,11 @@ sum_take xs a n all is =
     sym (sum_by-append square (take a xs) (take n (drop a xs)))
     ∙ ap (sum_by square) (sym (take-add a n xs))
     ∙ ap (λ (m : ℕ). sum_by square (take m xs)) (sym is)
+
+-- a part of samples
+pub part_fits : (a n : ℕ) (xs : List ℤ) → AreSamples xs → AreSamples (take n (drop a xs))
+part_fits a n xs fit =
+    All-take (λ s. FitsSigned w16 s) n (drop a xs) (All-drop (λ s. FitsSigned w16 s) a xs fit)
 
 -- the squares of the first samples have a sum that fits
 pub sum_fits_take : (xs : List ℤ) (n : ℕ) → AreSamples xs → length xs ≤ 2 ^ 32 → sum_by square (take n xs) ≤ 2 ^ 62

@@ -64,8 +64,7 @@ fn both_halves(low: u32x4, high: u32x4) -> u64
 }
 
 /// Adds the squares of eight samples to the sums, of which there are two for each lane: of low halves, and of high
-/// ones.
-/// The sum of more than two squares does not fit 32 bits.
+/// ones. The sum of more than two squares does not fit 32 bits.
 fn add_eight(low: u32x4, high: u32x4, samples: &[i16]) -> (u32x4, u32x4)
     requires eight { length samples.now ≡ 8 }
     requires fit { AreSamples samples.now }
@@ -97,18 +96,28 @@ fn add_more(low: u32x4, high: u32x4, samples: &[i16]) -> (u32x4, u32x4)
     add_eight(low, high, &samples[24..])
 }
 
+/// The sum of the squares of whole parts of 32 samples, of which there are at most eight.
+fn parts_squares(samples: &[i16], parts: usize) -> u64
+    requires few { parts ≤ 8 }
+    requires within { 32 * parts ≤ length samples.now }
+    requires fit { AreSamples samples.now }
+    ensures { result ≡ sum_by square_of (take (32 * parts) samples.now) }
+{
+    let mut low = u32x4::splat(0);
+    let mut high = u32x4::splat(0);
+    for i in 0..parts {
+        (low, high) = add_more(low, high, &samples[32 * i..32 * i + 32]);
+    }
+    both_halves(low, high)
+}
+
 /// The sum of the squares of 256 samples.
 fn chunk_squares(samples: &[i16]) -> u64
     requires count { length samples.now ≡ 256 }
     requires fit { AreSamples samples.now }
     ensures { result ≡ sum_by square_of samples.now }
 {
-    let mut low = u32x4::splat(0);
-    let mut high = u32x4::splat(0);
-    for i in 0..8 {
-        (low, high) = add_more(low, high, &samples[32 * i..32 * i + 32]);
-    }
-    both_halves(low, high)
+    parts_squares(samples, 8)
 }
 
 /// The square of a sample.
@@ -121,7 +130,7 @@ fn square(sample: i16) -> u32
 }
 
 /// The sum of the squares of a few samples, one by one.
-fn few_squares(samples: &[i16]) -> u64
+fn last_squares(samples: &[i16]) -> u64
     requires { length samples.now ≤ 256 }
     ensures { result ≡ sum_by square_of samples.now }
 {
@@ -130,6 +139,16 @@ fn few_squares(samples: &[i16]) -> u64
         sum += u64::from(square(*s));
     }
     sum
+}
+
+/// The sum of the squares of samples that are no whole chunk: of parts of 32, and of what is left after them.
+fn few_squares(samples: &[i16]) -> u64
+    requires few { length samples.now ≤ 256 }
+    requires fit { AreSamples samples.now }
+    ensures { result ≡ sum_by square_of samples.now }
+{
+    let parts = samples.len() / 32;
+    parts_squares(samples, parts) + last_squares(&samples[32 * parts..])
 }
 
 /// The sum of the squares of whole chunks of 256 samples.

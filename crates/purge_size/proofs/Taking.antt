@@ -58,6 +58,9 @@ module _ {X : Type 0} (f : X → List BlockRef) (xs : List X) (i : ℕ) (x : X) 
       small_back (y ∷ ys) zs small = small_back ys zs small.1
 
   module _ (a b c : Fitting) (was : Takes true behind a b) where
+    pub took_here : Takes true (f x) b c → Takes true (flat_map f (drop i xs)) a c
+    took_here one = subst (λ z. Takes true z a c) (sym from_here) (took_more true behind (f x) a b c was one)
+
     pub took_no_more : Takes false (f x) b c → Takes false (flat_map f xs) a c
     took_no_more one = subst (λ z. Takes false z a c) (sym all_from)
         (took_not (flat_map f (take i xs)) (f x ++ behind) a c (took_more false behind (f x) a b c was one))

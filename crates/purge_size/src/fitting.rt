@@ -1,10 +1,12 @@
 // Blocks whose files are taken into a size, newest first, as long as it stays within a bound.
 ghost use Rattle.std.specs.Prelude.{◌≡◌, ◌≤◌, ◌∷◌, [], ℕ, false, IfOk};
+ghost use Rattle.block_sequence.specs.Rows.{flat};
 ghost use Rattle.clip_track.specs.Clips.{layout_blocks};
 ghost use Rattle.layout_uses.specs.Layouts.{track_blocks};
 ghost use Rattle.purge_size.specs.Fits.{AreSmall, HasTracks, Takes, TakesTracks};
 
 use super::numbers::NumberSet;
+use block_sequence::Row;
 use clip_track::Clip;
 use pcm_base::{BlockRef, NoMemory};
 use project_state::{Point, Track};
@@ -61,12 +63,24 @@ impl Fitting {
         Ok(true)
     }
 
+    fn take_rows(&mut self, rows: &[Row]) -> Result<bool, NoMemory>
+        requires { AreSmall (flat rows.now) }
+        ensures { IfOk result (λ fits. Takes fits (flat rows.now) self.old self.new) }
+    {
+        for i in (0..rows.len()).rev() {
+            if !self.take_blocks(rows[i].as_slice())? {
+                return Ok(false);
+            }
+        }
+        Ok(true)
+    }
+
     fn take_clips(&mut self, clips: &[Clip]) -> Result<bool, NoMemory>
         requires { AreSmall (layout_blocks clips.now) }
         ensures { IfOk result (λ fits. Takes fits (layout_blocks clips.now) self.old self.new) }
     {
         for i in (0..clips.len()).rev() {
-            if !self.take_blocks(clips[i].blocks.as_slice())? {
+            if !self.take_rows(clips[i].blocks.rows())? {
                 return Ok(false);
             }
         }

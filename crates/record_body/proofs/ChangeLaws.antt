@@ -7,7 +7,7 @@ use Rattle.record_body.proofs.Common.{same_clips, last_blocks, last_start, same_
 use Rattle.record_body.proofs.Common.{with_last, tailed, changed}
 use Rattle.std.proofs.{Common.take-append-drop}
 use Rattle.record_body.specs.Changes.{same_blocks, front_clips}
-use Rattle.record_body.proofs.Commons.{common_within}
+use Rattle.block_sequence.proofs.Fronts.{block_same, common_take, common_within}
 use Rattle.pcm_base.specs.declared.sound.Side.TheVariants as side
 
 -- ---- tests that hold
@@ -19,15 +19,6 @@ pub record Both (a b : Bool) : Type 0 where
 pub both : (a b : Bool) → a && b ≡ true → Both a b
 both true b e = record { first = refl; second = e }
 both false b e = absurd cc
-
-pub block_same : (a b : BlockRef) → is_block a b ≡ true → a ≡ b
-block_same a b e = search (arith, both, eqb-true)
-
--- as far as they have blocks in common they are the same
-pub common_take : (xs ys : List BlockRef) → take (common xs ys) xs ≡ take (common xs ys) ys
-common_take [] ys = refl
-common_take (x ∷ xs) [] = refl
-common_take (x ∷ xs) (y ∷ ys) = search (arith, common_take xs ys, block_same)
 
 blocks_same : (xs ys : List BlockRef) → same_blocks xs ys ≡ true → xs ≡ ys
 blocks_same xs ys e =

@@ -13,6 +13,7 @@ pub use Rattle.project_state.specs.Numbers.{AgreesIfAny, AreNewOrCurrent, AreUnn
 pub use Rattle.project_state.specs.Tracks.{AllBelow, AreAbove, track_of}
 pub use Rattle.project_state.specs.{Meaning.point_blocks}
 pub use Rattle.project_state.specs.{declared.track.Track.Track, Meaning.history_blocks, Meaning.meant}
+pub use Rattle.block_sequence.specs.Fronts.{common, is_block}
 pub use Rattle.record_body.specs.{ChangePlaces.all_diff_at, ChangePlaces.all_diff_widths, ChangePlaces.asked_delta}
 pub use Rattle.record_body.specs.{ChangePlaces.change_at, ChangePlaces.delta_widths, ChangePlaces.diff_at}
 pub use Rattle.record_body.specs.{ChangePlaces.diff_size, ChangePlaces.diff_widths, ChangePlaces.fresh_at}
@@ -25,8 +26,8 @@ pub use Rattle.record_body.specs.{ChangeTests.kept_blocks, ChangeTests.mark_test
 pub use Rattle.record_body.specs.{ChangeTests.marked_tests, ChangeTests.tail_head_tests, ChangeTests.tail_tests}
 pub use Rattle.record_body.specs.{ChangeTests.whole_tests, FirstFault.Finds, FirstFault.block_tests}
 pub use Rattle.record_body.specs.{Changes.Change, Changes.Same, Changes.Tail, Changes.Whole, Changes.change_bytes}
-pub use Rattle.record_body.specs.{Changes.change_of, Changes.changed, Changes.common, Changes.delta_spelling}
-pub use Rattle.record_body.specs.{Changes.diff_bytes, Changes.heard_bytes, Changes.is_block, Changes.last_blocks}
+pub use Rattle.record_body.specs.{Changes.change_of, Changes.changed, Changes.delta_spelling}
+pub use Rattle.record_body.specs.{Changes.diff_bytes, Changes.heard_bytes, Changes.last_blocks}
 pub use Rattle.record_body.specs.{Changes.last_start, Changes.same_but_last, Changes.same_clip, Changes.same_clips}
 pub use Rattle.record_body.specs.{Changes.same_settings, Changes.tailed, Changes.with_last}
 pub use Rattle.record_body.specs.{DeltaBodies.SaysBody, Laws.EndsShort, Laws.HasShortEnds, Lengths.AreHalfFull}

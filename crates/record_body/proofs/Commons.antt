@@ -4,31 +4,6 @@ use Rattle.record_body.proofs.Common.{[], ◌∷◌, length, drop, refl, ◌∙�
 use Rattle.record_body.proofs.Common.{drop_all, BlockRef, Clip, common, same_clip, same_clips, last_blocks}
 use Rattle.record_body.proofs.Common.{last_start}
 
-common_nil : (xs : List BlockRef) → common xs [] ≡ 0
-common_nil [] = refl
-common_nil (x ∷ xs) = refl
-
-pub common_ends : (xs ys : List BlockRef) (i : ℕ) → min (length xs) (length ys) ≤ i
-    → common (drop i xs) (drop i ys) ≡ 0
-common_ends xs ys i past = by_case (drop i xs) (drop i ys) (ends xs ys i past)
-  where
-    ends : (xs ys : List BlockRef) (i : ℕ) → min (length xs) (length ys) ≤ i
-        → ((drop i xs ≡ []) ⊎ (drop i ys ≡ []))
-    ends xs ys i past = elim (cases_lt (length ys) (length xs)) [
-      | inl less ↦ inr (drop_all i ys (omega (arith, past, less)))
-      | inr most ↦ inl (drop_all i xs (omega (arith, past, most)))
-    ]
-
-    by_case : (a b : List BlockRef) → ((a ≡ []) ⊎ (b ≡ [])) → common a b ≡ 0
-    by_case a b (inl none) = ap (λ l. common l b) none
-    by_case a b (inr none) = ap (common a) none ∙ common_nil a
-
--- what is common is within both
-pub common_within : (xs ys : List BlockRef) → (common xs ys ≤ length xs) × (common xs ys ≤ length ys)
-common_within [] ys = (omega arith, omega arith)
-common_within (x ∷ xs) [] = (omega arith, omega arith)
-common_within (x ∷ xs) (y ∷ ys) = search (arith, common_within xs ys)
-
 pub clips_unlike : (xs ys : List Clip) → (length xs ≡ length ys → ⊥) → same_clips xs ys ≡ false
 clips_unlike [] [] differ = absurd (differ refl)
 clips_unlike [] (y ∷ ys) differ = refl

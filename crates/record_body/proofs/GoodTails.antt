@@ -5,9 +5,9 @@ use Rattle.record_body.proofs.Common.{length-drop, if◌then◌else◌, cases_Bo
 use Rattle.record_body.proofs.Common.{Clip, clip_end, is_block, common, last_blocks, last_start, same_but_last, is_lone}
 use Rattle.record_body.proofs.Common.{kept_blocks, Limits, least_len, Track}
 use Rattle.std.proofs.lemmas.Bool.{le-ltb}
-use Rattle.record_body.proofs.ChangeLaws.{last_starts, common_take, block_same}
+use Rattle.record_body.proofs.ChangeLaws.{last_starts}
 use Rattle.record_body.proofs.{ClipsBack.AreGoodBlocks, ClipsBack.AreGoodClips, TracksBack.IsGoodTrack}
-use Rattle.record_body.proofs.Commons.{common_within}
+use Rattle.block_sequence.proofs.Fronts.{block_same, common_take, common_within}
 
 -- blocks that go from the end of the last clip, and that come
 pub record IsGoodTail (l : Limits) (o : Track) (gone : ℕ) (bs : List BlockRef) : Type 0 where

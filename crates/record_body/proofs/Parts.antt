@@ -1,5 +1,5 @@
 -- Parts that are written one after another.
-use Rattle.record_body.proofs.Common.{◌≡◌, ℕ, ◌+◌, ◌*◌, ◌≤◌, ◌<◌, List, [], ◌∷◌, ◌++◌, length, take, drop, get_or, refl}
+use Rattle.record_body.proofs.Common.{◌≡◌, ℕ, zero, suc, ◌+◌, ◌-◌, ◌*◌, ◌≤◌, ◌<◌, min, List, [], ◌∷◌, ◌++◌, length, take, drop, get_or, refl}
 use Rattle.record_body.proofs.Common.{sym, ap, ◌∙◌, arith, length-append, append-nil, take_more, drop_more, flat_map}
 use Rattle.record_body.proofs.Common.{BlockRef, NoneEmpty, blocks_len, Clip, AreClips, clip_end, end_of, block_bytes}
 use Rattle.record_body.proofs.Common.{clip_bytes}
@@ -51,6 +51,35 @@ pub clips_few : (at from : ℕ) (cs : List Clip) → at ≤ from → AreClips fr
 clips_few at from [] h a = omega arith
 clips_few at from (c ∷ cs) h a =
     search (arith, clips_few (clip_end c) (clip_end c + 1) cs, blocks_few, length-append, length_clip)
+
+-- parts of two lists, one after the other
+pub take_over : {X : Type 0} (n k : ℕ) (xs ys : List X) → k ≡ min n (length xs)
+    → take n (xs ++ ys) ≡ take k xs ++ take (n - k) ys
+take_over zero k xs ys e =
+    let z : k ≡ 0 = omega (arith, e) in
+    rw z refl
+take_over (suc n) k [] ys e =
+    let z : k ≡ 0 = omega (arith, e) in
+    let same : suc n ≡ suc n - 0 = omega arith in
+    rw z (ap (λ m. take m ys) same)
+take_over (suc n) zero (x ∷ xs) ys e = absurd (omega (arith, e))
+take_over (suc n) (suc k) (x ∷ xs) ys e =
+    let less : n - k ≡ suc n - suc k = omega arith in
+    ap (λ zs. x ∷ zs) (take_over n k xs ys (omega (arith, e)) ∙ ap (λ m. take k xs ++ take m ys) less)
+
+pub drop_over : {X : Type 0} (n k : ℕ) (xs ys : List X) → k ≡ min n (length xs)
+    → drop n (xs ++ ys) ≡ drop k xs ++ drop (n - k) ys
+drop_over zero k xs ys e =
+    let z : k ≡ 0 = omega (arith, e) in
+    rw z refl
+drop_over (suc n) k [] ys e =
+    let z : k ≡ 0 = omega (arith, e) in
+    let same : suc n ≡ suc n - 0 = omega arith in
+    rw z (ap (λ m. drop m ys) same)
+drop_over (suc n) zero (x ∷ xs) ys e = absurd (omega (arith, e))
+drop_over (suc n) (suc k) (x ∷ xs) ys e =
+    let less : n - k ≡ suc n - suc k = omega arith in
+    drop_over n k xs ys (omega (arith, e)) ∙ ap (λ m. drop k xs ++ drop m ys) less
 
 -- the item at a place
 pub take_here : {X : Type 0} (xs : List X) (i : ℕ) (x : X) → i < length xs → x ≡ get_or xs i x

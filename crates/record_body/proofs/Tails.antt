@@ -7,6 +7,8 @@ use Rattle.record_body.proofs.Common.{gone_at, fresh_at, blocks_tests, blocks_at
 use Rattle.record_body.proofs.Common.{last_blocks, last_start, with_last, Pass, BlockRef, NoneEmpty, AllFull}
 use Rattle.record_body.proofs.Common.{IsHalfFull, block_lens, blocks_len, Clip, AreClips, AllHalfFull, IsLayout}
 use Rattle.record_body.proofs.Common.{clip_end, end_of}
+use Rattle.record_body.proofs.Common.{least_len, drop_all, append-nil, ◌∙◌}
+use Rattle.block_sequence.specs.Rows.{spliced}
 use Rattle.std.proofs.lemmas.Bool.{ltb-false}
 use Rattle.std.proofs.lemmas.List.{length-take-le}
 use Rattle.record_body.proofs.SavedBounds.{all_append}
@@ -144,6 +146,30 @@ valid_tail l start olds at bytes half none near pass =
       | inl same ↦ let one : 1 ≤ n = rw same at comes in omega (arith, one)
       | inr differ ↦ let ne = eqb-false gone len differ in omega (arith, within, ne)
     ]
+
+pub tail_within : (l : Limits) (start : ℕ) (olds : List BlockRef) (at : ℕ) (bytes : List ℕ)
+    → Pass (tail_tests l start olds at bytes) → gone_at at bytes ≤ length olds
+tail_within l start olds at bytes pass =
+    let k = length olds - gone_at at bytes in
+    let n = fresh_at at bytes in
+    let several = nat_lt 1 (k + n) in
+    let before = start + blocks_len (kept_blocks olds (gone_at at bytes)) in
+    let parts = pass_parts (tail_head_tests l olds at bytes) (blocks_tests l several n before (at + 17) bytes) pass in
+    omega (arith, parts.0.0)
+
+-- one block alone has the samples of all
+pub lone_by_len : (m : ℕ) (bs : List BlockRef) → is_lone m bs ≡ (length bs == 1) && nat_lt (blocks_len bs) (least_len m true)
+lone_by_len m [] = search arith
+lone_by_len m (b ∷ []) = search arith
+lone_by_len m (b ∷ c ∷ bs) = search arith
+
+-- others come after those that are kept
+pub splice_tail : (olds fresh bs : List BlockRef) (k n gone : ℕ) → n ≡ length olds → k ≡ n - gone → fresh ≡ bs
+    → spliced k n fresh olds ≡ kept_blocks olds gone ++ bs
+splice_tail olds fresh bs k n gone all kept same =
+    let from : k ≡ length olds - gone = omega (arith, all, kept) in
+    ap (λ xs. take k olds ++ (fresh ++ xs)) (drop_all n olds (omega (arith, all)))
+    ∙ ap (λ xs. take k olds ++ xs) (append-nil fresh ∙ same) ∙ ap (λ m. take m olds ++ bs) from
 
 -- ---- the clips
 

@@ -5,6 +5,7 @@ use Rattle.std.specs.Prelude.{length, take, drop, Option, Some, None}
 use Rattle.std.specs.{Option.option_map, List.flat_map}
 use Rattle.byteorder.specs.Endian.{little_bytes}
 use Rattle.pcm_base.specs.declared.block.BlockRef.{BlockRef}
+use Rattle.block_sequence.specs.Fronts.{common}
 use Rattle.clip_track.specs.declared.clips.Clip.{Clip}
 use Rattle.project_state.specs.{declared.track.Track.Track, Numbers.unnumbered, Tracks.track_of}
 use Rattle.record_body.specs.declared.body.Body.TheVariants.{Edit, Undo, Redo, Purge}
@@ -18,15 +19,6 @@ pub data Change : Type 0 where
   Tail : ℕ → List BlockRef → Change
 
 -- ---- which one the writer takes
-
-abbrev pub is_block : BlockRef → BlockRef → Bool
-is_block a b = (a.id == b.id) && (a.len == b.len)
-
--- how many blocks stand at the front of both
-abbrev pub common : List BlockRef → List BlockRef → ℕ
-common [] ys = 0
-common (a ∷ xs) [] = 0
-common (a ∷ xs) (b ∷ ys) = if is_block a b then suc (common xs ys) else 0
 
 abbrev pub same_blocks : List BlockRef → List BlockRef → Bool
 same_blocks xs ys = (length xs == length ys) && (common xs ys == length xs)

@@ -4,7 +4,8 @@ use Rattle.std.specs.List.{AllByRecursion}
 use Rattle.pcm_base.specs.{declared.block.BlockRef.BlockRef, declared.limits.TheConstants.COUNTER_LIMIT}
 use Rattle.project_state.specs.{declared.track.Track.Track, Numbers.unnumbered, Tracks.track_of, Meaning.history_blocks}
 use Rattle.project_journal.specs.{Header.first_failed, Header.Form, Header.IsForm, Journal.Log, Packing.HasEither}
-use Rattle.record_body.specs.Changes.{Same, change_of, changed, common, delta_spelling, last_blocks, tailed}
+use Rattle.block_sequence.specs.Fronts.{common}
+use Rattle.record_body.specs.Changes.{Same, change_of, changed, delta_spelling, last_blocks, tailed}
 use Rattle.record_body.specs.Saved.{Saved, Opened, Keeps, Begins, LeadIn, IsPacked, MayFollow, IsNextDiff, opened}
 use Rattle.record_body.specs.Saved.{before_of, current_tracks, version_of}
 use Rattle.record_body.specs.{declared.body.Body.Body, declared.body.Body.TheVariants.Edit}

@@ -1,12 +1,14 @@
 // How a track differs from that of the current point.
 ghost use Rattle.std.specs.Prelude.{◌≡◌, ◌≤◌, ◌<◌, ◌^◌, length, IsTrue, Some};
+ghost use Rattle.block_sequence.specs.Fronts.{common};
 ghost use Rattle.record_body.specs.Changes as change;
 ghost use Rattle.record_body.specs.Choices.{change_by, LiesWithin};
 ghost use Rattle.project_state.specs.Numbers.{NumbersAgree, are_numbered_alike};
 ghost use Rattle.record_body.specs.Spelling.{side_byte};
 
+use block_sequence::Sequence;
 use clip_track::Clip;
-use pcm_base::{BlockRef, Side};
+use pcm_base::Side;
 use project_state::Track;
 
 /// How a track is written by the one of the current point.
@@ -20,37 +22,25 @@ pub(crate) enum Choice {
     Tail { gone: usize, kept: usize },
 }
 
-fn is_block(a: &BlockRef, b: &BlockRef) -> bool
-    ensures { result ≡ change.is_block a.now b.now }
-{
-    a.id == b.id && a.len == b.len
-}
-
 /// How many blocks stand at the front of both.
-fn common_len(old: &[BlockRef], new: &[BlockRef]) -> usize
-    ensures value { result ≡ change.common old.now new.now }
+fn common_len(old: &Sequence, new: &Sequence) -> usize
+    ensures value { result ≡ common old.now new.now }
     ensures old { result ≤ length old.now }
     ensures new { result ≤ length new.now }
 {
-    let most = old.len().min(new.len());
-    for i in 0..most {
-        if !is_block(&old[i], &new[i]) {
-            return i;
-        }
-    }
-    most
+    old.common(new)
 }
 
-fn same_blocks(old: &[BlockRef], new: &[BlockRef]) -> bool
+fn same_blocks(old: &Sequence, new: &Sequence) -> bool
     ensures { result ≡ change.same_blocks old.now new.now }
 {
-    old.len() == new.len() && common_len(old, new) == old.len()
+    old.count() == new.count() && common_len(old, new) == old.count()
 }
 
 fn same_clip(old: &Clip, new: &Clip) -> bool
     ensures { result ≡ change.same_clip old.now new.now }
 {
-    old.start == new.start && same_blocks(old.blocks.as_slice(), new.blocks.as_slice())
+    old.start == new.start && same_blocks(&old.blocks, &new.blocks)
 }
 
 fn same_clips(old: &[Clip], new: &[Clip]) -> bool
@@ -92,12 +82,11 @@ pub(crate) fn last_start(clips: &[Clip]) -> u64
     clips[clips.len() - 1].start
 }
 
-pub(crate) fn last_blocks(clips: &[Clip]) -> &[BlockRef]
+pub(crate) fn last_blocks(clips: &[Clip]) -> &Sequence
     requires { 0 < length clips.now }
-    ensures value { result.now ≡ change.last_blocks clips.now }
-    ensures few { length result.now ≤ 2 ^ 32 }
+    ensures { result.now ≡ change.last_blocks clips.now }
 {
-    clips[clips.len() - 1].blocks.as_slice()
+    &clips[clips.len() - 1].blocks
 }
 
 /// Whether all but the blocks of the last clip is the same, and there is one.
@@ -150,7 +139,7 @@ pub(crate) fn choose(old: &Track, new: &Track) -> Choice
     let blocks = last_blocks(olds);
     let kept = common_len(blocks, last_blocks(news));
     Choice::Tail {
-        gone: blocks.len() - kept,
+        gone: blocks.count() - kept,
         kept,
     }
 }

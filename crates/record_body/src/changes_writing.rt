@@ -16,10 +16,11 @@ use super::body::Body;
 use super::changes::{Choice, choose, last_blocks, side_number};
 use super::kinds::DELTA_KIND;
 use super::writing::{
-    body_len, track_len, write_blocks, write_body, write_clips, write_count, write_numbers,
+    body_len, track_len, write_body, write_clips, write_count, write_numbers, write_rows,
 };
+use block_sequence::Sequence;
 use byteorder::{ByteOrder, LittleEndian};
-use pcm_base::{BlockRef, NoMemory};
+use pcm_base::NoMemory;
 use project_state::{Point, Track};
 
 /// How a track is written by the current point.
@@ -34,14 +35,14 @@ fn choice_in(current: &Point, track: &Track) -> Choice
     }
 }
 
-/// The blocks after those of the last clip that are kept.
-fn fresh(track: &Track, kept: usize) -> &[BlockRef]
+/// How many blocks come after those of the last clip that are kept.
+fn fresh(track: &Track, kept: usize) -> usize
     requires some { 0 < length track.now.layout }
     requires within { kept ≤ length (change.last_blocks track.now.layout) }
-    ensures value { result.now ≡ drop kept (change.last_blocks track.now.layout) }
-    ensures few { length result.now ≤ 2 ^ 32 }
+    ensures value { result ≡ length (drop kept (change.last_blocks track.now.layout)) }
+    ensures few { result ≤ 2 ^ 32 }
 {
-    &last_blocks(track.layout.as_slice())[kept..]
+    last_blocks(track.layout.as_slice()).count() - kept
 }
 
 /// How many bytes tell a track.
@@ -53,7 +54,7 @@ fn diff_len(current: &Point, track: &Track) -> usize
     match choice_in(current, track) {
         Choice::Same => 9,
         Choice::Whole => 1 + track_len(track),
-        Choice::Tail { kept, .. } => 17 + 12 * fresh(track, kept).len(),
+        Choice::Tail { kept, .. } => 17 + 12 * fresh(track, kept),
     }
 }
 
@@ -93,14 +94,16 @@ fn write_whole(track: &Track, out: &mut [u8])
     out[0] = 1;
 }
 
-/// How many blocks go, and those that come.
-fn write_tail(gone: usize, blocks: &[BlockRef], out: &mut [u8])
-    requires { length out.old ≡ 9 + 12 * length blocks.now }
-    ensures { out.new ≡ change.change_bytes (change.Tail gone blocks.now) }
+/// How many blocks go, and those that come after the first `kept`.
+#[tactic(auto, using(crate::proofs::Parts::length_blocks))]
+fn write_tail(gone: usize, kept: usize, blocks: &Sequence, out: &mut [u8])
+    requires within { kept ≤ length blocks.now }
+    requires size { length out.old ≡ 9 + 12 * length (drop kept blocks.now) }
+    ensures { out.new ≡ change.change_bytes (change.Tail gone (drop kept blocks.now)) }
 {
     write_count(gone, &mut out[1..]);
-    write_count(blocks.len(), &mut out[5..]);
-    write_blocks(blocks, &mut out[9..]);
+    write_count(blocks.count() - kept, &mut out[5..]);
+    write_rows(kept, blocks.rows(), &mut out[9..]);
     out[0] = 2;
 }
 
@@ -114,7 +117,9 @@ fn write_change(choice: Choice, track: &Track, out: &mut [u8])
     match choice {
         Choice::Same => write_same(out),
         Choice::Whole => write_whole(track, out),
-        Choice::Tail { gone, kept } => write_tail(gone, fresh(track, kept), out),
+        Choice::Tail { gone, kept } => {
+            write_tail(gone, kept, last_blocks(track.layout.as_slice()), out)
+        }
     }
 }
 

@@ -16,6 +16,7 @@ mod kinds;
 mod laws;
 mod limits;
 mod measuring;
+mod old_blocks;
 mod point_reading;
 mod reading;
 mod reading_clips;

@@ -123,10 +123,8 @@ fn read_clip(
     ])?;
     let row = Row { at: at + 12, count };
     let blocks = read_blocks(alloc, bytes, row, limits, count > 1, start)?;
-    Ok(Clip {
-        start,
-        blocks: Sequence::new(blocks),
-    })
+    let blocks = Sequence::new(blocks)?;
+    Ok(Clip { start, blocks })
 }
 
 /// This many clips from a place on.

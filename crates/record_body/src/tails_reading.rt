@@ -17,6 +17,7 @@ ghost use Rattle.project_journal.specs.Fields.{field};
 use super::bounds::{least, most, place};
 use super::changes::{last_blocks, last_start};
 use super::limits::{BadBody, Limits};
+use super::old_blocks::len_to;
 use super::reading_clips::{Row, read_blocks};
 use block_sequence::Sequence;
 use clip_track::{Clip, Layout};
@@ -26,14 +27,15 @@ use project_state::Track;
 use std::alloc::Global;
 
 /// Whether the one block is less than half full.
-fn is_lone(block_size: u32, blocks: &[BlockRef]) -> bool
+#[tactic(auto, using(crate::proofs::Tails::lone_by_len))]
+fn is_lone(block_size: u32, blocks: &Sequence) -> bool
     ensures { result ≡ test.is_lone block_size blocks.now }
 {
-    blocks.len() == 1 && blocks[0].len < block_size.div_ceil(2)
+    blocks.count() == 1 && blocks.len() < block_size.div_ceil(2) as u64
 }
 
 /// Tests how many blocks go, and how many come.
-fn test_tail(bytes: &[u8], at: usize, limits: Limits, olds: &[BlockRef]) -> Result<(), Damaged>
+fn test_tail(bytes: &[u8], at: usize, limits: Limits, olds: &Sequence) -> Result<(), Damaged>
     requires within { at + 17 ≤ length bytes.now }
     ensures { Tells (test.tail_head_tests limits olds.now at bytes.now) (λ _. ⊤) result }
 {
@@ -41,54 +43,36 @@ fn test_tail(bytes: &[u8], at: usize, limits: Limits, olds: &[BlockRef]) -> Resu
     let fresh = u32_at(bytes, at + 13);
     let gone_place = place(limits.base, at + 9);
     let goes = is_lone(limits.block_size, olds) && fresh > 0;
-    let comes = gone as usize == olds.len();
+    let comes = gone as usize == olds.count();
     first_failure(&[
-        most(gone_place, olds.len() as u64, gone as u64),
+        most(gone_place, olds.count() as u64, gone as u64),
         least(gone_place, goes as u64, gone as u64),
         least(place(limits.base, at + 13), comes as u64, fresh as u64),
     ])
 }
 
-/// The blocks of the last clip: those that are kept, and those that come.
-fn read_tail_blocks(
+/// The blocks that come at the end of the last clip.
+fn read_fresh(
     alloc: Global,
     bytes: &[u8],
     at: usize,
     limits: Limits,
     start: u64,
-    olds: &[BlockRef],
+    olds: &Sequence,
 ) -> Result<Vec<BlockRef>, BadBody>
     requires within { at + (17 + 12 * there.fresh_at at bytes.now) ≤ length bytes.now }
     requires near { start + blocks_len olds.now ≤ MAX_CELLS }
-    requires few { length olds.now ≤ 2 ^ 32 }
     ensures { Finds (test.tail_tests limits start olds.now at bytes.now)
-        (λ v. v.items ≡ test.kept_blocks olds.now (there.gone_at at bytes.now)
-        ++ place.blocks_at (there.fresh_at at bytes.now) (at + 17) bytes.now) result }
+        (λ v. v.items ≡ place.blocks_at (there.fresh_at at bytes.now) (at + 17) bytes.now) result }
 {
     test_tail(bytes, at, limits, olds)?;
     let gone = u32_at(bytes, at + 9);
     let count = u32_at(bytes, at + 13);
-    let kept = &olds[..olds.len() - gone as usize];
-    let several = kept.len() + count as usize > 1;
+    let kept = olds.count() - gone as usize;
+    let several = kept + count as usize > 1;
     let row = Row { at: at + 17, count };
-    let fresh = read_blocks(alloc, bytes, row, limits, several, start + total(kept))?;
-    let mut blocks = Vec::with_capacity(alloc, kept.len() + count as usize)?;
-    blocks.extend_from_slice(kept)?;
-    blocks.extend_from_slice(&fresh)?;
-    Ok(blocks)
-}
-
-/// How many samples the blocks hold.
-#[tactic(auto, using(crate::proofs::Tails::blocks_next))]
-fn total(blocks: &[BlockRef]) -> u64
-    requires { blocks_len blocks.now ≤ MAX_CELLS }
-    ensures { result ≡ blocks_len blocks.now }
-{
-    let mut len = 0;
-    for block in blocks {
-        len += block.len as u64;
-    }
-    len
+    let before = start + len_to(olds.rows(), kept);
+    Ok(read_blocks(alloc, bytes, row, limits, several, before)?)
 }
 
 /// The clips with other blocks in the last.
@@ -124,15 +108,13 @@ pub(crate) fn read_tail(
         (place.blocks_at (there.fresh_at at bytes.now) (at + 17) bytes.now) old.now) result }
 {
     let clips = old.layout.as_slice();
-    let blocks = read_tail_blocks(
-        alloc,
-        bytes,
-        at,
-        limits,
-        last_start(clips),
-        last_blocks(clips),
-    )?;
-    let clips = with_last(alloc, clips, Sequence::new(blocks))?;
+    let olds = last_blocks(clips);
+    let fresh = read_fresh(alloc, bytes, at, limits, last_start(clips), olds)?;
+    let count = olds.count();
+    let gone = u32_at(bytes, at + 9);
+    let kept = count - gone as usize;
+    let blocks = olds.splice(kept, count, fresh.as_slice())?;
+    let clips = with_last(alloc, clips, blocks)?;
     let layout = Layout::from_clips(clips)?;
     Ok(Track {
         id: old.id,

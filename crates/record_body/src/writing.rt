@@ -4,6 +4,7 @@ ghost use Rattle.std.specs.Prelude.{OnErr};
 ghost use Rattle.std.specs.Prelude.{vec_capacity};
 ghost use Rattle.std.specs.List.{flat_map};
 ghost use Rattle.pcm_base.specs.declared.limits.TheConstants.{MAX_TRACKS};
+ghost use Rattle.block_sequence.specs.Rows.{flat};
 ghost use Rattle.byteorder.specs.Endian.{little_bytes};
 ghost use Rattle.pcm_base.specs.Pieces.{Sources};
 ghost use Rattle.clip_track.specs.Clips.{IsLayout};
@@ -19,6 +20,7 @@ ghost use Rattle.record_body.specs.Spelling.{spelling};
 
 use super::body::Body;
 use super::kinds::{EDIT_KIND, PURGE_KIND, REDO_KIND, UNDO_KIND};
+use block_sequence::Row;
 use byteorder::{ByteOrder, LittleEndian};
 use clip_track::Clip;
 use pcm_base::{BlockRef, NoMemory, Side};
@@ -36,7 +38,7 @@ const EDIT_HEAD: usize = 25;
 pub(crate) fn clip_len(clip: &Clip) -> usize
     ensures { result ≡ length (clip_bytes clip.now) }
 {
-    CLIP_HEAD + BLOCK_LEN * clip.blocks.as_slice().len()
+    CLIP_HEAD + BLOCK_LEN * clip.blocks.count()
 }
 
 fn clips_len(clips: &[Clip]) -> usize
@@ -106,7 +108,7 @@ fn write_block(block: &BlockRef, out: &mut [u8])
     LittleEndian::write_u32(&mut out[8..], block.len);
 }
 
-pub(crate) fn write_blocks(blocks: &[BlockRef], out: &mut [u8])
+fn write_blocks(blocks: &[BlockRef], out: &mut [u8])
     requires { length out.old ≡ 12 * length blocks.now }
     ensures { out.new ≡ flat_map block_bytes blocks.now }
 {
@@ -115,15 +117,43 @@ pub(crate) fn write_blocks(blocks: &[BlockRef], out: &mut [u8])
     }
 }
 
+/// The blocks of a row but the first.
+#[tactic(auto, using(crate::proofs::Parts::length_blocks))]
+fn write_after(from: usize, blocks: &[BlockRef], out: &mut [u8])
+    requires within { from ≤ length blocks.now }
+    requires size { length out.old + 12 * from ≡ 12 * length blocks.now }
+    ensures { out.new ≡ flat_map block_bytes (drop from blocks.now) }
+{
+    write_blocks(&blocks[from..], out);
+}
+
+/// The blocks of some rows but the first.
+#[tactic(auto, using(block_sequence::proofs::FlatRows::flat_count))]
+pub(crate) fn write_rows(skip: usize, rows: &[Row], out: &mut [u8])
+    requires within { skip ≤ length (flat rows.now) }
+    requires size { length out.old + 12 * skip ≡ 12 * length (flat rows.now) }
+    ensures { out.new ≡ flat_map block_bytes (drop skip (flat rows.now)) }
+{
+    let mut left = skip;
+    let mut at = 0;
+    for row in rows {
+        let blocks = row.as_slice();
+        let from = left.min(blocks.len());
+        let end = at + BLOCK_LEN * (blocks.len() - from);
+        write_after(from, blocks, &mut out[at..end]);
+        left -= from;
+        at = end;
+    }
+}
+
 #[tactic(auto, using(crate::proofs::Parts::length_clip, crate::proofs::Parts::length_blocks))]
 fn write_clip(clip: &Clip, out: &mut [u8])
     requires { length out.old ≡ length (clip_bytes clip.now) }
     ensures { out.new ≡ clip_bytes clip.now }
 {
-    let blocks = clip.blocks.as_slice();
     LittleEndian::write_u64(out, clip.start);
-    write_count(blocks.len(), &mut out[8..]);
-    write_blocks(blocks, &mut out[CLIP_HEAD..]);
+    write_count(clip.blocks.count(), &mut out[8..]);
+    write_rows(0, clip.blocks.rows(), &mut out[CLIP_HEAD..]);
 }
 
 pub(crate) fn write_clips(clips: &[Clip], out: &mut [u8])

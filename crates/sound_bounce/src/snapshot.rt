@@ -180,11 +180,12 @@ fn write_current<R: Threads + Wait + Sync, S: Store, V: Vault>(
 
 /// Writes the mix of the current project as a WAV file, and lets others have turns meanwhile. One turn pins the
 /// project. One asks how long its mix is. For each `batch` frames one turn loads the tracks. They are mixed in threads
-/// while the frames before them are written to the vault and the next are loaded. A last turn lets the pin go. So the file is the mix of the
-/// project as it was at the commit number that is said, whatever others do before the file is whole.
+/// while the frames before them are written to the vault and the next are loaded. A last turn frees the pin. So the
+/// file is the mix of the project as it was at the commit number that is said, whatever others do before the file is
+/// whole.
 ///
-/// Memory is taken for `batch` frames and the samples of their tracks, both twice, and for their bytes. It does not grow with the
-/// length of the mix.
+/// Memory is taken for `batch` frames and the samples of their tracks, both twice, and for their bytes. It does not grow
+/// with the length of the mix.
 ///
 /// # Errors
 ///

@@ -36,8 +36,8 @@ returns-in-Some-clause-whole g c = λ told.
 pub returns-in-Some-clause-kept : goal.returns-in-Some-clause-kept
 returns-in-Some-clause-kept g c = kept_none _ (g.met.S.Store.may_fewer _)
 
-pub join_loaded-requires-clause-cached : goal.join_loaded-requires-clause-cached
-join_loaded-requires-clause-cached g c = λ told. right_same _ _ _ c.join_frames.ensures.same (c.requires.cached told)
+pub join_missed-requires-clause-cached : goal.join_missed-requires-clause-cached
+join_missed-requires-clause-cached g c = λ told. right_same _ _ _ c.join_frames.ensures.same (c.requires.cached told)
 
 pub join_alone-requires-clause-cached : goal.join_alone-requires-clause-cached
 join_alone-requires-clause-cached g c = λ told. right_same _ _ _ c.join_frames.ensures.same (c.requires.cached told)
@@ -47,5 +47,5 @@ returns-then-part-clause-cache g c = keeps_turn _ _ _ c.args.cache.now c.join_fr
     (keeps_same c.join_frames.ensures.same) c.join_alone.ensures.cache
 
 pub returns-clause-cache : goal.returns-clause-cache
-returns-clause-cache g c = keeps_turn _ _ _ c.args.cache.now c.join_frames.new.self c.join_loaded.new.cache
-    (keeps_same c.join_frames.ensures.same) c.join_loaded.ensures.cache
+returns-clause-cache g c = keeps_turn _ _ _ c.args.cache.now c.join_frames.new.self c.join_missed.new.cache
+    (keeps_same c.join_frames.ensures.same) c.join_missed.ensures.cache

@@ -54,5 +54,6 @@ returns-in-len1-up c =
     let passed : c.min.result ≤ c.args.from = omega (arith, c.min.ensures) in
     let before : c.min.result ≤ x.start = omega (arith, c.min.ensures) in
     let end : x.start + c.len.result ≡ clip_end x = ap (λ n. x.start + n) c.len.ensures.value in
-    near_of c.args.from front more x _ at passed before refl end c.as_slice.ensures.value refl c.args.layout.now same
+    let row : x.start ≡ x.start + 0 = omega arith in
+    near_of c.args.from front more x _ at passed before refl end c.rows.ensures.value refl row c.args.layout.now same
     c.as_slice-clips.ensures.apart c.requires.named

@@ -1,5 +1,6 @@
 -- What is left is the rest of the same tracks.
-use Rattle.cell_reader.proofs.Common.{◌≡◌, List, length, IsRest, IsRestOf}
+use Rattle.cell_reader.proofs.Common.{◌≡◌, ◌<◌, List, [], length, IsRest, IsRestOf}
+use Rattle.std.proofs.Common.{◌⊎◌}
 use Rattle.clip_track.specs.declared.clips.Clip.{Clip as clip_of}
 use Rattle.cell_reader.proofs.rest.pass_blocks.Given as goal
 
@@ -7,6 +8,7 @@ abbrev pub invariant-rows : goal.invariant-rows
 invariant-rows l = record {
   rest : IsRest l.left;
   end : l.left.end ≡ l.rest.end;
+  past : (l.left.rows.now ≡ []) ⊎ (l.from < l.left.row_end);
   clips : l.left.clips.now ≡ l.rest.clips.now;
   of : (cs : List clip_of) → IsRestOf l.from cs l.rest → IsRestOf l.from cs l.left;
 }

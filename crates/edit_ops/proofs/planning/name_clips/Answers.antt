@@ -28,19 +28,19 @@ taken c =
     let P : List LaidClip → Type 0 = AllLaid c.args.planner.block_size in
     subst P c.in-Some.ensures.steps.0 c.loop-clip.invariant.each
 
-pub new-blocks-requires-clause-full : goal.new-blocks-requires-clause-full
-new-blocks-requires-clause-full c = rw c.in_ok-named.ensures.blocks (
+pub new-requires-clause-full : goal.new-requires-clause-full
+new-requires-clause-full c = rw c.in_ok-named.ensures.blocks (
   c.args.planner.block_size,
   half_full_named c.args.planner.block_size c.loop-clip.id c.in-Some.clip.laid.items (taken c).0,
 )
 
-pub new-blocks-requires-clause-none_empty : goal.new-blocks-requires-clause-none_empty
-new-blocks-requires-clause-none_empty c = rw c.in_ok-named.ensures.blocks (
+pub new-requires-clause-none_empty : goal.new-requires-clause-none_empty
+new-requires-clause-none_empty c = rw c.in_ok-named.ensures.blocks (
     none_empty c.args.planner.block_size (named c.loop-clip.id c.in-Some.clip.laid.items) c.args.planner.some
     (half_full_named c.args.planner.block_size c.loop-clip.id c.in-Some.clip.laid.items (taken c).0))
 
-pub new-blocks-requires-clause-few : goal.new-blocks-requires-clause-few
-new-blocks-requires-clause-few c =
+pub new-requires-clause-few : goal.new-requires-clause-few
+new-requires-clause-few c =
     rw c.in_ok-named.ensures.blocks (omega (arith, len_named c.loop-clip.id c.in-Some.clip.laid.items, (taken c).1))
 
 pub loop-clip-preserved : goal.loop-clip-preserved
@@ -54,7 +54,7 @@ loop-clip-preserved c =
     let n = ap laid.count_laid s in
     rw (
       c.in_ok-push.ensures.items,
-      c.new-blocks.ensures,
+      c.in_ok-blocks.ensures,
       c.in_ok-named.ensures.blocks,
       c.in_ok-named.ensures.makes,
       c.in_ok-named.ensures.next,

@@ -3,6 +3,7 @@ use Rattle.edit_ops.proofs.Common.{ℕ, ◌++◌, [], ◌∷◌, List, sym, ap, 
 use Rattle.edit_ops.proofs.Common.{BlockRef, Clip, IsHalfFull}
 use Rattle.std.proofs.Common.{IfSome, Option}
 use Rattle.pcm_base.specs.Blocks.{NoneEmpty, block_lens, blocks_len}
+use Rattle.edit_ops.specs.Windows.{back_of, front_of}
 use Rattle.edit_ops.specs.Joins.{Adds, joined_clips, moved}
 use Rattle.edit_ops.specs.Windows.{IsJoined, back_clip}
 use Rattle.edit_ops.specs.declared.joins.Joining.{Joining}
@@ -11,29 +12,8 @@ use Rattle.edit_ops.proofs.WindowLayouts.{none_empty_parts, window_len}
 use Rattle.edit_ops.proofs.WindowPlans.{if_some}
 use Rattle.edit_ops.proofs.putting.join_around.Goals as goal
 
-pub begin-requires : goal.begin-requires
-begin-requires c =
-    let h = c.requires.window in
-    let before = c.args.window.before.now in
-    starts_fit 0 before h.before
-    (omega (arith, end_before_next 0 0 before (omega arith), h.apart, h.from, c.requires.few))
-
 pub add_clips-requires-clause-joining : goal.add_clips-requires-clause-joining
-add_clips-requires-clause-joining c =
-    let m = c.args.planner.block_size in
-    let t = c.args.t.now in
-    let w = c.args.window in
-    let h = c.requires.window in
-    let e = c.in_ok-joining.ensures in
-    let H : List BlockRef → Type 0 = λ bs. IsHalfFull m (block_lens bs) in
-    record {
-      end = omega (arith, e.end, e.start, ap blocks_len e.blocks, h.from);
-      few = omega (arith, e.end, c.requires.few);
-      none_empty = subst NoneEmpty (sym e.blocks) (none_empty_parts m t w h).0;
-      half_full = subst H (sym e.blocks) (half_from_full m w.front.now c.args.planner.some h.front);
-      clips = subst (AllHalfFull m) (sym e.clips)
-          (half_full_parts m w.before.now _ (subst (AllHalfFull m) h.clips c.requires.t)).0;
-    }
+add_clips-requires-clause-joining c = c.in_ok-joining.ensures.joining
 
 pub overflow_sub-back-2 : goal.overflow_sub-back-2
 overflow_sub-back-2 c =
@@ -53,10 +33,12 @@ add_part-requires-clause-part c =
     let h = c.requires.window in
     let len = window_len m t w h in
     record {
+      rising = h.last;
+      within = h.within;
       size = omega (arith, len, h.from, c.requires.old);
       few = omega (arith, len, h.from, c.requires.old, c.requires.few);
       none_empty = (none_empty_parts m t w h).2;
-      half_full = half_from_full m w.back.now c.args.planner.some h.back;
+      half_full = half_from_full m (back_of w) c.args.planner.some h.back;
     }
 
 pub returns : goal.returns
@@ -76,7 +58,7 @@ returns c =
     ∙ ap₂ (λ (cs : List Clip) (bs : List BlockRef). cs
     ++ joined_clips (record { start = j.start; blocks = bs }) (moved 0 w.from clips ++ back ∷ [])) e.clips e.blocks
     ∙ ap₂ (λ (n : ℕ) (cs : List Clip). w.before.now
-    ++ joined_clips (record { start = n; blocks = w.front.now }) (moved 0 w.from cs ++ back ∷ [])) e.start same in
+    ++ joined_clips (record { start = n; blocks = front_of w }) (moved 0 w.from cs ++ back ∷ [])) e.start same in
     if_some (Adds m c.in-Some.most (back ∷ [])) (IsJoined m w new small) c.in_ok-add_part.field-0
     (λ n a. record {
       joining = a.joining;

@@ -79,7 +79,7 @@ returns c =
     c.requires.few c.requires.far in
     let H = AllHalfFull m in
     let front = subst H is.clips
-    (half_full_last m j.start j.clips.items j.blocks.items is.joining.clips is.joining.half_full) in
+    (half_full_last m j.start j.clips.items j.blocks is.joining.clips is.joining.half_full) in
     let rest = half_full_parts m (clip_of w.start (window_blocks w)) w.after.now
     (half_full_parts m w.before.now _ (subst H h.clips c.requires.t)).1 in
     let half = half_full_append m (w.before.now ++ joined) after front

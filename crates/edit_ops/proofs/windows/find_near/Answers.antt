@@ -3,6 +3,15 @@ use Rattle.edit_ops.proofs.Common.{arith}
 use Rattle.edit_ops.proofs.WindowLayouts.{middle_few, none_empty_parts}
 use Rattle.edit_ops.proofs.windows.find_near.Goals as goal
 
+pub window_layout-requires-clause-rising : goal.window_layout-requires-clause-rising
+window_layout-requires-clause-rising c =
+    (c.in-Some.ensures.window c.args.planner.block_size c.args.planner.some c.requires.half_full).rising
+
+pub window_layout-requires-clause-within : goal.window_layout-requires-clause-within
+window_layout-requires-clause-within c =
+    let h = c.in-Some.ensures.window c.args.planner.block_size c.args.planner.some c.requires.half_full in
+    omega (arith, h.last, h.within)
+
 pub window_layout-requires-clause-none_empty : goal.window_layout-requires-clause-none_empty
 window_layout-requires-clause-none_empty c =
     let m = c.args.planner.block_size in

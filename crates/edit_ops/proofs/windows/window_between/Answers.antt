@@ -21,6 +21,9 @@ returns-clause-window c m =
     let e : place + 1 ≡ place + 0 + 1 = omega arith in
     record {
       layout = c.requires.layout;
+      rising = omega arith;
+      last = omega arith;
+      within = omega arith;
       clips = refl;
       before = (apart_parts 0 before after c.requires.layout.apart).0;
       apart = c.end_before.ensures c.if-not-end_before.false;

@@ -2,5 +2,6 @@
 use Rattle.editor_core.proofs.Common.{◌≡◌, ◌++◌, drop, layout_blocks}
 use Rattle.editor_core.proofs.scans.add_clips.Given as goal
 
-abbrev pub invariant-loop-i : goal.invariant-loop-i
-invariant-loop-i l = l.blocks.items ++ layout_blocks (drop l.i l.clips) ≡ l.fn.blocks.items ++ layout_blocks l.clips
+abbrev pub invariant-loop-clip : goal.invariant-loop-clip
+invariant-loop-clip l =
+    l.blocks.items ++ layout_blocks (drop l.clip-index l.clips) ≡ l.fn.blocks.items ++ layout_blocks l.clips

@@ -6,12 +6,12 @@ use Rattle.std.proofs.lemmas.Option.{slice_get_read}
 use Rattle.editor_recovery.proofs.{Searched.clip_part, Wrong.wrong_append}
 use Rattle.editor_recovery.proofs.sizes.wrong_clips.Goals as goal
 
-pub wrong_among-found-requires : goal.wrong_among-found-requires
-wrong_among-found-requires c =
+pub wrong_rows-found-requires : goal.wrong_rows-found-requires
+wrong_rows-found-requires c =
     let cs = c.args.clips.now in
     let clip = c.clip-item.result in
     let here = slice_get_read cs _ c.loop-clip.clip-index clip refl c.loop-clip-test.true c.clip-item.is in
-    rw c.as_slice.ensures.value (All-from_recursion IsBlockRef clip.blocks
+    rw c.rows.ensures.value (All-from_recursion IsBlockRef clip.blocks
     (clip_part IsBlockRef cs c.loop-clip.clip-index clip here
     (recursion_from_All IsBlockRef (layout_blocks cs) c.requires)))
 
@@ -23,8 +23,8 @@ loop-clip-preserved c =
     let found = c.loop-clip.found in
     let rest = layout_blocks (drop (c.loop-clip.clip-index + 1) cs) in
     let here = slice_get_read cs _ c.loop-clip.clip-index clip refl c.loop-clip-test.true c.clip-item.is in
-    ap (λ (f : Option BlockRef). first_wrong sizes f rest) (c.wrong_among-found.ensures
-    ∙ ap (first_wrong sizes found) c.as_slice.ensures.value)
+    ap (λ (f : Option BlockRef). first_wrong sizes f rest) (c.wrong_rows-found.ensures
+    ∙ ap (first_wrong sizes found) c.rows.ensures.value)
     ∙ sym (wrong_append sizes found clip.blocks rest)
     ∙ ap (λ (ds : List Clip). first_wrong sizes found (layout_blocks ds))
     (sym (drop_some cs c.loop-clip.clip-index clip here))

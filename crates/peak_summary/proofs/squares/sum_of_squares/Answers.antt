@@ -3,7 +3,7 @@ use Rattle.std.proofs.Common.{◌≡◌, ◌*◌, ◌+◌, ◌-◌, ◌/◌, ℕ
 use Rattle.std.proofs.lemmas.List.{take_all}
 use Rattle.std.specs.Prelude.{sum_by}
 use Rattle.peak_summary.specs.Peaks.{square}
-use Rattle.peak_summary.proofs.SumLaws.{sum_take, sum_fits_take}
+use Rattle.peak_summary.proofs.SumLaws.{part_fits, sum_take, sum_fits_take}
 use Rattle.peak_summary.proofs.squares.sum_of_squares.Goals as goal
 
 both : (c : goal.After-few_squares)
@@ -16,6 +16,11 @@ both c =
     let all = sum_take c.args.samples.now at (length c.args.samples.now - at) (length c.args.samples.now)
     (omega arith) in
     omega (arith, front, rest, all)
+
+pub few_squares-requires-clause-fit : goal.few_squares-requires-clause-fit
+few_squares-requires-clause-fit c =
+    let at : ℕ = 256 * (length c.args.samples.now / 256) in
+    part_fits at (length c.args.samples.now - at) c.args.samples.now c.all_fit.ensures
 
 pub overflow_add-result : goal.overflow_add-result
 overflow_add-result c =

@@ -1,8 +1,10 @@
--- One of the two has no more blocks.
+-- What is common is within both.
 use Rattle.record_body.proofs.Common.{arith}
-use Rattle.record_body.proofs.Commons.{common_ends}
+use Rattle.block_sequence.proofs.Fronts.{common_within}
 use Rattle.record_body.proofs.changes.common_len.Goals as goal
 
-pub returns-clause-value : goal.returns-clause-value
-returns-clause-value c =
-    search (arith, c.loop-i-test.false, c.loop-i.invariant, c.loop-i.auto.i-end, c.min-most.ensures, common_ends)
+pub returns-clause-old : goal.returns-clause-old
+returns-clause-old c = omega (arith, c.common.ensures.value, (common_within c.args.old.now c.args.new.now).0)
+
+pub returns-clause-new : goal.returns-clause-new
+returns-clause-new c = omega (arith, c.common.ensures.value, (common_within c.args.old.now c.args.new.now).1)

@@ -1,9 +1,9 @@
 -- All tests of the end passed.
-use Rattle.record_body.proofs.Common.{◌≡◌, ℕ, ◌+◌, ◌^◌, ◌≤◌, ◌<◌, ◌++◌, None, List, length, sym, ap, subst, ◌∙◌, arith}
+use Rattle.record_body.proofs.Common.{◌≡◌, ℕ, ◌+◌, ◌-◌, ◌^◌, ◌≤◌, ◌<◌, ◌++◌, None, List, length, sym, ap, ap₂, subst, ◌∙◌, arith}
 use Rattle.record_body.proofs.Common.{BlockRef, IsHalfFull, NoneEmpty, block_lens, blocks_len, Clip, AllHalfFull}
 use Rattle.record_body.proofs.Common.{IsLayout, first_failed, fresh_at, gone_at, kept_blocks, tail_tests, last_blocks}
 use Rattle.record_body.proofs.Common.{last_start, with_last, blocks_at, Limits, all_pass}
-use Rattle.record_body.proofs.Tails.{IsTail, end_last, last_end, valid_tail, layout_with}
+use Rattle.record_body.proofs.Tails.{IsTail, end_last, last_end, valid_tail, layout_with, splice_tail, tail_within}
 use Rattle.record_body.proofs.tails_reading.read_tail.Goals as goal
 
 -- the last clip of a layout, by the start and the blocks that were read of it
@@ -26,16 +26,28 @@ module _ (layout clips : List Clip) (start : ℕ) (olds : List BlockRef) (same :
       (subst (λ bs. IsHalfFull l.block_size (block_lens bs)) of_layout end.half_full)
       (subst NoneEmpty of_layout end.none_empty) near (all_pass (tail_tests l start olds at bytes) pass))
 
-pub read_tail_blocks-requires-clause-near : goal.read_tail_blocks-requires-clause-near
-read_tail_blocks-requires-clause-near c = near c.args.old.now.layout _ _ _ c.as_slice-clips.ensures.value
-    c.last_start.ensures c.last_blocks.ensures.value c.as_slice-clips.ensures.apart c.requires.some
+pub read_fresh-requires-clause-near : goal.read_fresh-requires-clause-near
+read_fresh-requires-clause-near c = near c.args.old.now.layout _ _ _ c.as_slice-clips.ensures.value
+    c.last_start.ensures c.last_blocks-olds.ensures c.as_slice-clips.ensures.apart c.requires.some
 
-pub new-requires : goal.new-requires
-new-requires c =
+pub overflow_sub-kept : goal.overflow_sub-kept
+overflow_sub-kept c =
+    let within = tail_within c.args.limits c.last_start.result c.last_blocks-olds.result.now c.args.at c.args.bytes.now
+    (all_pass (tail_tests c.args.limits c.last_start.result c.last_blocks-olds.result.now c.args.at c.args.bytes.now)
+    c.in_ok-fresh.ensures.0) in
+    omega (arith, within, c.count-count.ensures.value, c.u32_at-gone.ensures)
+
+pub splice-requires : goal.splice-requires
+splice-requires c =
+    let olds = c.last_blocks-olds.result.now in
+    let are = splice_tail olds _ _ _ _ (gone_at c.args.at c.args.bytes.now) c.count-count.ensures.value
+    (ap (λ g. c.count-count.result - g) c.u32_at-gone.ensures) (c.as_slice.ensures.value ∙ c.in_ok-fresh.ensures.1) in
     let end = tail c.args.old.now.layout _ _ _ c.as_slice-clips.ensures.value c.last_start.ensures
-    c.last_blocks.ensures.value c.as_slice-clips.ensures.apart c.requires.some c.args.limits c.args.at
-    c.args.bytes.now _ c.requires.half_full c.in_ok-blocks.ensures.0 c.in_ok-blocks.ensures.1 in
+    c.last_blocks-olds.ensures c.as_slice-clips.ensures.apart c.requires.some c.args.limits c.args.at
+    c.args.bytes.now _ c.requires.half_full c.in_ok-fresh.ensures.0 are in
     record {
+      rising = omega arith;
+      within = omega (arith, c.count-count.ensures.value);
       full = (c.args.limits.block_size, end.half_full);
       none_empty = end.none_empty;
       few = omega (arith, end.end);
@@ -45,10 +57,30 @@ pub from_clips-requires : goal.from_clips-requires
 from_clips-requires c =
     let layout = c.args.old.now.layout in
     let same = c.as_slice-clips.ensures.value in
+    let olds = c.last_blocks-olds.result.now in
+    let are = splice_tail olds _ _ _ _ (gone_at c.args.at c.args.bytes.now) c.count-count.ensures.value
+    (ap (λ g. c.count-count.result - g) c.u32_at-gone.ensures) (c.as_slice.ensures.value ∙ c.in_ok-fresh.ensures.1) in
     let end = tail layout _ _ _ same c.last_start.ensures
-    c.last_blocks.ensures.value c.as_slice-clips.ensures.apart c.requires.some c.args.limits c.args.at
-    c.args.bytes.now _ c.requires.half_full c.in_ok-blocks.ensures.0 c.in_ok-blocks.ensures.1 in
-    let clips =
-    c.in_ok-clips.ensures ∙ ap (with_last c.new.result) same ∙ ap (λ bs. with_last bs layout) c.new.ensures in
+    c.last_blocks-olds.ensures c.as_slice-clips.ensures.apart c.requires.some c.args.limits c.args.at
+    c.args.bytes.now _ c.requires.half_full c.in_ok-fresh.ensures.0 (c.in_ok-blocks.ensures ∙ are) in
+    let clips = c.in_ok-clips.ensures ∙ ap (with_last c.in_ok-blocks.blocks) same in
     subst IsLayout (sym clips) (layout_with layout _ c.requires.some c.as_slice-clips.ensures.apart end.none_empty
     end.some (omega (arith, end.end, c.last_start.ensures ∙ ap last_start same)))
+
+pub returns : goal.returns
+returns c =
+    let layout = c.args.old.now.layout in
+    let same = c.as_slice-clips.ensures.value in
+    let olds = c.last_blocks-olds.result.now in
+    let gone = gone_at c.args.at c.args.bytes.now in
+    let bs = blocks_at (fresh_at c.args.at c.args.bytes.now) (c.args.at + 17) c.args.bytes.now in
+    let start = c.last_start.ensures ∙ ap last_start same in
+    let are_olds = c.last_blocks-olds.ensures ∙ ap last_blocks same in
+    let are = splice_tail olds _ _ _ _ gone c.count-count.ensures.value
+    (ap (λ g. c.count-count.result - g) c.u32_at-gone.ensures) (c.as_slice.ensures.value ∙ c.in_ok-fresh.ensures.1) in
+    let blocks = c.in_ok-blocks.ensures ∙ are ∙ ap (λ os. kept_blocks os gone ++ bs) are_olds in
+    let clips = c.in_ok-clips.ensures ∙ ap (with_last c.in_ok-blocks.blocks) same ∙ ap (λ os. with_last os layout) blocks in (
+      ap₂ (λ s os. first_failed (tail_tests c.args.limits s os c.args.at c.args.bytes.now)) (sym start) (sym are_olds)
+          ∙ c.in_ok-fresh.ensures.0,
+      ap (λ l. record c.args.old.now { number = 0; layout = l }) (c.in_ok-layout.ensures ∙ clips),
+    )

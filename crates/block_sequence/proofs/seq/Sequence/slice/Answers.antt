@@ -1,35 +1,19 @@
 -- The goals of `slice` that the search leaves open.
-use Rattle.std.proofs.Common.{◌≡◌, ◌-◌, List, map, take, drop, ap, sym, ◌∙◌, arith}
-use Rattle.std.proofs.lemmas.List.{take_at}
-use Rattle.pcm_base.specs.{declared.piece.Piece.Piece, Pieces.all_samples, Pieces.whole}
-use Rattle.pcm_base.proofs.Pieces.{length-all_samples}
-use Rattle.block_sequence.proofs.Whole.{total_whole, samples_whole, valid_whole}
+use Rattle.std.proofs.Common.{◌++◌, List, ap, ap₂, ◌∙◌}
+use Rattle.pcm_base.specs.{declared.block.BlockRef.BlockRef, declared.piece.Piece.Piece, Blocks.block_samples}
+use Rattle.pcm_base.specs.Pieces.{all_samples}
+use Rattle.block_sequence.specs.Rows.{flat, from_to}
+use Rattle.block_sequence.proofs.Whole.{total_part}
 use Rattle.block_sequence.proofs.seq.Sequence.slice.Goals as goal
 
-pub cut_off-requires-clause-valid : goal.cut_off-requires-clause-valid
-cut_off-requires-clause-valid c = rw (c.as_slice-2.ensures.value, c.in_ok-pieces.ensures, c.as_slice.ensures.value)
-    (valid_whole _ c.self.invariant.none_empty)
-
-pub cut_off-requires-clause-small : goal.cut_off-requires-clause-small
-cut_off-requires-clause-small c = rw (
-  c.as_slice-2.ensures.value,
-  c.in_ok-pieces.ensures,
-  c.as_slice.ensures.value,
-  total_whole,
-) (omega (arith, c.self.invariant))
-
-pub cut_off-requires-clause-within : goal.cut_off-requires-clause-within
-cut_off-requires-clause-within c =
-    rw (c.as_slice-2.ensures.value, c.in_ok-pieces.ensures, c.as_slice.ensures.value, total_whole, c.self.view_is)
-    (omega arith)
-
-pub returns-clause-samples : goal.returns-clause-samples
-returns-clause-samples c src =
-    let cut = c.in_ok-cut.cut.pieces.items in
-    let e : c.as_slice-2.result.now ≡ map whole c.args.self.now =
-    c.as_slice-2.ensures.value ∙ c.in_ok-pieces.ensures ∙ ap (map whole) (c.as_slice.ensures.value ∙ c.self.view_is) in
-    let n = c.args.to - c.args.from in
-    ap (all_samples src) c.new.ensures
-    ∙ sym (take_at (all_samples src cut) _ n (length-all_samples src cut ∙ c.in_ok-cut.ensures.total))
-    ∙ ap (take n) (c.in_ok-cut.ensures.samples src ∙ ap (λ (ps : List Piece). drop c.args.from (all_samples src ps)) e)
-    ∙ ap (λ (xs : List _). take n (drop c.args.from xs)) (samples_whole src c.args.self.now)
+pub returns-clause-total : goal.returns-clause-total
+returns-clause-total c =
+    let from = c.args.from in
+    let to = c.args.to in
+    total_part c.new.result c.args.self.now from to c.requires.rising c.requires.within (
+    λ src. ap (all_samples src) c.new.ensures
+    ∙ c.in_ok-append_pieces.ensures.samples src
+    ∙ ap₂ (λ (ps : List Piece) (rs : List (List BlockRef)). all_samples src ps
+    ++ from_to from to (block_samples src (flat rs))) c.new-out.ensures.items c.as_slice.ensures.value
+    ∙ ap (λ (bs : List BlockRef). from_to from to (block_samples src bs)) c.self.view_is
+    )
