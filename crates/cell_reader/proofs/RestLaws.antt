@@ -3,8 +3,8 @@ use Rattle.cell_reader.proofs.Common.{Contains, replicate, ◌≡◌, ℕ, ◌+�
 use Rattle.cell_reader.proofs.Common.{length, take, drop, map, min, get_or, refl, sym, ap, ap₂, subst, ◌∙◌, arith}
 use Rattle.cell_reader.proofs.Common.{length-append, length-drop, append_assoc, append-nil, drop_all, length-take}
 use Rattle.cell_reader.proofs.Common.{length-map, length-replicate, map-append, take_min, get_or-append_right}
-use Rattle.cell_reader.proofs.Common.{Contains-append_right, cases_lt, BlockRef, Cell, Sources, stretch, blocks_len}
-use Rattle.cell_reader.proofs.Common.{block_samples, part, length-stretch, length-blocks, Clip, AreClips, end_of}
+use Rattle.cell_reader.proofs.Common.{Contains-append_right, cases_lt, BlockRef, Cell, Sources, blocks_len}
+use Rattle.cell_reader.proofs.Common.{block_samples, part, length-blocks, Clip, AreClips, end_of}
 use Rattle.cell_reader.proofs.Common.{clip_end, cells_from, layout_cells, layout_blocks, AreClips-next, AllNamed}
 use Rattle.cell_reader.proofs.Common.{Entries, HasBlocks, HasClips, HasRest, rest_cells, rest_blocks, IsRest, IsRestOf}
 use Rattle.cell_reader.proofs.Common.{place_in, Puts, View, TrackRest}

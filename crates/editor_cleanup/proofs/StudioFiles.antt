@@ -90,7 +90,14 @@ module _ {D : Type 0} (disk : Ghosts D) (s : Core D) (is : IsStudio disk s) (muc
     less_counted x among = search rules
 
     less_counts : AreCounts (studio_tracks s) (clip_blocks s.clipboard) s.uses counts
-    less_counts = search (rules, less_counted, is_among)
+    less_counts = record {
+      fresh_uses = is.counted.fresh_uses;
+      none_free = is.counted.none_free;
+      fresh_counts = λ x. less_counted x (is_among ids x) ∙ is.counted.fresh_counts x;
+      listed = is.counted.listed;
+      no_other = is.counted.no_other;
+      singles = is.counted.singles;
+    }
 
     less_given : (x : ℕ) → IsSome (counts x) → Contains ids x ⊎ (Contains ids x → ⊥) → IsGiven s.next_block x
     less_given x some among = search (rules, none_some)

@@ -17,6 +17,7 @@ use Rattle.editor_state.proofs.Calls.FileRemovals.{ids_still, none_given}
 use Rattle.editor_state.proofs.{Images.ImageProjects.keeps_now, Refusals.PurgeNumbers.done_purges}
 use Rattle.editor_state.proofs.{Refusals.CommitTests.commit_bytes}
 use Rattle.pcm_base.specs.Studio as model
+use Rattle.layout_uses.specs.Tallies.{Uses}
 
 module _ {D : Type 0} {Has : Type 0} {disk : Ghosts D} {s : Core D} {made : List BlockRef} {c : Call}
     {sound : SoundMove} {tracks : ℕ} {w : Writing} {h : History (List Track)} {clip : Option (List (List Item))}
@@ -34,7 +35,7 @@ module _ {D : Type 0} {Has : Type 0} {disk : Ghosts D} {s : Core D} {made : List
   on = search rules
 
   module _ {Q : Type 0} (q : Q) (mid : Core D) (adds : AddsBody disk s w (Ok q) mid)
-      (h' : History (List Track)) (uses counts : Counts) (next_track next_layout : ℕ) (moved : h' ≡ h)
+      (h' : History (List Track)) (uses : Uses) (counts : Counts) (next_track next_layout : ℕ) (moved : h' ≡ h)
       (tracked : next_track ≡ track_then) (counted : CountsAfter s.pins h clip next_layout s.counts uses counts) where
     abbrev pub grown : Core D
     grown = record s {
@@ -187,7 +188,7 @@ module _ {D : Type 0} (disk : Ghosts D) (s : Core D) (made : List BlockRef) (c :
   tested = search rules
 
   module _ {Q : Type 0} (q : Q) (mid : Core D) (adds : AddsBody disk s w (Ok q) mid)
-      (h' : History (List Track)) (uses counts : Counts) (next_track next_layout : ℕ) (moved : h' ≡ h)
+      (h' : History (List Track)) (uses : Uses) (counts : Counts) (next_track next_layout : ℕ) (moved : h' ≡ h)
       (tracked : next_track ≡ track_then) (counted : CountsAfter s.pins h clip next_layout s.counts uses counts) where
     abbrev Leaves : Core D → Type 0
     Leaves z =

@@ -8,11 +8,12 @@ use Rattle.editor_commits.proofs.Common.{all_right, all_so, Covers}
 use Rattle.project_journal.specs.Header.{IsFormat}
 use Rattle.editor_state.specs.{declared.pin.Pin.Pin}
 use Rattle.editor_state.proofs.{SameStudios.studio_over}
+use Rattle.layout_uses.specs.Tallies.{Uses}
 
 -- The uses of layouts and the counts of blocks for this history and clipboard beside these pins, and the number of the
 -- next layout, where the ids are those of these counts.
 pub record CountsAfter (pins : List Pin) (h : History (List Track)) (clip : Option (List (List Item))) (next_layout : ℕ)
-    (ids uses counts : Counts) : Type 0 where
+    (ids : Counts) (uses : Uses) (counts : Counts) : Type 0 where
   pub layouts : next_layout ≤ 2 ^ 62
   pub numbered : AreNumbered (history_tracks h ++ pin_tracks pins)
   pub drawn : AreDrawn next_layout (history_tracks h ++ pin_tracks pins)
@@ -54,7 +55,7 @@ module _ {D : Type 0} (disk : Ghosts D) (s : Core D) (is : IsStudio disk s) wher
 
     module _ (store : D) (end : ℕ) (end_most : end ≤ 2 ^ 62) (end_later : s.journal_end ≤ end) (h' : History
         (List Track))
-        (uses counts : Counts) (next_track next_layout : ℕ) (moved : h' ≡ h) (tracked : next_track ≡ track_then)
+        (uses : Uses) (counts : Counts) (next_track next_layout : ℕ) (moved : h' ≡ h) (tracked : next_track ≡ track_then)
         (after : CountsAfter s.pins h clip next_layout s.counts uses counts) where
       abbrev pub led : Core D
       led = record s {

@@ -24,6 +24,8 @@ use Rattle.editor_commits.proofs.HistoryPoints.{ending_few}
 use Rattle.editor_commits.proofs.{CommitImages.IsCommit, CommitImages.Matches, CommitStudios.CountsAfter}
 use Rattle.editor_commits.proofs.{TrackChanges.current_is, TrackChanges.lacks_is, TrackLists.given_below}
 use Rattle.editor_state.proofs.{Blocks.NamedBlocks.current_among}
+use Rattle.layout_uses.specs.Tallies.{uses_of}
+use Rattle.row_ledger.specs.Lists.{counts_of}
 
 -- a valid project is one still where later tracks have ids
 pub valid_later : (m next_block next_track later : ℕ) (ts : List Track) → next_track ≤ later
@@ -182,16 +184,16 @@ module _ {D : Type 0} (disk : Ghosts D) (s : Core D) (is : IsStudio disk s) wher
 
   -- a point may be counted, by the counts of the studio
   pub may_become : (p : List Track) (after : ℕ) → HasNumbers old s.next_layout p after → length p ≤ 64
-      → (tally : Tally) → AreCounts (studio_tracks s) (clip_blocks s.clipboard) (count_of tally.uses)
-      (count_of tally.ledger) → MayBecome p (history_tracks s.history) tally
+      → (tally : Tally) → AreCounts (studio_tracks s) (clip_blocks s.clipboard) (uses_of tally)
+      (counts_of tally.ledger) → MayBecome p (history_tracks s.history) tally
   may_become p after has few tally counted = search (rules, came_numbered, came_few)
 
   -- the counts after a new history, where pins and clipboard stay
   pub counts_then : (p : List Track) (after : ℕ) (h : History (List Track)) (tally tally' : Tally)
       → HasNumbers old s.next_layout p after → length p ≤ 64 → after ≤ 2 ^ 62
-      → AreCounts (studio_tracks s) (clip_blocks s.clipboard) (count_of tally.uses) (count_of tally.ledger)
+      → AreCounts (studio_tracks s) (clip_blocks s.clipboard) (uses_of tally) (counts_of tally.ledger)
       → Becomes p (history_tracks s.history) (history_tracks h) tally tally'
-      → CountsAfter s.pins h s.clipboard after (count_of tally.ledger) (count_of tally'.uses) (count_of tally'.ledger)
+      → CountsAfter s.pins h s.clipboard after (counts_of tally.ledger) (uses_of tally') (counts_of tally'.ledger)
   counts_then p after h tally tally' has few most counted becomes =
       search (rules, came_numbered, came_drawn, came_few, becomes.numbered, becomes.drawn, becomes.counted)
 

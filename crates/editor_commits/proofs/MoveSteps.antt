@@ -20,6 +20,8 @@ use Rattle.editor_state.proofs.Refusals.CommitTests.{tested}
 use Rattle.editor_state.proofs.{Refusals.CounterNumbers.tested_needed}
 use Rattle.pcm_base.specs.declared.command.Command.TheVariants as command
 use Rattle.pcm_base.specs.declared.refusal.Refusal.TheVariants as refusal
+use Rattle.layout_uses.specs.{Tallies.Uses, Tallies.uses_of}
+use Rattle.row_ledger.specs.Lists.{counts_of}
 
 pub undo_call : IsCommitCall (Line command.Undo) silent 0 0
 undo_call = assumption
@@ -144,7 +146,7 @@ module _ {D : Type 0} (disk : Ghosts D) (s : Core D) (is : IsStudio disk s) wher
 
   -- what a move leaves, where its record was added
   pub moves : (c : Call) (body : Body) (h : History (List Track)) (mid : Core D) (h' : History (List Track))
-      (uses counts : Counts) → Move c body h
+      (uses : Uses) (counts : Counts) → Move c body h
       → s.stopped ≡ None → call_tests (outside (studio_of disk s) silent) (studio_of disk s).state c ≡ None
       → layouts_of (outside (studio_of disk s) silent) (studio_of disk s).state c ≡ 0
       → s.commit_number < 2 ^ 62
@@ -187,7 +189,7 @@ module _ {D : Type 0} (disk : Ghosts D) (s : Core D) (is : IsStudio disk s) wher
         drawn = subst (λ (ts : List Track). AreDrawn s.next_layout (ts ++ pin_tracks s.pins)) tracks is.drawn;
         counted = subst (λ (ts : List Track).
             AreCounts (ts ++ pin_tracks s.pins) (clip_blocks s.clipboard) mid.uses mid.counts) tracks
-            (subst (λ (u : Counts). AreCounts (studio_tracks s) (clip_blocks s.clipboard) u mid.counts) (sym uses)
+            (subst (λ (u : Uses). AreCounts (studio_tracks s) (clip_blocks s.clipboard) u mid.counts) (sym uses)
             (subst (λ (z : Counts). AreCounts (studio_tracks s) (clip_blocks s.clipboard) s.uses z) (sym counts)
             is.counted));
         files = λ id. (
@@ -197,24 +199,24 @@ module _ {D : Type 0} (disk : Ghosts D) (s : Core D) (is : IsStudio disk s) wher
       })
 
   -- what is counted may be counted without the oldest points
-  pub may_purge : (tally : Tally) → count_of tally.uses ≡ s.uses → count_of tally.ledger ≡ s.counts
+  pub may_purge : (tally : Tally) → uses_of tally ≡ s.uses → counts_of tally.ledger ≡ s.counts
       → MayBecome [] (history_tracks s.history) tally
   may_purge tally uses_are counts_are = record {
     others = pin_tracks s.pins;
     blocks = clip_blocks s.clipboard;
     numbered = is.numbered;
     few = omega (arith, tracks_few disk s is);
-    counted = subst (λ (u : Counts). AreCounts (studio_tracks s) (clip_blocks s.clipboard) u (count_of tally.ledger))
+    counted = subst (λ (u : Uses). AreCounts (studio_tracks s) (clip_blocks s.clipboard) u (counts_of tally.ledger))
         (sym uses_are)
         (subst (λ (z : Counts). AreCounts (studio_tracks s) (clip_blocks s.clipboard) s.uses z) (sym counts_are)
         is.counted);
   }
 
   -- the counts after a purge
-  pub purged_counts : (n : ℕ) (tally tally' : Tally) → count_of tally.uses ≡ s.uses → count_of tally.ledger ≡ s.counts
+  pub purged_counts : (n : ℕ) (tally tally' : Tally) → uses_of tally ≡ s.uses → counts_of tally.ledger ≡ s.counts
       → Becomes [] (history_tracks s.history) (history_tracks (purged s.history n)) tally tally'
-      → CountsAfter s.pins (purged s.history n) s.clipboard s.next_layout s.counts (count_of tally'.uses)
-      (count_of tally'.ledger)
+      → CountsAfter s.pins (purged s.history n) s.clipboard s.next_layout s.counts (uses_of tally')
+      (counts_of tally'.ledger)
   unfolding may_purge
   purged_counts n tally tally' uses_are counts_are becomes =
       let may = may_purge tally uses_are counts_are in record {
@@ -222,7 +224,7 @@ module _ {D : Type 0} (disk : Ghosts D) (s : Core D) (is : IsStudio disk s) wher
         numbered = becomes.numbered (pin_tracks s.pins) is.numbered;
         drawn = becomes.drawn s.next_layout (pin_tracks s.pins) is.drawn;
         counted = becomes.counted (pin_tracks s.pins) (clip_blocks s.clipboard) is.numbered may.few may.counted;
-        files = λ id. subst (λ (z : Counts). IsSome (count_of tally'.ledger id) ↔ IsSome (z id)) counts_are
+        files = λ id. subst (λ (z : Counts). IsSome (counts_of tally'.ledger id) ↔ IsSome (z id)) counts_are
             (becomes.ids id);
       }
 

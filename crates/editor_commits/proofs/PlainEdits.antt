@@ -35,6 +35,8 @@ use Rattle.editor_commits.proofs.{CommitSteps.grows_so, CommitStudios.CountsAfte
 use Rattle.record_body.proofs.DiffTracks.{found_id}
 use Rattle.pcm_base.specs.Cells as cells
 use Rattle.editor_commits.specs.declared.plain_edit.PlainEdit.TheVariants as edit
+use Rattle.layout_uses.specs.{Tallies.Uses, Tallies.uses_of}
+use Rattle.row_ledger.specs.Lists.{counts_of}
 
 module _ {D : Type 0} (disk : Ghosts D) (s : Core D) (is : IsStudio disk s) where
   abbrev was : List Track
@@ -52,9 +54,10 @@ module _ {D : Type 0} (disk : Ghosts D) (s : Core D) (is : IsStudio disk s) wher
   own_is (edit.Mute id mute) = track_is disk s is id
 
   -- the studio's counts, by the tally that has them
-  same_counts : (tally : Tally) → count_of tally.uses ≡ s.uses → count_of tally.ledger ≡ s.counts
-      → AreCounts (studio_tracks s) (clip_blocks s.clipboard) (count_of tally.uses) (count_of tally.ledger)
-  same_counts tally uses_are counts_are = search rules
+  same_counts : (tally : Tally) → uses_of tally ≡ s.uses → counts_of tally.ledger ≡ s.counts
+      → AreCounts (studio_tracks s) (clip_blocks s.clipboard) (uses_of tally) (counts_of tally.ledger)
+  same_counts tally uses_are counts_are = subst (λ (w : Uses × Counts).
+      AreCounts (studio_tracks s) (clip_blocks s.clipboard) w.0 w.1) (λ i. (sym uses_are i, sym counts_are i)) is.counted
 
   -- ---- one track set
   module _ (id : ℕ) (g : Track → Track) (f : cells.Track → cells.Track) (sets : Sets g f) (p : List Track)
@@ -252,22 +255,22 @@ module _ {D : Type 0} (disk : Ghosts D) (s : Core D) (is : IsStudio disk s) wher
     edit_agrees = came_agrees disk s is p (s.next_layout + layouts_by e) numbers
 
     -- its layouts may be counted, by the counts of the studio
-    pub edit_may : (tally : Tally) → count_of tally.uses ≡ s.uses → count_of tally.ledger ≡ s.counts
+    pub edit_may : (tally : Tally) → uses_of tally ≡ s.uses → counts_of tally.ledger ≡ s.counts
         → MayBecome p (history_tracks s.history) tally
     edit_may tally uses_are counts_are =
         may_become disk s is p (s.next_layout + layouts_by e) numbers valid.few tally
         (same_counts tally uses_are counts_are)
 
     -- and the counts after it
-    pub edit_counts : (tally tally' : Tally) → count_of tally.uses ≡ s.uses → count_of tally.ledger ≡ s.counts
+    pub edit_counts : (tally tally' : Tally) → uses_of tally ≡ s.uses → counts_of tally.ledger ≡ s.counts
         → s.next_layout + layouts_by e ≤ 2 ^ 62
         → Becomes p (history_tracks s.history) (history_tracks (edited s.history p 0)) tally tally'
         → CountsAfter s.pins (edited s.history p 0) s.clipboard (s.next_layout + layouts_by e) s.counts
-        (count_of tally'.uses) (count_of tally'.ledger)
+        (uses_of tally') (counts_of tally'.ledger)
     edit_counts tally tally' uses_are counts_are most becomes =
         subst (λ (ids : Counts). CountsAfter s.pins (edited s.history p 0) s.clipboard
         (s.next_layout + layouts_by e) ids
-        (count_of tally'.uses) (count_of tally'.ledger)) counts_are
+        (uses_of tally') (counts_of tally'.ledger)) counts_are
         (counts_then disk s is p (s.next_layout + layouts_by e)
         (edited s.history p 0) tally tally' numbers valid.few most
         (same_counts tally uses_are counts_are) becomes)
@@ -314,7 +317,7 @@ module _ {D : Type 0} (disk : Ghosts D) (s : Core D) (is : IsStudio disk s) wher
             lacks.1)))
             drawn
 
-        pub edit_done : {Q : Type 0} (q : Q) (mid : Core D) (h' : History (List Track)) (uses counts : Counts)
+        pub edit_done : {Q : Type 0} (q : Q) (mid : Core D) (h' : History (List Track)) (uses : Uses) (counts : Counts)
             (next_track next_layout : ℕ)
             → AddsBody disk s record_of (Ok q) mid → h' ≡ edited s.history p 0
             → CountsAfter s.pins (edited s.history p 0) s.clipboard next_layout s.counts uses counts

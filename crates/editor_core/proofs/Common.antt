@@ -34,8 +34,8 @@ pub use Rattle.editor_state.specs.Bodies.{Writing, all_bytes, all_len, body_byte
 pub use Rattle.editor_state.specs.{Adding.AddsDrawn, Adding.IsNoWant, Adding.Undrawn, Took.Took, Took.as_reply}
 pub use Rattle.editor_state.specs.{Applied.TookOver, Core.Core, Core.form_at, Makes.RefusedBrought, Makes.Synced}
 pub use Rattle.editor_state.specs.{Events.RanOver, Exports.moved_from, Reads.Sees, declared.pin.Pin.Pin, Applied.Lasts}
-pub use Rattle.editor_state.specs.{Made.AllInOrder, Made.batch_of, Made.ids_from, Occurrences.Dropped}
-pub use Rattle.editor_state.specs.{Occurrences.HasAll, Occurrences.HasIds, Occurrences.Held, Studios.IsHeld}
+pub use Rattle.editor_state.specs.{Made.AllInOrder, Made.batch_of, Made.ids_from, Occurrences.AreSingle}
+pub use Rattle.editor_state.specs.{Occurrences.HasIds, Occurrences.Names, Occurrences.Unnames, Studios.IsHeld}
 pub use Rattle.editor_state.specs.{Points.lacks, Points.put_in, Edits.Carried, Edits.IsStill, Edits.NotPrepared}
 pub use Rattle.editor_state.specs.{Studios.IsStudio, Studios.is_block, Studios.is_given, Vaults.IfCutShort}
 pub use Rattle.editor_state.specs.{Took.freeing, Took.quietly, Took.silent, Took.with_sound}
@@ -52,8 +52,8 @@ pub use Rattle.editor_views.proofs.UnpinSteps.{pin_may_read, pin_whole}
 pub use Rattle.editor_views.proofs.{BufferFronts.view_front, MixViews.as_many, PinNumbers.around}
 pub use Rattle.editor_views.specs.Pins.{LacksPin, MayFind}
 pub use Rattle.envelope_view.specs.Answers.{IsUndamaged}
-pub use Rattle.layout_uses.proofs.{Times.Few, Turns.all_here, Turns.dropped_on, Turns.held_on, Turns.next}
-pub use Rattle.layout_uses.proofs.{Turns.there_here}
+pub use Rattle.layout_uses.proofs.{Times.Few, Turns.all_here, Turns.named_on, Turns.next, Turns.there_here}
+pub use Rattle.layout_uses.proofs.{Turns.unnamed_on}
 pub use Rattle.layout_uses.specs.Layouts.{AreDrawn, AreNumbered, history_tracks}
 pub use Rattle.layout_uses.specs.{Drawing.HasNumbers, declared.tally.Tally.Tally, Tallies.Becomes, Tallies.MayBecome}
 pub use Rattle.mix_reader.specs.Heard.{HasHeard}
@@ -78,6 +78,7 @@ pub use Rattle.record_body.proofs.{Agreeing.again_agrees, SavedBounds.all_append
 pub use Rattle.record_body.specs.Saved.{current_tracks, point_bytes}
 pub use Rattle.record_body.specs.declared.body.Body.{Body, TheVariants.Edit}
 pub use Rattle.record_body.specs.{Batches.with_point, Numbers.BodyAgrees, SavedValid.IsValidTagged, Spelling.spelling}
+pub use Rattle.row_ledger.specs.Lists.{counts_of}
 pub use Rattle.sample_block.specs.Sources.{AllNamed, AllWhole, sources_of}
 pub use Rattle.sound_import.specs.Reading.{brought_from}
 pub use Rattle.std.proofs.Common.{Bool, Err, IfErr, IfOk, IsSome, IsTrue, List, None, Ok, Option, Result, Some, [], ap}

@@ -7,3 +7,4 @@ mod Replies
 pub mod NewProjects
 mod CountedBlocks
 mod PointCounts
+mod SameUses

@@ -1,11 +1,12 @@
 -- The parts of a new project on a disk without blocks, with one page of each kind.
 use Rattle.editor_core.proofs.Common.{◌≡◌, refl, sym, subst, ℕ, List, [], None, Some, Option, IsSome, arith}
-use Rattle.editor_core.proofs.Common.{AllByRecursion, History, count_of, Stored, IsValidTagged, Track, AreDrawn}
+use Rattle.editor_core.proofs.Common.{AllByRecursion, History, Stored, IsValidTagged, Track, AreDrawn}
 use Rattle.editor_core.proofs.Common.{AreNumbered, history_tracks, Tally, AreParts, Parts}
 use Rattle.pcm_base.specs.History.{history_of_one}
 use Rattle.project_journal.specs.Header.{IsFormat}
 use Rattle.layout_uses.specs.{Tallies.IsTally}
 use Rattle.editor_state.proofs.Refusals.EarlyRefusals.{some_none}
+use Rattle.row_ledger.specs.Lists.{counts_of}
 
 some_not : {A : Type 0} (o : Option A) → o ≡ None → IsSome o → ⊥
 some_not None none some = cc
@@ -29,7 +30,7 @@ parts_of rate m depth h tally = record {
 }
 
 module _ (rate m depth : ℕ) (h : Stored (List Track)) (tally : Tally) (is : h.history ≡ history_of_one [] 0 depth)
-    (counted : IsTally [] [] tally) (none : (id : ℕ) → count_of tally.ledger id ≡ None) where
+    (counted : IsTally [] [] tally) (none : (id : ℕ) → counts_of tally.ledger id ≡ None) where
   pub fresh_parts : IsFormat rate m depth → AreParts (parts_of rate m depth h tally)
   fresh_parts format = record {
     pages_least = omega arith;
@@ -59,5 +60,5 @@ module _ (rate m depth : ℕ) (h : Stored (List Track)) (tally : Tally) (is : h.
     numbered = subst (λ (z : History (List Track)). AreNumbered (history_tracks z)) (sym is) tt;
     drawn = subst (λ (z : History (List Track)). AreDrawn 1 (history_tracks z)) (sym is) tt;
     counted = subst (λ (z : History (List Track)). IsTally (history_tracks z) [] tally) (sym is) counted;
-    given = λ id some. absurd (some_not (count_of tally.ledger id) (none id) some);
+    given = λ id some. absurd (some_not (counts_of tally.ledger id) (none id) some);
   }

@@ -1,6 +1,6 @@
 -- A studio of valid parts is a studio, and the disk that has what they stand for holds it.
 use Rattle.editor_core.proofs.Common.{◌≡◌, sym, ℕ, List, [], ◌∷◌, ◌++◌, arith, subst, append-nil, AllByRecursion}
-use Rattle.editor_core.proofs.Common.{BlockRef, History, Ghosts, count_of, Clip, layout_blocks, Track, point_blocks}
+use Rattle.editor_core.proofs.Common.{BlockRef, History, Ghosts, Clip, layout_blocks, Track, point_blocks}
 use Rattle.editor_core.proofs.Common.{IsValidTagged, all_append, AreParts, assembled, Parts, AreDrawn, AreNumbered}
 use Rattle.editor_core.proofs.Common.{history_tracks, IsHeld, IsStudio, is_given}
 use Rattle.pcm_base.specs.{History.IsHistory}
@@ -12,6 +12,8 @@ use Rattle.block_cache.proofs.CacheLaws.{none_pass}
 use Rattle.layout_uses.specs.{Tallies.AreCounts}
 use Rattle.editor_state.specs.Studios.{IsGiven}
 use Rattle.editor_state.proofs.Lists.{all_joined, all_so}
+use Rattle.layout_uses.specs.Tallies.{uses_of}
+use Rattle.row_ledger.specs.Lists.{counts_of}
 
 module _ (next : ℕ) where
   abbrev Given : BlockRef → Type 0
@@ -62,7 +64,7 @@ assembles disk store p are is =
       layouts = omega (arith, are.layouts, are.counters.end_most);
       numbered = subst AreNumbered (sym same) are.numbered;
       drawn = subst (AreDrawn p.next_layout) (sym same) are.drawn;
-      counted = subst (λ (ts : List Track). AreCounts ts [] (count_of p.tally.uses) (count_of p.tally.ledger))
+      counted = subst (λ (ts : List Track). AreCounts ts [] (uses_of p.tally) (counts_of p.tally.ledger))
           (sym same) are.counted;
       given = are.given;
       pages = none_pass (is_given p.next_block) p.pages;

@@ -1,6 +1,7 @@
 -- The core of a studio: all but what its buffers hold, and for how much there is memory.
 use Rattle.disk_model.specs.declared.store.Store.{Ghosts}
-use Rattle.block_ledger.specs.Entries.{count_of}
+use Rattle.row_ledger.specs.Lists.{counts_of}
+use Rattle.layout_uses.specs.Tallies.{uses_of}
 use Rattle.editor_core.specs.declared.studio.Studio.{Studio}
 use Rattle.editor_state.specs.Core.{Core}
 
@@ -11,8 +12,8 @@ core_of s = record {
   history = s.history.history;
   clipboard = s.clipboard;
   pins = s.pins.items;
-  uses = count_of s.tally.uses;
-  counts = count_of s.tally.ledger;
+  uses = uses_of s.tally;
+  counts = counts_of s.tally.ledger;
   next_block = s.next_block;
   next_track = s.next_track;
   next_pin = s.next_pin;

@@ -4,11 +4,12 @@ use Rattle.std.specs.List.{AllByRecursion}
 use Rattle.disk_model.specs.declared.store.Store.{Ghosts}
 use Rattle.sample_block.specs.Sources.{AllWhole}
 use Rattle.block_cache.specs.Caches.{no_entries}
-use Rattle.block_ledger.specs.Entries.{count_of}
+use Rattle.row_ledger.specs.Lists.{counts_of}
 use Rattle.project_journal.specs.Header.{IsFormat}
 use Rattle.project_state.specs.Meaning.{history_blocks}
 use Rattle.record_body.specs.SavedValid.{IsValidTagged}
 use Rattle.layout_uses.specs.{Layouts.AreDrawn, Layouts.AreNumbered, Layouts.history_tracks, Tallies.IsTally}
+use Rattle.layout_uses.specs.Tallies.{uses_of}
 use Rattle.editor_state.specs.Core.{Core}
 use Rattle.editor_state.specs.Studios.{AreCounters, AreJournalNumbers, IsDurable, IsGiven}
 use Rattle.editor_core.specs.declared.assembly.Parts.{Parts}
@@ -21,8 +22,8 @@ assembled store p = record {
   history = p.history.history;
   clipboard = None;
   pins = [];
-  uses = count_of p.tally.uses;
-  counts = count_of p.tally.ledger;
+  uses = uses_of p.tally;
+  counts = counts_of p.tally.ledger;
   next_block = p.next_block;
   next_track = p.next_track;
   next_pin = 1;
@@ -52,7 +53,7 @@ pub record AreParts (p : Parts) : Type 0 where
   pub numbered : AreNumbered (history_tracks p.history.history)
   pub drawn : AreDrawn p.next_layout (history_tracks p.history.history)
   pub counted : IsTally (history_tracks p.history.history) [] p.tally
-  pub given : (id : ℕ) → IsSome (count_of p.tally.ledger id) → IsGiven p.next_block id
+  pub given : (id : ℕ) → IsSome (counts_of p.tally.ledger id) → IsGiven p.next_block id
 
 -- The disk has what the parts stand for: it tells its bytes, each block that the history names is whole as it reads,
 -- the journal of this file, version and generation leads to the history, next track and commit number, each image has

@@ -7,7 +7,8 @@ ghost use Rattle.pcm_base.specs.declared.command.Call.{Call};
 ghost use Rattle.pcm_base.specs.declared.entry.SoundMove.{SoundMove};
 ghost use Rattle.pcm_base.specs.Counters.{commits_of, no_room};
 ghost use Rattle.block_ledger.specs.Counts.{occurrences};
-ghost use Rattle.block_ledger.specs.Entries.{count_of};
+ghost use Rattle.layout_uses.specs.Tallies.{uses_of};
+ghost use Rattle.row_ledger.specs.Lists.{counts_of, spare_of};
 ghost use Rattle.edit_ops.specs.Plans.{AreNew};
 ghost use Rattle.block_writer.specs.Brought.{MayBring};
 ghost use Rattle.block_writer.specs.Bringers.{StillBrings};
@@ -25,7 +26,7 @@ ghost use Rattle.editor_state.specs.Edits.{IsStill, MayServe, tagged_by};
 ghost use Rattle.editor_state.specs.Vaults.{IfCutShort, IsInsideOr};
 ghost use Rattle.editor_state.specs.Makes.{RefusedBrought};
 ghost use Rattle.editor_state.specs.Made.{AllInOrder, PiecesReadable};
-ghost use Rattle.editor_state.specs.Occurrences.{HasAll, HasIds, Moves};
+ghost use Rattle.editor_state.specs.Occurrences.{AreSingle, HasIds, Moves, MovesSingles};
 ghost use Rattle.editor_state.specs.Studios.{IsHeld, IsStudio, MayPaste, clip_blocks};
 ghost use Rattle.editor_state.specs.Took.{Took, as_reply, with_sound};
 
@@ -87,7 +88,7 @@ impl<S: Store> Studio<S> {
     // Makes room for this many blocks in the ledger, and for a point in the history.
     fn ready_counts(&mut self, count: u64) -> Result<(), NoMemory>
         ensures same { core_of self.new ≡ core_of self.old }
-        ensures spare { OnOk result (count ≤ self.new.tally.ledger.spare) }
+        ensures spare { OnOk result (count ≤ spare_of self.new.tally.ledger) }
         ensures point { OnOk result (length self.new.history.history.points < self.new.history.capacity) }
         ensures uses { OnOk result (MAX_TRACKS ≤ self.new.tally.uses.spare) }
     {
@@ -119,7 +120,7 @@ impl<S: Store> Studio<S> {
         ensures rows { OnOk result (AreWaiting self.new.row.items
             (all_bytes (core_of self.old) (writing more body.now))) }
         ensures room { OnOk result (1 + length self.new.row.items ≤ vec_capacity self.new.row) }
-        ensures spare { OnOk result (blocks ≤ self.new.tally.ledger.spare) }
+        ensures spare { OnOk result (blocks ≤ spare_of self.new.tally.ledger) }
         ensures point { OnOk result (length self.new.history.history.points < self.new.history.capacity) }
         ensures uses { OnOk result (MAX_TRACKS ≤ self.new.tally.uses.spare) }
         ensures layouts { OnOk result (self.old.next_layout + layouts ≤ COUNTER_LIMIT) }
@@ -179,15 +180,18 @@ impl<S: Store> Studio<S> {
 
     // Puts what an edit takes out, if anything, into the clipboard. It takes no memory.
     fn take_out(&mut self, clip: Option<Strips>)
-        requires there { HasIds (count_of self.old.tally.ledger) (clip_blocks (clip_then clip self.old.clipboard)) }
-        requires room { (id : ℕ) → occurrences (count_of self.old.tally.ledger id) < 2 ^ 102 }
+        requires there { HasIds (counts_of self.old.tally.ledger) (clip_blocks (clip_then clip self.old.clipboard)) }
+        requires room { (id : ℕ) → occurrences (counts_of self.old.tally.ledger id) < 2 ^ 102 }
         requires fits { MayPaste self.old.buffers (clip_then clip self.old.clipboard) }
-        requires named { HasAll (count_of self.old.tally.ledger) (clip_blocks self.old.clipboard) }
+        requires named { AreSingle self.old.tally.ledger (clip_blocks self.old.clipboard) }
         ensures fields { core_of self.new ≡ record (core_of self.old) {
           clipboard = clip_then clip self.old.clipboard;
-          counts = count_of self.new.tally.ledger;
+          uses = uses_of self.new.tally;
+          counts = counts_of self.new.tally.ledger;
         } }
-        ensures moves { Moves (count_of self.old.tally.ledger) (count_of self.new.tally.ledger)
+        ensures moves { Moves (counts_of self.old.tally.ledger) (counts_of self.new.tally.ledger)
+            (clip_blocks self.old.clipboard) (clip_blocks (clip_then clip self.old.clipboard)) }
+        ensures single { MovesSingles (uses_of self.old.tally) (uses_of self.new.tally)
             (clip_blocks self.old.clipboard) (clip_blocks (clip_then clip self.old.clipboard)) }
     {
         match clip {

@@ -5,7 +5,7 @@ ghost use Rattle.pcm_base.specs.declared.limits.TheConstants.{COUNTER_LIMIT, FIR
 ghost use Rattle.pcm_base.specs.Pieces.{total};
 ghost use Rattle.sample_block.specs.Spelling.{IsBlock};
 ghost use Rattle.block_cache.specs.Caches.{AllPass};
-ghost use Rattle.block_ledger.specs.Entries.{count_of};
+ghost use Rattle.row_ledger.specs.Lists.{counts_of, list_of, singles_of, spare_of};
 ghost use Rattle.block_writer.specs.Brought.{AreInOrder, MayBring};
 ghost use Rattle.block_writer.specs.Bringers.{StillBrings};
 ghost use Rattle.block_writer.specs.Reading.{AllReadable, AllThere};
@@ -17,18 +17,20 @@ ghost use Rattle.editor_state.specs.Makes.{NotMade, RefusedBrought, Syncs, Write
 ghost use Rattle.editor_state.specs.Given.{is_given};
 
 use super::studio::Studio;
-use block_ledger::Ledger;
 use block_writer::{Brings, MakeFault};
 use disk_model::Store;
 use edit_ops::NewBlock;
 use pcm_base::Refusal;
+use row_ledger::RowLedger;
 
 // The ledger has the id of a file that nothing names.
-fn count_free(ledger: &mut Ledger, id: u64)
-    requires spare { 0 < ledger.old.spare }
-    requires fresh { count_of ledger.old id ≡ None }
-    ensures counts { AddsFree id 1 (count_of ledger.old) (count_of ledger.new) }
-    ensures spare { ledger.old.spare ≤ ledger.new.spare + 1 }
+fn count_free(ledger: &mut RowLedger, id: u64)
+    requires spare { 0 < spare_of ledger.old }
+    requires fresh { counts_of ledger.old id ≡ None }
+    ensures counts { AddsFree id 1 (counts_of ledger.old) (counts_of ledger.new) }
+    ensures spare { spare_of ledger.old ≤ spare_of ledger.new + 1 }
+    ensures singles { (other : ℕ) → singles_of ledger.new other ≡ singles_of ledger.old other }
+    ensures lists { (number : ℕ) → list_of ledger.new number ≡ list_of ledger.old number }
 {
     ledger.hold(id);
     ledger.drop_one(id);
@@ -44,8 +46,8 @@ impl<S: Store> Studio<S> {
             → AreInOrder 0 (G.brings given.old).count block.now.pieces }
         requires total { total block.now.pieces ≡ block.now.len }
         requires size { block.now.len ≤ self.old.buffers }
-        requires spare { 0 < self.old.tally.ledger.spare }
-        requires fresh { count_of self.old.tally.ledger block.now.id ≡ None }
+        requires spare { 0 < spare_of self.old.tally.ledger }
+        requires fresh { counts_of self.old.tally.ledger block.now.id ≡ None }
         requires few { self.old.next_block < COUNTER_LIMIT }
         requires pages { AllPass (is_given self.old.next_block) self.old.reader.cache }
         ensures made { MatchResult result
@@ -60,7 +62,7 @@ impl<S: Store> Studio<S> {
             → IfErr result (IsDamageAmong (S.reads self.old.reader.store) block.now.pieces) }
         ensures still { StillBrings G.Brings given.old given.new }
         ensures given { RefusedBrought result (G.fault_count given.old) (G.fault_count given.new) }
-        ensures spare { self.old.tally.ledger.spare ≤ self.new.tally.ledger.spare + 1 }
+        ensures spare { spare_of self.old.tally.ledger ≤ spare_of self.new.tally.ledger + 1 }
         ensures history { self.new.history ≡ self.old.history }
         ensures body { self.new.body ≡ self.old.body }
         ensures row { self.new.row ≡ self.old.row }
@@ -91,8 +93,8 @@ impl<S: Store> Studio<S> {
         requires least { FIRST_BLOCK ≤ self.old.next_block }
         requires most { self.old.next_block + length makes.now ≤ COUNTER_LIMIT }
         requires size { self.old.buffers ≤ MAX_BLOCK_SAMPLES }
-        requires spare { length makes.now ≤ self.old.tally.ledger.spare }
-        requires below { (id : ℕ) → IsSome (count_of self.old.tally.ledger id) → id < self.old.next_block }
+        requires spare { length makes.now ≤ spare_of self.old.tally.ledger }
+        requires below { (id : ℕ) → IsSome (counts_of self.old.tally.ledger id) → id < self.old.next_block }
         requires pages { AllPass (is_given self.old.next_block) self.old.reader.cache }
         ensures written { (samples : ℕ → ℤ) × MayBring (G.brings given.old) samples
             × Writes S.Store (core_of self.old) (batch_of samples makes.now) result (core_of self.new) }
@@ -144,8 +146,8 @@ impl<S: Store> Studio<S> {
         requires least { FIRST_BLOCK ≤ self.old.next_block }
         requires most { self.old.next_block + length makes.now ≤ COUNTER_LIMIT }
         requires size { self.old.buffers ≤ MAX_BLOCK_SAMPLES }
-        requires spare { length makes.now ≤ self.old.tally.ledger.spare }
-        requires below { (id : ℕ) → IsSome (count_of self.old.tally.ledger id) → id < self.old.next_block }
+        requires spare { length makes.now ≤ spare_of self.old.tally.ledger }
+        requires below { (id : ℕ) → IsSome (counts_of self.old.tally.ledger id) → id < self.old.next_block }
         requires pages { AllPass (is_given self.old.next_block) self.old.reader.cache }
         ensures made { (samples : ℕ → ℤ) × MayBring (G.brings given.old) samples
             × Makes S.Store (core_of self.old) (batch_of samples makes.now) result (core_of self.new) }

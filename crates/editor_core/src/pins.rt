@@ -4,7 +4,7 @@ ghost use Rattle.pcm_base.specs.declared.answer.Reply.TheVariants as reply;
 ghost use Rattle.pcm_base.specs.declared.command.Call.TheVariants as call;
 ghost use Rattle.pcm_base.specs.declared.refusal.Refusal.TheVariants as refusal;
 ghost use Rattle.block_ledger.specs.Counts.{occurrences};
-ghost use Rattle.block_ledger.specs.Entries.{count_of};
+ghost use Rattle.row_ledger.specs.Lists.{counts_of};
 ghost use Rattle.envelope_view.specs.Answers.{IsUndamaged};
 ghost use Rattle.record_body.specs.Saved.{current_tracks};
 ghost use Rattle.layout_uses.specs.Layouts.{track_blocks};
@@ -41,12 +41,13 @@ fn take_pin(pins: &mut Vec<Pin>, number: u64) -> Option<Pin>
 // The current project uses its layouts once more.
 fn use_current(tally: &mut Tally, history: &History<Point>)
     requires room { length (current_tracks history.now.history) ≤ tally.old.uses.spare }
-    requires there { HasIds (count_of tally.old.ledger) (track_blocks (current_tracks history.now.history)) }
-    requires few { (id : ℕ) → occurrences (count_of tally.old.ledger id)
+    requires there { HasIds (counts_of tally.old.ledger) (track_blocks (current_tracks history.now.history)) }
+    requires few { (id : ℕ) → occurrences (counts_of tally.old.ledger id)
         + times_named id (track_blocks (current_tracks history.now.history)) < 2 ^ 128 }
     ensures { Comes (current_tracks history.now.history) tally.old tally.new }
 {
-    tally.use_point(current_of(history));
+    let current = current_of(history);
+    tally.use_point(current, current);
 }
 
 impl<S: Store> Studio<S> {

@@ -1,7 +1,7 @@
 // The files of blocks that nothing names.
 ghost use Rattle.std.specs.Prelude.{◌≡◌, ◌≤◌, ◌<◌, ◌^◌, ℕ, Some, IsSome};
 ghost use Rattle.pcm_base.specs.declared.limits.TheConstants.{COUNTER_LIMIT, FIRST_BLOCK};
-ghost use Rattle.block_ledger.specs.Entries.{count_of};
+ghost use Rattle.row_ledger.specs.Lists.{counts_of};
 ghost use Rattle.editor_core.specs.Core.{core_of};
 ghost use Rattle.editor_cleanup.specs.Frees.{Reclaims};
 ghost use Rattle.editor_cleanup.specs.Passes.{DropsFirst, ForgetsFirst, RemovesFirst, SyncsFirst};
@@ -43,8 +43,8 @@ impl<S: Store> Studio<S> {
     // Removes the files of the first blocks that nothing names, this many at most, and waits until they are gone. It
     // answers how many were removed, also where the disk failed.
     fn drop_first(&mut self, most: u64) -> (u64, Result<(), BlockFault>)
-        requires low { (id : ℕ) → IsSome (count_of self.old.tally.ledger id) → FIRST_BLOCK ≤ id }
-        requires high { (id : ℕ) → IsSome (count_of self.old.tally.ledger id) → id < COUNTER_LIMIT }
+        requires low { (id : ℕ) → IsSome (counts_of self.old.tally.ledger id) → FIRST_BLOCK ≤ id }
+        requires high { (id : ℕ) → IsSome (counts_of self.old.tally.ledger id) → id < COUNTER_LIMIT }
         ensures { DropsFirst S.Store (core_of self.old) most result.0 result.1 (core_of self.new) }
     {
         let (count, removed) = self.remove_first(most);
@@ -57,8 +57,8 @@ impl<S: Store> Studio<S> {
     // Removes the files of the first blocks that nothing names, this many at most, without a sync. It answers how many
     // were removed, also where the disk failed.
     fn remove_first(&mut self, most: u64) -> (u64, Result<(), BlockFault>)
-        requires low { (id : ℕ) → IsSome (count_of self.old.tally.ledger id) → FIRST_BLOCK ≤ id }
-        requires high { (id : ℕ) → IsSome (count_of self.old.tally.ledger id) → id < COUNTER_LIMIT }
+        requires low { (id : ℕ) → IsSome (counts_of self.old.tally.ledger id) → FIRST_BLOCK ≤ id }
+        requires high { (id : ℕ) → IsSome (counts_of self.old.tally.ledger id) → id < COUNTER_LIMIT }
         ensures { RemovesFirst S.Store (core_of self.old) 1 most result.0 result.1 (core_of self.new) }
     {
         let mut from = 0;
@@ -85,7 +85,7 @@ impl<S: Store> Studio<S> {
 
     // Syncs the files of the first blocks that nothing names, this many at most.
     fn sync_first(&mut self, count: u64) -> Result<(), BlockFault>
-        requires { (id : ℕ) → IsSome (count_of self.old.tally.ledger id) → id < COUNTER_LIMIT }
+        requires { (id : ℕ) → IsSome (counts_of self.old.tally.ledger id) → id < COUNTER_LIMIT }
         ensures { SyncsFirst S.Store (core_of self.old) count result (core_of self.new) }
     {
         let mut from = 0;

@@ -2,7 +2,8 @@
 ghost use Rattle.std.specs.Prelude.{◌≡◌, ℕ, ◌+◌, ◌≤◌, ◌<◌, ◌^◌, length};
 ghost use Rattle.pcm_base.specs.declared.limits.TheConstants.{COUNTER_LIMIT};
 ghost use Rattle.block_ledger.specs.Counts.{occurrences};
-ghost use Rattle.block_ledger.specs.Entries.{count_of};
+ghost use Rattle.row_ledger.specs.Lists.{counts_of};
+ghost use Rattle.layout_uses.specs.Tallies.{uses_of};
 ghost use Rattle.pcm_base.specs.History.{recorded};
 ghost use Rattle.layout_uses.specs.Layouts.{history_tracks, track_blocks};
 ghost use Rattle.layout_uses.specs.Occurrences.{HasIds, times_named};
@@ -19,9 +20,9 @@ use undo_history::History;
 #[tactic(auto, using(crate::proofs::PointCounts::becomes_in_place, crate::proofs::PointCounts::becomes_behind))]
 fn count_recorded(tally: &mut Tally, history: &History<Point>, point: &Point, tag: u64)
     requires room { length point.now ≤ tally.old.uses.spare }
-    requires there { HasIds (count_of tally.old.ledger) (track_blocks point.now) }
+    requires there { HasIds (counts_of tally.old.ledger) (track_blocks point.now) }
     requires few { (id : ℕ) →
-        occurrences (count_of tally.old.ledger id) + times_named id (track_blocks point.now) < 2 ^ 128 }
+        occurrences (counts_of tally.old.ledger id) + times_named id (track_blocks point.now) < 2 ^ 128 }
     requires counted { MayBecome point.now (history_tracks history.now.history) tally.old }
     ensures { Becomes point.now (history_tracks history.now.history)
         (history_tracks (recorded history.now.history point.now tag)) tally.old tally.new }
@@ -40,15 +41,15 @@ impl<S: Store> Studio<S> {
         requires ids { self.old.next_track + tracks ≤ COUNTER_LIMIT }
         requires layouts { self.old.next_layout + layouts ≤ COUNTER_LIMIT }
         requires uses { length point ≤ self.old.tally.uses.spare }
-        requires there { HasIds (count_of self.old.tally.ledger) (track_blocks point) }
+        requires there { HasIds (counts_of self.old.tally.ledger) (track_blocks point) }
         requires few { (id : ℕ) →
-            occurrences (count_of self.old.tally.ledger id) + times_named id (track_blocks point) < 2 ^ 128 }
+            occurrences (counts_of self.old.tally.ledger id) + times_named id (track_blocks point) < 2 ^ 128 }
         requires counted { MayBecome point (history_tracks self.old.history.history) self.old.tally }
         requires room { length self.old.history.history.points < self.old.history.capacity }
         ensures fields { core_of self.new ≡ record (core_of self.old) {
           history = recorded self.old.history.history point tag;
-          uses = count_of self.new.tally.uses;
-          counts = count_of self.new.tally.ledger;
+          uses = uses_of self.new.tally;
+          counts = counts_of self.new.tally.ledger;
           next_track = self.old.next_track + tracks;
           next_layout = self.old.next_layout + layouts;
         } }

@@ -4,7 +4,8 @@ ghost use Rattle.std.specs.Prelude.{◌≡◌, ℕ, ◌+◌, ◌≤◌, ◌<◌,
 ghost use Rattle.pcm_base.specs.declared.limits.TheConstants.{COUNTER_LIMIT, MAX_TRACKS};
 ghost use Rattle.block_cache.specs.Caches.{AllPass};
 ghost use Rattle.block_ledger.specs.Counts.{occurrences};
-ghost use Rattle.block_ledger.specs.Entries.{count_of};
+ghost use Rattle.row_ledger.specs.Lists.{counts_of};
+ghost use Rattle.layout_uses.specs.Tallies.{uses_of};
 ghost use Rattle.pcm_base.specs.History.{edited};
 ghost use Rattle.record_body.specs.Saved.{current_tracks};
 ghost use Rattle.project_state.specs.Numbers.{AgreeById};
@@ -94,15 +95,15 @@ impl<S: Store> Studio<S> {
         requires ids { self.old.next_track + tracks ≤ COUNTER_LIMIT }
         requires layouts { self.old.next_layout + layouts ≤ COUNTER_LIMIT }
         requires uses { length point ≤ self.old.tally.uses.spare }
-        requires there { HasIds (count_of self.old.tally.ledger) (track_blocks point) }
+        requires there { HasIds (counts_of self.old.tally.ledger) (track_blocks point) }
         requires few { (id : ℕ) →
-            occurrences (count_of self.old.tally.ledger id) + times_named id (track_blocks point) < 2 ^ 128 }
+            occurrences (counts_of self.old.tally.ledger id) + times_named id (track_blocks point) < 2 ^ 128 }
         requires counted { MayBecome point (history_tracks self.old.history.history) self.old.tally }
         requires room { length self.old.history.history.points < self.old.history.capacity }
         ensures fields { core_of self.new ≡ record (core_of self.old) {
           history = edited self.old.history.history point 0;
-          uses = count_of self.new.tally.uses;
-          counts = count_of self.new.tally.ledger;
+          uses = uses_of self.new.tally;
+          counts = counts_of self.new.tally.ledger;
           next_track = self.old.next_track + tracks;
           next_layout = self.old.next_layout + layouts;
         } }

@@ -2,6 +2,7 @@
 use Rattle.editor_edits.proofs.Common.{◌≡◌, ℕ, suc, ◌+◌, List, [], length, Option, Result, rules, Refusal, History}
 use Rattle.editor_edits.proofs.Common.{Counts, Item, Ghosts, NewBlock, Body, Edit, Track, Writing, all_bytes, whole_len}
 use Rattle.editor_edits.proofs.Common.{Core, BlockCommit, Carried, TaggedEdit}
+use Rattle.layout_uses.specs.Tallies.{Uses}
 
 -- the project that a record tells
 abbrev pub body_point : Body → List Track
@@ -45,7 +46,7 @@ added_to s store len commits = record s {
 }
 
 abbrev pub edited_with : {D : Type 0} → Core D → History (List Track) → Option (List (List Item))
-    → (uses counts : Counts) → (next_track next_layout : ℕ) → Core D
+    → (uses : Uses) (counts : Counts) → (next_track next_layout : ℕ) → Core D
 edited_with s history clip uses counts next_track next_layout = record s {
   history = history;
   clipboard = clip;

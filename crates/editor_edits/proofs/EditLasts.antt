@@ -31,6 +31,7 @@ use Rattle.editor_blocks.proofs.BlocksLeft.{unput_left}
 use Rattle.editor_blocks.proofs.StudioBlocks.{with_store}
 use Rattle.editor_blocks.proofs.BlocksWritten.{making_unread}
 use Rattle.pcm_base.specs.declared.refusal.Refusal.TheVariants as refusal
+use Rattle.layout_uses.specs.Tallies.{Uses}
 
 -- ---- the studio after it
 
@@ -178,7 +179,7 @@ module _ {D : Type 0} (disk : Ghosts D) (s : Core D) (is : IsStudio disk s) (goi
 
     -- they were
     module _ {Q : Type 0} (q : Q) (new : Core D) (adds : AddsBody disk mid writes (Ok q) new)
-        (h' : History (List Track)) (uses' counts' : Counts) (next_track next_layout : ℕ)
+        (h' : History (List Track)) (uses' : Uses) (counts' : Counts) (next_track next_layout : ℕ)
         (moved : h' ≡ h) (tracked : next_track ≡ track_then)
         (after : CountsAfter s.pins h clip next_layout counts uses' counts') where
       abbrev done : Core D
@@ -244,7 +245,7 @@ module _ {D : Type 0} (disk : Ghosts D) (s : Core D) (is : IsStudio disk s) (goi
       carried
 
   pub lasts_ok : (done : Unit {0}) (new : Core D) (it : Committed disk s (commit_of s e) (Ok done) new)
-      (h' : History (List Track)) (uses' counts' : Counts) (next_track next_layout : ℕ)
+      (h' : History (List Track)) (uses' : Uses) (counts' : Counts) (next_track next_layout : ℕ)
       → h' ≡ h → next_track ≡ track_then
       → CountsAfter s.pins h clip next_layout it.mid.counts uses' counts'
       → Lasts disk s (with_sound c sound (Ok Done))

@@ -23,6 +23,7 @@ use Rattle.editor_state.proofs.Calls.FileRemovals.{commit_leaves_journal}
 use Rattle.editor_state.proofs.{Calls.CallPremises.TookWhere, Refusals.CommitTests.nothing}
 use Rattle.pcm_base.specs.declared.refusal.Refusal.TheVariants as refusal
 use Rattle.pcm_base.specs.Studio as model
+use Rattle.layout_uses.specs.Tallies.{Uses}
 
 module _ {D : Type 0} (disk : Ghosts D) (s : Core D) (is : IsStudio disk s) (going : s.stopped ≡ None)
     (e : TaggedEdit) (plan : IsPlanned s e) (c : Call) (sound : SoundMove) (edit : IsEdit disk s c sound e)
@@ -164,7 +165,7 @@ module _ {D : Type 0} (disk : Ghosts D) (s : Core D) (is : IsStudio disk s) (goi
 
     -- they were
     module _ {Q : Type 0} (q : Q) (new : Core D) (adds : AddsBody disk mid writes (Ok q) new)
-        (h' : History (List Track)) (uses' counts' : Counts) (next_track next_layout : ℕ)
+        (h' : History (List Track)) (uses' : Uses) (counts' : Counts) (next_track next_layout : ℕ)
         (moved : h' ≡ h) (tracked : next_track ≡ track_then)
         (after : CountsAfter s.pins h clip next_layout counts uses' counts')
         (drawn : next_layout ≡ s.next_layout + e.plan.layouts) where
@@ -246,7 +247,7 @@ module _ {D : Type 0} (disk : Ghosts D) (s : Core D) (is : IsStudio disk s) (goi
       carried
 
   pub edit_ok : (done : Unit {0}) (new : Core D) (it : Committed disk s (commit_of s e) (Ok done) new)
-      (h' : History (List Track)) (uses' counts' : Counts) (next_track next_layout : ℕ)
+      (h' : History (List Track)) (uses' : Uses) (counts' : Counts) (next_track next_layout : ℕ)
       → h' ≡ h → next_track ≡ track_then
       → CountsAfter s.pins h clip next_layout it.mid.counts uses' counts'
       → next_layout ≡ s.next_layout + e.plan.layouts

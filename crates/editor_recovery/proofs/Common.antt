@@ -1,5 +1,4 @@
 -- Names that several proofs of this crate use, from where they are declared.
-pub use Rattle.block_ledger.specs.Entries.{count_of}
 pub use Rattle.block_store.specs.declared.fault.BlockFault.{BlockFault}
 pub use Rattle.clip_track.specs.{Clips.layout_blocks, declared.clips.Clip.Clip}
 pub use Rattle.disk_model.proofs.Frames.{changed_kept, kept_none, kept_turn}
@@ -40,6 +39,7 @@ pub use Rattle.project_state.specs.{declared.track.Track.Track, Meaning.history_
 pub use Rattle.record_body.proofs.{Unnumbered.history_blocks_alike, SavedBounds.IsBlockRef, SavedBounds.all_append}
 pub use Rattle.record_body.specs.Saved.{Begins, Keeps, LeadIn, Saved, opened, version_of}
 pub use Rattle.record_body.specs.SavedValid.{IsValidTagged}
+pub use Rattle.row_ledger.specs.Lists.{counts_of}
 pub use Rattle.sample_block.specs.{Blocks.blocks, Sources.IsWhole, Sources.sources_of, Spelling.IsBlock}
 pub use Rattle.sample_block.specs.{Spelling.size_of}
 pub use Rattle.std.proofs.Common.{Bool, Err, List, None, Ok, Option, Result, Some, [], ap, arith, cond, drop, false}

@@ -1,12 +1,12 @@
 -- The counts of files, and of the layouts of a history.
 use Rattle.editor_recovery.proofs.Common.{◌≡◌, ℕ, ◌+◌, ◌≤◌, ◌<◌, ◌^◌, ⊎_elim, List, [], ◌∷◌, length}
 use Rattle.editor_recovery.proofs.Common.{None, refl, ap, subst, arith, Contains, IsSome, find, if◌then◌else◌}
-use Rattle.editor_recovery.proofs.Common.{AllByRecursion, BlockRef, History, Files, count_of, Track, history_blocks}
+use Rattle.editor_recovery.proofs.Common.{AllByRecursion, BlockRef, History, Files, counts_of, Track, history_blocks}
 use Rattle.editor_recovery.proofs.Common.{point_blocks, IsValidTagged, history_tracks, times_named, is_foreign, IsAbove}
 use Rattle.editor_recovery.proofs.Common.{AreFiles, inl, inr}
 use Rattle.std.proofs.{lemmas.Bool.Decides.eqb_tells, lemmas.List.append-nil}
 use Rattle.block_ledger.specs.{Counts.Counts, Counts.occurrences}
-use Rattle.layout_uses.specs.Tallies.{AreCounts, Comes, IsTally}
+use Rattle.layout_uses.specs.Tallies.{AreCounts, Comes, IsTally, Uses}
 use Rattle.layout_uses.specs.{declared.tally.Tally.Tally, Layouts.track_blocks, Occurrences.HasIds}
 use Rattle.editor_state.specs.Studios.{IsGiven}
 use Rattle.editor_state.proofs.Blocks.BlockNumbers.{named_most, point_few}
@@ -26,12 +26,16 @@ noted_some : (files : List ℕ) (counts : Counts) → AreNoted files counts → 
 noted_some files counts noted id there low = rw (noted.there id there low) refl
 
 -- nothing is used, and nothing named
-pub noted_tally : (files : List ℕ) (uses counts : Counts) → ((n : ℕ) → uses n ≡ None) → AreNoted files counts
+pub noted_tally : (files : List ℕ) (uses : Uses) (counts : Counts) → ((n : ℕ) → uses.counts n ≡ None)
+    → ((n : ℕ) → uses.lists n ≡ None) → ((id : ℕ) → uses.singles id ≡ 0) → AreNoted files counts
     → AreCounts [] [] uses counts
-noted_tally files uses counts none noted = record {
+noted_tally files uses counts none lists singles noted = record {
   fresh_uses = λ n. ap occurrences (none n);
   none_free = λ n free. absurd (cc (none n));
   fresh_counts = λ id. noted_zero files counts noted id;
+  listed = tt;
+  no_other = λ n absent. lists n;
+  singles = singles;
 }
 
 -- ---- the blocks of a history
@@ -69,10 +73,10 @@ pub tally_then : (h : History (List Track)) (old new : Tally) → length (histor
     → Comes (history_tracks h) old new → IsTally (history_tracks h) [] new
 tally_then h old new few was comes = rw append-nil at (comes.counted [] [] (omega (arith, few)) was)
 
-pub counted_then : (files : List ℕ) (tracks : List Track) (old new : Tally) → AreNoted files (count_of old.ledger)
-    → Comes tracks old new → AreCounted files (count_of new.ledger)
+pub counted_then : (files : List ℕ) (tracks : List Track) (old new : Tally) → AreNoted files (counts_of old.ledger)
+    → Comes tracks old new → AreCounted files (counts_of new.ledger)
 counted_then files tracks old new noted comes = record {
-  there = λ id there low. (comes.ids id).1 (noted_some files (count_of old.ledger) noted id there low);
+  there = λ id there low. (comes.ids id).1 (noted_some files (counts_of old.ledger) noted id there low);
   only = λ id some. elim (noted.only id)
       [ inl none ↦ absurd (cc (rw none at ((comes.ids id).0 some))) | inr is ↦ (is.1, is.2) ];
 }

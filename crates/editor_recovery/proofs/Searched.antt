@@ -1,14 +1,16 @@
--- Blocks that were searched bring nothing new, and so do layouts whose numbers the point before has.
+-- Blocks and rows that were searched bring nothing new, and the tracks of two points of one history agree.
 use Rattle.editor_recovery.proofs.Common.{◌≡◌, ◌==◌, ℕ, zero, suc, ◌+◌, Bool, true, false, inl, inr, ◌⊎◌, ⊎_elim, List}
 use Rattle.editor_recovery.proofs.Common.{[], ◌∷◌, Option, Some, None, refl, sym, ap, subst, ◌∙◌, arith, eqb-true}
 use Rattle.editor_recovery.proofs.Common.{nat_lt, nat_le, ◌&&◌, if◌then◌else◌, slice_get, AllByRecursion, BlockRef}
 use Rattle.editor_recovery.proofs.Common.{size_of, Clip, layout_blocks, Track, point_blocks, all_parts, some_is}
 use Rattle.editor_recovery.proofs.Common.{AgreesWith, IsUpTo, is_up_to, earlier, one_more, first_wrong, AreSearched}
+use Rattle.editor_recovery.proofs.Common.{Contains}
 use Rattle.std.proofs.lemmas.Bool.{and_from, or_left, or_right, eq-eqb, lt-ltb, le-leb}
 use Rattle.block_sequence.specs.Rows.{flat}
-use Rattle.layout_uses.specs.{Laws.AreAmong, Laws.IsAmong, Layouts.AreNumbered}
+use Rattle.layout_uses.specs.{Laws.AreAmong, Layouts.AreNumbered}
 use Rattle.layout_uses.proofs.Numbers.{among_agrees, agrees_one}
 use Rattle.editor_recovery.specs.Sizes.{IsSearched}
+use Rattle.editor_recovery.proofs.Listed.{contains_cons, contains_none}
 use Rattle.editor_recovery.proofs.Wrong.{IsRight, order_trans, earlier_new, earlier_old}
 
 -- ---- one block
@@ -104,6 +106,20 @@ row_part Q (s ∷ ss) zero r here all =
     let same : s ≡ r = cc in subst (AllByRecursion Q) same (all_parts Q s (flat ss) all).0
 row_part Q (s ∷ ss) (suc i) r here all = row_part Q ss i r here (all_parts Q s (flat ss) all).1
 
+pub row_held : (Q : BlockRef → Type 0) (rs : List (List BlockRef)) (r : List BlockRef) → Contains rs r
+    → AllByRecursion Q (flat rs) → AllByRecursion Q r
+row_held Q [] r has all = absurd (contains_none r has)
+row_held Q (s ∷ ss) r has all =
+    let parts = all_parts Q s (flat ss) all in
+    elim (contains_cons s ss r has)
+    [ inl same ↦ subst (AllByRecursion Q) same parts.0 | inr there ↦ row_held Q ss r there parts.1 ]
+
+-- a row that was searched brings nothing new
+pub row_searched : (sizes : ℕ → ℕ) (found : Option BlockRef) (rs : List (List BlockRef)) (r : List BlockRef)
+    → Contains rs r → AreSearched sizes found (flat rs) → first_wrong sizes found r ≡ found
+row_searched sizes found rs r has searched =
+    nothing_new sizes found r (row_held (IsSearched sizes found) rs r has searched)
+
 pub clip_part : (Q : BlockRef → Type 0) (cs : List Clip) (i : ℕ) (c : Clip) → slice_get cs i ≡ Some c
     → AllByRecursion Q (layout_blocks cs) → AllByRecursion Q c.blocks
 clip_part Q [] i c here all = absurd cc
@@ -143,20 +159,6 @@ agree_points (x ∷ xs) ys ts numbered these those = (
 pub agree_none : (ts : List Track) → AllByRecursion (λ (t : Track). AgreesWith t []) ts
 agree_none [] = tt
 agree_none (t ∷ ts) = (tt, agree_none ts)
-
--- a layout that the point before has brings nothing new
-pub layout_searched : (sizes : ℕ → ℕ) (found : Option BlockRef) (before : List Track) (t u : Track)
-    → AgreesWith t before → AreSearched sizes found (point_blocks before) → IsAmong u before → u.number ≡ t.number
-    → first_wrong sizes found (layout_blocks t.layout) ≡ found
-layout_searched sizes found [] t u agree searched among same = absurd among
-layout_searched sizes found (v ∷ vs) t u agree searched among same =
-    let parts = all_parts (IsSearched sizes found) (layout_blocks v.layout) (point_blocks vs) searched in
-    elim among [
-      | inl is ↦
-          let number : t.number ≡ v.number = sym same ∙ ap (λ (x : Track). x.number) (sym is) in
-          nothing_new sizes found (layout_blocks t.layout) (rw (agree.0 number) parts.0)
-      | inr there ↦ layout_searched sizes found vs t u agree.1 parts.1 there same
-    ]
 
 -- ---- the point that was searched last
 

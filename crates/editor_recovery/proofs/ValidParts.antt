@@ -1,6 +1,6 @@
 -- The parts of a valid project are valid.
 use Rattle.editor_recovery.proofs.Common.{◌≡◌, ℕ, ◌≤◌, List, Result, Ok, Err, sym, ap, ◌∙◌, arith}
-use Rattle.editor_recovery.proofs.Common.{recursion_from_All, IfOk, find, All, count_of}
+use Rattle.editor_recovery.proofs.Common.{recursion_from_All, IfOk, find, All, counts_of}
 use Rattle.editor_recovery.proofs.Common.{history_blocks, Track, HaveOneLength, is_foreign, Folded, OpenFault}
 use Rattle.editor_recovery.proofs.Common.{ArePartsOf, IsValidFolded, History, IsValidTagged, Parts, None}
 use Rattle.std.proofs.lemmas.List.Elements.{All-weaker}
@@ -77,7 +77,7 @@ valid_parts files f p is known one are =
         numbered = numbers.numbered;
         drawn = numbers.drawn;
         counted = are.counted;
-        given = given files (count_of p.tally.ledger) project.next_block p.next_block are.ledger known are.next_block;
+        given = given files (counts_of p.tally.ledger) project.next_block p.next_block are.ledger known are.next_block;
       };
       one_length = rw are.history one;
     }

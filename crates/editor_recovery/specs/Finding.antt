@@ -6,7 +6,7 @@ use Rattle.disk_model.specs.{Disk.Files, declared.store.Store.Ghosts}
 use Rattle.sample_block.specs.Spelling.{size_of}
 use Rattle.project_journal.specs.{declared.fault.JournalFault.JournalFault, Header.Form, Header.IsFormat}
 use Rattle.project_journal.specs.{Journal.Contents, Journal.body_at, Journal.log_of, Reader.IsStored}
-use Rattle.block_ledger.specs.Entries.{count_of}
+use Rattle.row_ledger.specs.Lists.{counts_of}
 use Rattle.record_body.specs.Saved.{Begins, LeadIn, version_of}
 use Rattle.layout_uses.specs.{Layouts.history_tracks, Tallies.IsTally}
 use Rattle.journal_replay.specs.Folds.{saved_of, HasLayoutNumbers, IsValid}
@@ -89,7 +89,7 @@ pub record ArePartsOf (files : List ℕ) (f : Folded) (p : Parts) : Type 0 where
   pub history : p.history.history ≡ f.project.numbered.history.history
   pub next_layout : p.next_layout ≡ f.project.numbered.next
   pub counted : IsTally (history_tracks p.history.history) [] p.tally
-  pub ledger : AreCounted files (count_of p.tally.ledger)
+  pub ledger : AreCounted files (counts_of p.tally.ledger)
   pub next_block : IsAbove files f.project.next_block p.next_block
   pub bound : p.next_block ≤ COUNTER_LIMIT
   pub next_track : p.next_track ≡ f.project.next_track

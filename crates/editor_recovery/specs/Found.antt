@@ -1,7 +1,9 @@
 -- What opening finds of a project, as its parts show it and a studio of them.
 use Rattle.std.specs.Prelude.{◌≡◌, ℕ, List, [], None, Result, Ok, Err}
 use Rattle.pcm_base.specs.History.{History}
-use Rattle.block_ledger.specs.{Counts.Counts, Entries.count_of}
+use Rattle.block_ledger.specs.Counts.{Counts}
+use Rattle.row_ledger.specs.Lists.{counts_of}
+use Rattle.layout_uses.specs.{Tallies.Uses, Tallies.uses_of}
 use Rattle.project_state.specs.declared.track.Track.{Track}
 use Rattle.editor_state.specs.Core.{Core}
 use Rattle.editor_core.specs.declared.assembly.Parts.{Parts}
@@ -13,7 +15,7 @@ pub record Found : Type 0 where
   pub block_size : ℕ
   pub history : History (List Track)
   -- how often points use each layout, and how often the layouts that are used name each block
-  pub uses : Counts
+  pub uses : Uses
   pub counts : Counts
   pub next_block : ℕ
   pub next_track : ℕ
@@ -30,8 +32,8 @@ found_in p = record {
   rate = p.rate;
   block_size = p.block_size;
   history = p.history.history;
-  uses = count_of p.tally.uses;
-  counts = count_of p.tally.ledger;
+  uses = uses_of p.tally;
+  counts = counts_of p.tally.ledger;
   next_block = p.next_block;
   next_track = p.next_track;
   next_layout = p.next_layout;

@@ -1,14 +1,13 @@
 // The sizes of the files of a disk, and the first block whose file has not its size.
-ghost use Rattle.std.specs.Prelude.{◌≡◌, ◌≤◌, ◌==◌, ℕ, None, IsTrue, OnOk, if◌then◌else◌};
+ghost use Rattle.std.specs.Prelude.{◌≡◌, ◌≤◌, ◌==◌, ℕ, Option, None, Contains, IsTrue, OnOk, if◌then◌else◌};
 ghost use Rattle.std.specs.List.{All, AllByRecursion};
+ghost use Rattle.pcm_base.specs.declared.block.BlockRef.{BlockRef};
 ghost use Rattle.pcm_base.specs.declared.limits.TheConstants.{MAX_BLOCK_SAMPLES};
 ghost use Rattle.sample_block.specs.Spelling.{IsBlock};
 ghost use Rattle.block_sequence.specs.Rows.{flat};
 ghost use Rattle.clip_track.specs.Clips.{layout_blocks};
 ghost use Rattle.project_state.specs.Meaning.{point_blocks, history_blocks};
-ghost use Rattle.project_state.specs.declared.track.Track.{Track};
-ghost use Rattle.layout_uses.specs.Laws.{IsAmong};
-ghost use Rattle.layout_uses.specs.Layouts.{AgreesWith, AreNumbered, history_tracks};
+ghost use Rattle.layout_uses.specs.Layouts.{Agree, AgreesWith, AreNumbered, history_tracks};
 ghost use Rattle.editor_recovery.specs.Measured.{size_in};
 ghost use Rattle.editor_recovery.specs.Sizes.{AreSearched, earlier, first_wrong, one_more};
 
@@ -87,45 +86,125 @@ fn wrong_among(sizes: &Sizes, found: Option<BlockRef>, blocks: &[BlockRef]) -> O
     found
 }
 
-// The search goes on through rows.
-fn wrong_rows(sizes: &Sizes, found: Option<BlockRef>, rows: &[Row]) -> Option<BlockRef>
-    requires { All (λ b. IsBlock b.id b.len) (flat rows.now) }
+// Whether the same references stand in both.
+fn is_same(a: &[BlockRef], b: &[BlockRef]) -> bool
+    ensures { IsTrue result → a.now ≡ b.now }
+{
+    if a.len() != b.len() {
+        return false;
+    }
+    for i in 0..a.len() {
+        if a[i].id != b[i].id || a[i].len != b[i].len {
+            return false;
+        }
+    }
+    true
+}
+
+// Whether the row at a place, if one is there, has these references.
+fn has_at(rows: &[Row], place: usize, blocks: &[BlockRef]) -> bool
+    ensures { IsTrue result → Contains rows.now blocks.now }
+{
+    place < rows.len() && is_same(rows[place].as_slice(), blocks)
+}
+
+// Whether the row at the place `front`, or the one at the place `back` from the end, has these references.
+fn has_row(rows: &[Row], front: usize, back: usize, blocks: &[BlockRef]) -> bool
+    ensures { IsTrue result → Contains rows.now blocks.now }
+{
+    if has_at(rows, front, blocks) {
+        return true;
+    }
+    back <= rows.len() && has_at(rows, rows.len() - back, blocks)
+}
+
+// The search goes on through a row, unless a row that was searched has the same references.
+fn wrong_row(
+    sizes: &Sizes,
+    found: Option<BlockRef>,
+    blocks: &[BlockRef],
+    olds: &[Row],
+    front: usize,
+    back: usize,
+) -> Option<BlockRef>
+    requires blocks { All (λ b. IsBlock b.id b.len) blocks.now }
+    requires searched { AreSearched (size_in sizes.now) found (flat olds.now) }
+    ensures { result ≡ first_wrong (size_in sizes.now) found blocks.now }
+{
+    if has_row(olds, front, back, blocks) {
+        return found;
+    }
+    wrong_among(sizes, found, blocks)
+}
+
+// The search goes on through rows, after those of an old clip.
+fn wrong_rows(
+    sizes: &Sizes,
+    found: Option<BlockRef>,
+    rows: &[Row],
+    olds: &[Row],
+) -> Option<BlockRef>
+    requires blocks { All (λ b. IsBlock b.id b.len) (flat rows.now) }
+    requires searched { AreSearched (size_in sizes.now) found (flat olds.now) }
     ensures { result ≡ first_wrong (size_in sizes.now) found (flat rows.now) }
 {
     let mut found = found;
-    for row in rows {
-        found = wrong_among(sizes, found, row.as_slice());
+    let len = rows.len();
+    for i in 0..len {
+        found = wrong_row(sizes, found, rows[i].as_slice(), olds, i, len - i);
     }
     found
 }
 
-// The search goes on through clips.
-fn wrong_clips(sizes: &Sizes, found: Option<BlockRef>, clips: &[Clip]) -> Option<BlockRef>
-    requires { All (λ b. IsBlock b.id b.len) (layout_blocks clips.now) }
+// The rows of the clip at a place, or none.
+fn rows_at(clips: &[Clip], place: usize) -> &[Row]
+    ensures { (sizes : ℕ → ℕ) (found : Option BlockRef) → AreSearched sizes found (layout_blocks clips.now)
+        → AreSearched sizes found (flat result.now) }
+{
+    if place < clips.len() {
+        clips[place].blocks.rows()
+    } else {
+        &[]
+    }
+}
+
+// The search goes on through clips, after the old ones.
+fn wrong_clips(
+    sizes: &Sizes,
+    found: Option<BlockRef>,
+    clips: &[Clip],
+    olds: &[Clip],
+) -> Option<BlockRef>
+    requires blocks { All (λ b. IsBlock b.id b.len) (layout_blocks clips.now) }
+    requires searched { AreSearched (size_in sizes.now) found (layout_blocks olds.now) }
     ensures { result ≡ first_wrong (size_in sizes.now) found (layout_blocks clips.now) }
 {
     let mut found = found;
-    for clip in clips {
-        found = wrong_rows(sizes, found, clip.blocks.rows());
+    for i in 0..clips.len() {
+        found = wrong_rows(sizes, found, clips[i].blocks.rows(), rows_at(olds, i));
     }
     found
 }
 
-// Whether the track of the same id, which the point before has at the place `first` mostly, has the same number.
-fn is_as_before(before: &Point, first: usize, track: &Track) -> bool
-    ensures { IsTrue result → (t : Track) × IsAmong t before.now × (t.number ≡ track.now.number) }
+// The search goes on through a layout, after that of the old track. Layouts of one number are the same.
+fn wrong_layout(
+    sizes: &Sizes,
+    found: Option<BlockRef>,
+    old: &Track,
+    track: &Track,
+) -> Option<BlockRef>
+    requires blocks { All (λ b. IsBlock b.id b.len) (layout_blocks track.now.layout) }
+    requires numbered { Agree track.now old.now }
+    requires searched { AreSearched (size_in sizes.now) found (layout_blocks old.now.layout) }
+    ensures { result ≡ first_wrong (size_in sizes.now) found (layout_blocks track.now.layout) }
 {
-    let Some(i) = before.place_of(track.id, first) else {
-        return false;
-    };
-    let old = before.track_at(i);
     if old.number == track.number {
-        return true;
+        return found;
     }
-    false
+    wrong_clips(sizes, found, track.layout.as_slice(), old.layout.as_slice())
 }
 
-// The search goes on through a track. A layout that the point before has, by its number, was searched with that point.
+// The search goes on through a track. The point before has that of the same id at the place `first` mostly.
 fn wrong_track(
     sizes: &Sizes,
     found: Option<BlockRef>,
@@ -138,10 +217,10 @@ fn wrong_track(
     requires searched { AreSearched (size_in sizes.now) found (point_blocks before.now) }
     ensures { result ≡ first_wrong (size_in sizes.now) found (layout_blocks track.now.layout) }
 {
-    if is_as_before(before, first, track) {
-        return found;
-    }
-    wrong_clips(sizes, found, track.layout.as_slice())
+    let Some(i) = before.place_of(track.id, first) else {
+        return wrong_clips(sizes, found, track.layout.as_slice(), &[]);
+    };
+    wrong_layout(sizes, found, before.track_at(i), track)
 }
 
 // The search goes on through a point, after the one before it.
@@ -173,7 +252,7 @@ fn wrong_first(alloc: Global, sizes: &Sizes, point: &Point) -> Option<BlockRef>
 }
 
 /// The first block that a point names whose file has not its size. A layout that a point shares with the one before it
-/// is searched once. It takes no memory.
+/// is searched once, and so is a row of references that stands at its place in both. It takes no memory.
 pub(crate) fn wrong_block(
     alloc: Global,
     history: &History<Point>,

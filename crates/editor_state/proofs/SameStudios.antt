@@ -5,6 +5,7 @@ use Rattle.editor_state.proofs.Common.{IsGiven, IsStudio, SameBlocks, clip_block
 use Rattle.editor_state.proofs.Common.{studio_tracks}
 use Rattle.pcm_base.specs.declared.limits.TheConstants.{FIRST_BLOCK}
 use Rattle.project_journal.specs.{Journal.IsAt}
+use Rattle.layout_uses.specs.Tallies.{Uses}
 
 module _ {D : Type 0} (disk : Ghosts D) (s : Core D) (is : IsStudio disk s) (store : D) where
   pub studio_with : (cache : Entries) (counts : Counts) (stopped : Option ℕ)
@@ -19,7 +20,7 @@ module _ {D : Type 0} (disk : Ghosts D) (s : Core D) (is : IsStudio disk s) (sto
 
 -- a studio over another store, by what it names and keeps in memory
 abbrev pub over_store : {D : Type 0} → Core D → D → Entries → Option ℕ → (next : ℕ) → Option (List (List Item))
-    → List Pin → (next_pin : ℕ) → (uses counts : Counts) → Core D
+    → List Pin → (next_pin : ℕ) → (uses : Uses) → (counts : Counts) → Core D
 over_store s store cache stopped next clip pins next_pin uses counts = record s {
   store = store;
   cache = cache;
@@ -34,7 +35,8 @@ over_store s store cache stopped next clip pins next_pin uses counts = record s 
 
 -- its journal leads to the same history, where the store still has that journal, and the blocks and files
 pub durable_so : {D : Type 0} (disk : Ghosts D) (s : Core D) (store : D) (cache : Entries) (stopped : Option ℕ)
-    (next : ℕ) (clip : Option (List (List Item))) (pins : List Pin) (next_pin : ℕ) (uses counts : Counts)
+    (next : ℕ) (clip : Option (List (List Item))) (pins : List Pin) (next_pin : ℕ) (uses : Uses)
+    (counts : Counts)
     (d : IsDurable disk s) → IsAt (form_at s) disk store s.journal_end d.log → s.next_block ≤ next
     → EachNow disk store
     (SameBlocks (named_blocks (over_store s store cache stopped next clip pins next_pin uses counts)) (disk.reads store))

@@ -6,6 +6,7 @@ use Rattle.block_ledger.specs.Counts.{Counts}
 use Rattle.clip_track.specs.declared.items.Item.{Item}
 use Rattle.project_journal.specs.Header.{Form, form_of}
 use Rattle.project_state.specs.declared.track.Track.{Track}
+use Rattle.layout_uses.specs.Tallies.{Uses}
 use Rattle.editor_state.specs.declared.pin.Pin.{Pin}
 
 pub record Core (D : Type 0) : Type 0 where
@@ -15,8 +16,8 @@ pub record Core (D : Type 0) : Type 0 where
   pub history : History (List Track)
   pub clipboard : Option (List (List Item))
   pub pins : List Pin
-  -- how often each layout is used, and each block is named
-  pub uses : Counts
+  -- how often each layout is used, which have a list, and what is named by itself; and how often each block is named
+  pub uses : Uses
   pub counts : Counts
   pub next_block : ℕ
   pub next_track : ℕ

@@ -14,7 +14,9 @@ use Rattle.pcm_base.specs.{declared.answer.Reply.TheVariants.Copied}
 use Rattle.sample_block.specs.Sources.{sources_of}
 use Rattle.block_ledger.specs.Counts.{Counts, occurrences}
 use Rattle.editor_state.specs.Studios.{studio_tracks}
-use Rattle.editor_state.specs.{Occurrences.HasAll, Occurrences.Moves}
+use Rattle.editor_state.specs.{Occurrences.HasAll, Occurrences.Moves, Occurrences.MovesSingles, Occurrences.times_named}
+use Rattle.editor_state.proofs.Blocks.NamedBlocks.{others_single}
+use Rattle.layout_uses.specs.Tallies.{Uses}
 use Rattle.editor_state.proofs.Blocks.NamedBlocks.{counted_most, others_counted, others_moved}
 use Rattle.editor_state.proofs.Calls.NameChanges.{renamed, Renames, renamed_took}
 use Rattle.editor_state.proofs.Calls.QuietCalls.{IsQuiet, quiet_passes, carried, room_of, refused_own, refused_stopped}
@@ -42,6 +44,10 @@ module _ {D : Type 0} (disk : Ghosts D) (s : Core D) (is : IsStudio disk s) wher
   -- the clipboard's blocks are counted
   pub clip_counted : HasAll s.counts (clip_blocks s.clipboard)
   clip_counted = others_counted (studio_tracks s) (clip_blocks s.clipboard) s.uses s.counts is.counted
+
+  -- and named by themselves
+  pub clip_single : (id : ℕ) → times_named id (clip_blocks s.clipboard) ≤ s.uses.singles id
+  clip_single = others_single (studio_tracks s) (clip_blocks s.clipboard) s.uses s.counts is.counted
 
   -- the counts have room
   pub clip_room : (b : ℕ) → occurrences (s.counts b) < 2 ^ 102
@@ -131,12 +137,14 @@ module _ {D : Type 0} (disk : Ghosts D) (s : Core D) (is : IsStudio disk s) (ran
       meaning : map (strip_cells src) v ≡ copied id n from to (current t.state)
       meaning = search (rules, copies_mean, copies_of, run_meant, current_meant)
 
-      module _ (counts : Counts) (moves : Moves s.counts counts (clip_blocks s.clipboard) (strips_blocks v))
+      module _ (uses : Uses) (counts : Counts)
+          (moves : Moves s.counts counts (clip_blocks s.clipboard) (strips_blocks v))
+          (single : MovesSingles s.uses uses (clip_blocks s.clipboard) (strips_blocks v))
           (most : length (strips_blocks v) ≤ 2 ^ 71) where
         abbrev new : Core D
-        new = renamed s (Some v) s.pins s.next_pin s.uses counts
+        new = renamed s (Some v) s.pins s.next_pin uses counts
 
-        copy_renames : Renames s (Some v) s.pins s.next_pin s.uses counts
+        copy_renames : Renames s (Some v) s.pins s.next_pin uses counts
         copy_renames = record {
           covers = λ P all.
               let rest = all_right P (history_blocks s.history) (pin_blocks s.pins ++ clip_blocks s.clipboard) all in
@@ -152,8 +160,8 @@ module _ {D : Type 0} (disk : Ghosts D) (s : Core D) (is : IsStudio disk s) (ran
           clip_fits = may_paste;
           numbered = is.numbered;
           drawn = is.drawn;
-          counted = others_moved (studio_tracks s) (clip_blocks s.clipboard) (strips_blocks v) s.uses s.counts counts
-              is.counted moves;
+          counted = others_moved (studio_tracks s) (clip_blocks s.clipboard) (strips_blocks v) s.uses uses s.counts counts
+              is.counted moves single;
           ids = moves.ids;
         }
 
@@ -166,6 +174,6 @@ module _ {D : Type 0} (disk : Ghosts D) (s : Core D) (is : IsStudio disk s) (ran
             let passed = quiet_passes t line copy_quiet room refl (ap stop_of going) (tests_are ∙ copies.0)
             (fits s.next_pin 0 (omega (arith, is.counters.pin_most))) in
             renamed_took disk s is
-            (Some v) s.pins s.next_pin s.uses counts copy_renames line copy_quiet tt tt Copied fewer
+            (Some v) s.pins s.next_pin uses counts copy_renames line copy_quiet tt tt Copied fewer
             (λ some. absurd (stopped_not s.stopped some going))
             (λ _. carried t line copy_quiet room refl Copied (studio_of disk new) passed refl copy_state)

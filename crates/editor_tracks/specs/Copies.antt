@@ -39,5 +39,5 @@ abbrev pub AnswersCopy : {D : Type 0} → Core D → RunRange → Result (Unit {
 AnswersCopy old range result new = MatchResult result
     (λ _. (strips : List (List Item))
     × AreCopies range.from range.to (take range.count (run_of range.track (current_tracks old.history))) strips
-    × (new ≡ record old { clipboard = Some strips; counts = new.counts }))
+    × (new ≡ record old { clipboard = Some strips; uses = new.uses; counts = new.counts }))
     (λ why. new ≡ old)

@@ -1,6 +1,6 @@
 -- Names that several proofs of this crate use, from where they are declared.
 pub use Rattle.block_cache.specs.Caches.{Entries}
-pub use Rattle.block_ledger.specs.{Counts.Counts, Entries.count_of}
+pub use Rattle.block_ledger.specs.Counts.{Counts}
 pub use Rattle.block_store.specs.Reads.{Counted, CountedBy, IsFaultIn}
 pub use Rattle.block_store.specs.{Reasons.reason_of, declared.fault.BlockFault.BlockFault}
 pub use Rattle.clip_track.proofs.Layouts.{length-layout}

@@ -3,7 +3,7 @@ use Rattle.std.proofs.Common.{rules, ◌^◌}
 use Rattle.editor_views.proofs.Common.{◌≡◌, inl, inr, refl, sym, ap, ◌∙◌, subst, ℕ, ◌+◌, ◌<◌, List, [], ◌∷◌, ◌++◌, Some}
 use Rattle.editor_views.proofs.Common.{None, Ok, Err, arith, append_assoc, length, IsSome, ◌↔◌, append-nil}
 use Rattle.editor_views.proofs.Common.{AllByRecursion, BlockRef, stop_of, after, Ghosts, Fewer, sources_of}
-use Rattle.editor_views.proofs.Common.{Counts, count_of, Track, history_blocks, current_tracks}
+use Rattle.editor_views.proofs.Common.{Counts, Track, history_blocks, current_tracks}
 use Rattle.editor_views.proofs.Common.{IsValidPoint, all_append, IsStudio, pin_blocks, pin_tracks, clip_blocks}
 use Rattle.editor_views.proofs.Common.{named_blocks, studio_of, studio_tracks, Core, Pin, Took, quietly, silent, Tally}
 use Rattle.editor_views.proofs.Common.{AreDrawn, AreNumbered, history_tracks, AreCounts, IsTally, counts_swapped}
@@ -22,6 +22,8 @@ use Rattle.editor_state.proofs.{Refusals.CommitTests.spends}
 use Rattle.editor_views.proofs.PinNumbers.{rise_more, with_one, blocks_more}
 use Rattle.pcm_base.specs.declared.refusal.Refusal.TheVariants as refusal
 use Rattle.pcm_base.specs.Studio as model
+use Rattle.layout_uses.specs.{Tallies.Uses, Tallies.uses_of}
+use Rattle.row_ledger.specs.Lists.{counts_of}
 
 pub pin_quiet : IsQuiet Keep
 pin_quiet = search rules
@@ -60,20 +62,21 @@ module _ {D : Type 0} (disk : Ghosts D) (s : Core D) (is : IsStudio disk s) (few
   front_drawn = subst (λ (ts : List Track). AreDrawn s.next_layout (current ++ ts)) (sym (append-nil (studio_tracks s)))
       ((same_numbers current s.next_layout).drawn (studio_tracks s) is.drawn (current_among s))
 
-  module _ (tally tally' : Tally) (uses_are : count_of tally.uses ≡ s.uses) (counts_are : count_of tally.ledger
+  module _ (tally tally' : Tally) (uses_are : uses_of tally ≡ s.uses) (counts_are : counts_of tally.ledger
       ≡ s.counts)
       (came : Comes current tally tally') (room : s.next_pin < 2 ^ 62) (going : s.stopped ≡ None) where
-    abbrev uses : Counts
-    uses = count_of tally'.uses
+    abbrev uses : Uses
+    uses = uses_of tally'
 
     abbrev counts : Counts
-    counts = count_of tally'.ledger
+    counts = counts_of tally'.ledger
 
     abbrev new : Core D
     new = renamed s s.clipboard pins (s.next_pin + 1) uses counts
 
     was : IsTally (studio_tracks s) (clip_blocks s.clipboard) tally
-    was = search rules
+    was = subst (λ (w : Uses × Counts). AreCounts (studio_tracks s) (clip_blocks s.clipboard) w.0 w.1)
+        (λ i. (sym uses_are i, sym counts_are i)) is.counted
 
     few : length current + length (studio_tracks s) < 2 ^ 128
     few = omega (arith, tracks_few disk s is, (current_valid disk s is).few)

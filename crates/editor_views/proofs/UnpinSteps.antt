@@ -3,7 +3,7 @@ use Rattle.std.proofs.Common.{rules, Contains}
 use Rattle.editor_views.proofs.Common.{◌≡◌, refl, sym, ap, ◌∙◌, subst, ℕ, List, ◌∷◌, ◌++◌, Option, Some, None, Ok, Err}
 use Rattle.editor_views.proofs.Common.{append_assoc, IsSome, ◌↔◌, arith, AllByRecursion, after, BlockRef}
 use Rattle.editor_views.proofs.Common.{Sources, refused_if, outside, Ghosts, Fewer, sources_of, IsWhole, Counts}
-use Rattle.editor_views.proofs.Common.{count_of, Track, meant, point_blocks, history_blocks, IsValidPoint, all_append}
+use Rattle.editor_views.proofs.Common.{Track, meant, point_blocks, history_blocks, IsValidPoint, all_append}
 use Rattle.editor_views.proofs.Common.{PinsRise, IsHeld, IsStudio, pin_at, pin_blocks, pin_tracks, clip_blocks}
 use Rattle.editor_views.proofs.Common.{named_blocks, studio_of, studio_tracks, Core, Pin, Took, quietly, silent}
 use Rattle.editor_views.proofs.Common.{AreCounts, IsTally, Tally, AreDrawn, AreNumbered, history_tracks, counts_swapped}
@@ -22,6 +22,8 @@ use Rattle.editor_views.proofs.PinNumbers.{blocks_of_one}
 use Rattle.pcm_base.specs.declared.refusal.Refusal.TheVariants as refusal
 use Rattle.pcm_base.specs.Cells as cells
 use Rattle.pcm_base.specs.Studio as model
+use Rattle.layout_uses.specs.{Tallies.Uses, Tallies.uses_of}
+use Rattle.row_ledger.specs.Lists.{counts_of}
 
 module _ {D : Type 0} (disk : Ghosts D) (s : Core D) (is : IsStudio disk s) (number : ℕ) where
   abbrev src : Sources
@@ -98,12 +100,14 @@ module _ {D : Type 0} (disk : Ghosts D) (s : Core D) (is : IsStudio disk s) (num
         numbered_before
         (subst (λ (ts : List Track). AreCounts ts (clip_blocks s.clipboard) s.uses s.counts) tracks_before is.counted)
 
-    pin_counted : (tally : Tally) → count_of tally.uses ≡ s.uses → count_of tally.ledger ≡ s.counts
+    pin_counted : (tally : Tally) → uses_of tally ≡ s.uses → counts_of tally.ledger ≡ s.counts
         → IsTally (pin.point ++ stay) (clip_blocks s.clipboard) tally
-    pin_counted tally uses_are counts_are = search (rules, counted_front)
+    pin_counted tally uses_are counts_are = subst (λ (w : Uses × Counts).
+        AreCounts (pin.point ++ stay) (clip_blocks s.clipboard) w.0 w.1)
+        (λ i. (sym uses_are i, sym counts_are i)) counted_front
 
     -- its layouts are used
-    pub pin_uses : (tally : Tally) → count_of tally.uses ≡ s.uses → count_of tally.ledger ≡ s.counts
+    pub pin_uses : (tally : Tally) → uses_of tally ≡ s.uses → counts_of tally.ledger ≡ s.counts
         → Has pin.point tally
     pin_uses tally uses_are counts_are = record {
       others = stay;
@@ -114,13 +118,13 @@ module _ {D : Type 0} (disk : Ghosts D) (s : Core D) (is : IsStudio disk s) (num
     less_all : (P : BlockRef → Type 0) → AllByRecursion P (pin_blocks s.pins) → AllByRecursion P (pin_blocks pins)
     less_all P all = search (rules, blocks_but)
 
-    module _ (tally tally' : Tally) (uses_are : count_of tally.uses ≡ s.uses)
-        (counts_are : count_of tally.ledger ≡ s.counts) (goes : Goes pin.point tally tally') where
-      abbrev uses : Counts
-      uses = count_of tally'.uses
+    module _ (tally tally' : Tally) (uses_are : uses_of tally ≡ s.uses)
+        (counts_are : counts_of tally.ledger ≡ s.counts) (goes : Goes pin.point tally tally') where
+      abbrev uses : Uses
+      uses = uses_of tally'
 
       abbrev counts : Counts
-      counts = count_of tally'.ledger
+      counts = counts_of tally'.ledger
 
       abbrev new : Core D
       new = renamed s s.clipboard pins s.next_pin uses counts

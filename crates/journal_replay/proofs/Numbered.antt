@@ -1,7 +1,7 @@
 -- Projects whose layouts have numbers, beside the same projects without them.
 use Rattle.journal_replay.proofs.Common.{◌≡◌, ℕ, ◌+◌, ◌-◌, ◌*◌, ◌≤◌, List, [], ◌∷◌, length, map, None, Result, Ok, Err}
 use Rattle.journal_replay.proofs.Common.{refl, sym, ap, subst, ◌∙◌, arith, length-map, ⊤, History, at_cursor, purged}
-use Rattle.journal_replay.proofs.Common.{Damaged, first_failed, Track, unnumbered, unnumbered_history, IsNumbered, Edit}
+use Rattle.journal_replay.proofs.Common.{first_failed, Track, unnumbered, unnumbered_history, IsNumbered, Edit}
 use Rattle.journal_replay.proofs.Common.{Undo, Redo, Purge, Body, BadBody, Finds, after_body, current_tracks}
 use Rattle.journal_replay.proofs.Common.{unnumbered_body, Project, IsSaid, before_at, field_tests, history_tests}
 use Rattle.journal_replay.proofs.Common.{HasLayoutNumbers, saved_of}

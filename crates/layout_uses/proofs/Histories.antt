@@ -5,7 +5,7 @@ use Rattle.layout_uses.proofs.Common.{Some, arith, length-append, append-nil, dr
 use Rattle.layout_uses.proofs.Common.{map-append, flat_map-append, BlockRef, History, IsHistory, amended, edited}
 use Rattle.layout_uses.proofs.Common.{point_of, points_of, purged, Track, drop_some, take_some, AreDrawn, AreNumbered}
 use Rattle.layout_uses.proofs.Common.{history_tracks, points_tracks, track_blocks, Comes, Goes, Has, IsTally, Tally}
-use Rattle.layout_uses.proofs.Common.{HasIds, times_named, count_of}
+use Rattle.layout_uses.proofs.Common.{HasIds, times_named, counts_of}
 use Rattle.std.proofs.lemmas.List.{drop-append-le, take-map, take_all, length-take-le}
 use Rattle.layout_uses.specs.Tallies.{Becomes, MayBecome}
 use Rattle.layout_uses.proofs.Moves.{counts_swapped, drawn_swapped, drawn_without, numbered_swapped, numbered_without}
@@ -328,11 +328,11 @@ module _ (ps : List (List Track)) (i : ℕ) (p : List Track) (here : slice_get p
     times_tracks id p (points_tracks (drop (i + 1) ps)),
   )
 
-  pub point_there : HasIds (count_of a.ledger) (track_blocks (points_tracks ps))
-      → HasIds (count_of b.ledger) (track_blocks p)
+  pub point_there : HasIds (counts_of a.ledger) (track_blocks (points_tracks ps))
+      → HasIds (counts_of b.ledger) (track_blocks p)
   point_there all = λ id some. (came.ids id).1 (all id (omega (arith, some, rest_times id)))
 
-  pub point_few : Few (count_of a.ledger) (track_blocks (points_tracks ps)) → Few (count_of b.ledger) (track_blocks p)
+  pub point_few : Few (counts_of a.ledger) (track_blocks (points_tracks ps)) → Few (counts_of b.ledger) (track_blocks p)
   point_few all = λ id. omega (arith, all id, came.most id, rest_times id)
 
   pub point_came : (d : Tally) → Comes p b d → Comes (points_tracks (drop i ps)) a d

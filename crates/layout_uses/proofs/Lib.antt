@@ -2,6 +2,7 @@ mod Common
 pub mod Times
 pub mod Turns
 pub mod Layouts
+pub mod Listing
 pub mod Tracks
 pub mod Onward
 pub mod Moves

@@ -1,10 +1,12 @@
 -- The order of tracks does not matter to what is counted over them.
-use Rattle.layout_uses.proofs.Common.{◌≡◌, refl, sym, ℕ, ◌+◌, List, [], ◌∷◌, ◌++◌}
+use Rattle.layout_uses.proofs.Common.{◌≡◌, refl, sym, ap, subst, ◌∙◌, ℕ, ◌+◌, List, [], ◌∷◌, ◌++◌, IsListed, Uses}
+use Rattle.layout_uses.proofs.Common.{unlisted, used_blocks}
 use Rattle.layout_uses.proofs.Common.{arith, map-append, BlockRef, Counts, times, Track, numbers_of}
 use Rattle.layout_uses.proofs.Common.{has_number, Agree, AgreesWith, AreDrawn, AreNumbered, AreCounts}
 use Rattle.block_ledger.proofs.Times.{times_append}
 use Rattle.layout_uses.proofs.Layouts.{times_used, each_again, each_first, number_cases, number_moved, times_moved}
-use Rattle.layout_uses.proofs.Tracks.{times_counted}
+use Rattle.layout_uses.proofs.Listing.{Listing, all_swapped, listed_all, listed_each, numbered_unlisted}
+use Rattle.layout_uses.proofs.{Listing.unlisted_append, Times.named_append, Tracks.times_counted}
 
 -- ---- parts of what is numbered
 
@@ -104,8 +106,42 @@ numbers_swapped : (n : ℕ) (xs ys zs : List Track)
     → times n (numbers_of (xs ++ (ys ++ zs))) ≡ times n (numbers_of (ys ++ (xs ++ zs)))
 numbers_swapped n xs ys zs = search (arith, numbers_append)
 
+-- those without a list
+unlisted_parts : (l : Listing) (xs ys zs : List Track)
+    → unlisted l (xs ++ (ys ++ zs)) ≡ unlisted l xs ++ (unlisted l ys ++ unlisted l zs)
+unlisted_parts l xs ys zs =
+    unlisted_append l xs (ys ++ zs) ∙ ap (λ (z : List Track). unlisted l xs ++ z) (unlisted_append l ys zs)
+
+alone_swapped : (l : Listing) (id : ℕ) (xs ys zs : List Track) → AreNumbered (xs ++ (ys ++ zs))
+    → times_used id (unlisted l (xs ++ (ys ++ zs))) ≡ times_used id (unlisted l (ys ++ (xs ++ zs)))
+alone_swapped l id xs ys zs numbered =
+    ap (times_used id) (unlisted_parts l xs ys zs)
+    ∙ times_swapped id (unlisted l xs) (unlisted l ys) (unlisted l zs)
+    (subst AreNumbered (unlisted_parts l xs ys zs) (numbered_unlisted l (xs ++ (ys ++ zs)) numbered))
+    ∙ sym (ap (times_used id) (unlisted_parts l ys xs zs))
+
 -- what is counted over some tracks is counted over them in another order
-pub counts_swapped : (xs ys zs : List Track) (blocks : List BlockRef) (u c : Counts)
+pub counts_swapped : (xs ys zs : List Track) (blocks : List BlockRef) (u : Uses) (c : Counts)
     → AreNumbered (xs ++ (ys ++ zs)) → AreCounts (xs ++ (ys ++ zs)) blocks u c
     → AreCounts (ys ++ (xs ++ zs)) blocks u c
-counts_swapped xs ys zs blocks u c numbered is = search (arith, numbers_swapped, times_counted, times_swapped)
+counts_swapped xs ys zs blocks u c numbered is = record {
+  fresh_uses = λ n. is.fresh_uses n ∙ numbers_swapped n xs ys zs;
+  none_free = is.none_free;
+  fresh_counts = λ id. omega (
+    arith,
+    is.fresh_counts id,
+    times_counted id (xs ++ (ys ++ zs)) blocks,
+    times_counted id (ys ++ (xs ++ zs)) blocks,
+    times_swapped id xs ys zs numbered,
+  );
+  listed = listed_each u.lists (ys ++ (xs ++ zs)) (all_swapped (IsListed u.lists) xs ys zs
+      (listed_all u.lists (xs ++ (ys ++ zs)) numbered is.listed));
+  no_other = λ n absent. is.no_other n (number_swapped n xs ys zs ∙ absent);
+  singles = λ id. omega (
+    arith,
+    is.singles id,
+    named_append id (used_blocks (unlisted u.lists (xs ++ (ys ++ zs)))) blocks,
+    named_append id (used_blocks (unlisted u.lists (ys ++ (xs ++ zs)))) blocks,
+    alone_swapped u.lists id xs ys zs numbered,
+  );
+}

@@ -3,7 +3,7 @@ use Rattle.layout_uses.proofs.Common.{◌≡◌, refl, sym, ap, ◌∙◌, subst
 use Rattle.layout_uses.proofs.Common.{append_assoc, take-append-drop, slice_get, Some, IsSome, arith, length-append}
 use Rattle.layout_uses.proofs.Common.{BlockRef, Counts, occurrences, count_of, layout_blocks, Track, take_some}
 use Rattle.layout_uses.proofs.Common.{drop_some, HasIds, times_named, AreCounts, IsTally, Comes, Goes, Has, Tally}
-use Rattle.layout_uses.proofs.Common.{track_blocks}
+use Rattle.layout_uses.proofs.Common.{track_blocks, RowsState, Uses, counts_of, list_of, singles_of, uses_of}
 use Rattle.std.proofs.Common.{◌↔◌}
 use Rattle.layout_uses.proofs.Times.{named_append, Few}
 
@@ -71,30 +71,34 @@ module _ (ts : List Track) (i : ℕ) (t : Track) (here : slice_get ts i ≡ Some
         + (times_named id (layout_blocks t.layout) + times_named id (track_blocks (drop (i + 1) ts)))
     times_here id = search (arith, split, times_tracks, named_append)
 
-    pub there_here : HasIds (count_of a.ledger) (track_blocks ts) → Comes (drop (i + 1) ts) a b
-        → HasIds (count_of b.ledger) (layout_blocks t.layout)
+    pub there_here : HasIds (counts_of a.ledger) (track_blocks ts) → Comes (drop (i + 1) ts) a b
+        → HasIds (counts_of b.ledger) (layout_blocks t.layout)
     there_here all came = λ id some. (came.ids id).1 (all id (omega (arith, some, times_here id)))
 
-    pub few_here : Few (count_of a.ledger) (track_blocks ts) → Comes (drop (i + 1) ts) a b
-        → Few (count_of b.ledger) (layout_blocks t.layout)
+    pub few_here : Few (counts_of a.ledger) (track_blocks ts) → Comes (drop (i + 1) ts) a b
+        → Few (counts_of b.ledger) (layout_blocks t.layout)
     few_here all came = λ id. omega (arith, all id, came.most id, times_here id)
 
 -- ---- more room for uses
 
-same_counted : (ts : List Track) (blocks : List BlockRef) (u v c : Counts) → ((n : ℕ) → v n ≡ u n)
-    → AreCounts ts blocks u c → AreCounts ts blocks v c
-same_counted ts blocks u v c same is = search arith
+same_counted : (ts : List Track) (blocks : List BlockRef) (u : Uses) (k c : Counts) → ((n : ℕ) → k n ≡ u.counts n)
+    → AreCounts ts blocks u c
+    → AreCounts ts blocks (record { counts = k; lists = u.lists; singles = u.singles }) c
+same_counted ts blocks u k c same is =
+    subst (λ (z : Counts). AreCounts ts blocks (record { counts = z; lists = u.lists; singles = u.singles }) c)
+    (λ i n. sym (same n) i) is
 
 pub came_roomy : (ts : List Track) (a b c : Tally) → Comes ts a b
     → ((n : ℕ) → count_of c.uses n ≡ count_of b.uses n) → c.ledger ≡ b.ledger → b.uses.spare ≤ c.uses.spare
     → Comes ts a c
 came_roomy ts a b c came uses ledger room = record {
   counted = λ others blocks few is.
-      subst (λ k. AreCounts (ts ++ others) blocks (count_of c.uses) (count_of k)) (sym ledger)
-      (same_counted (ts ++ others) blocks (count_of b.uses) (count_of c.uses) (count_of b.ledger) uses
+      subst (λ (k : RowsState). AreCounts (ts ++ others) blocks
+      (record { counts = count_of c.uses; lists = list_of k; singles = singles_of k }) (counts_of k)) (sym ledger)
+      (same_counted (ts ++ others) blocks (uses_of b) (count_of c.uses) (counts_of b.ledger) uses
       (came.counted others blocks few is));
-  ids = λ id. subst (λ k. IsSome (count_of k id) ↔ IsSome (count_of a.ledger id)) (sym ledger) (came.ids id);
-  most = λ id. subst (λ k. occurrences (count_of k id) ≤ occurrences (count_of a.ledger id)
+  ids = λ id. subst (λ k. IsSome (counts_of k id) ↔ IsSome (counts_of a.ledger id)) (sym ledger) (came.ids id);
+  most = λ id. subst (λ k. occurrences (counts_of k id) ≤ occurrences (counts_of a.ledger id)
       + times_named id (track_blocks ts)) (sym ledger) (came.most id);
   room = omega (arith, came.room, room);
 }

@@ -5,19 +5,19 @@ use Rattle.pcm_base.specs.declared.block.BlockRef.{BlockRef}
 use Rattle.block_ledger.specs.Counts.{Counts, IsFreshCount, IsNamed}
 use Rattle.project_state.specs.{declared.track.Track.Track, Tracks.put_in}
 use Rattle.layout_uses.specs.Layouts.{AreDrawn, AreNumbered, track_blocks}
-use Rattle.layout_uses.specs.{Occurrences.ids_of, Tallies.AreCounts}
+use Rattle.layout_uses.specs.{Occurrences.ids_of, Tallies.AreCounts, Tallies.Uses}
 
 -- Counts over the layouts that are used, of each once, name the ids that counts over all tracks name.
 abbrev pub SameNames : Type 0
 SameNames =
-    (tracks : List Track) (others : List BlockRef) (uses counts all : Counts) → AreNumbered tracks
+    (tracks : List Track) (others : List BlockRef) (uses : Uses) (counts all : Counts) → AreNumbered tracks
     → AreCounts tracks others uses counts → IsFreshCount (ids_of (track_blocks tracks ++ others)) all
     → (id : ℕ) → IsNamed (counts id) ↔ IsNamed (all id)
 
 -- The order of the tracks does not matter.
 abbrev pub AnyOrder : Type 0
 AnyOrder =
-    (xs ys zs : List Track) (others : List BlockRef) (uses counts : Counts) → AreNumbered (xs ++ (ys ++ zs))
+    (xs ys zs : List Track) (others : List BlockRef) (uses : Uses) (counts : Counts) → AreNumbered (xs ++ (ys ++ zs))
     → AreCounts (xs ++ (ys ++ zs)) others uses counts → AreCounts (ys ++ (xs ++ zs)) others uses counts
 
 -- the track is one of these

@@ -1,7 +1,7 @@
 // Points of a history that come and go.
 ghost use Rattle.std.specs.Prelude.{◌≡◌, ◌+◌, ◌≤◌, ◌<◌, ◌^◌, ℕ, [], OnOk, length, take, drop};
 ghost use Rattle.block_ledger.specs.Counts.{occurrences};
-ghost use Rattle.block_ledger.specs.Entries.{count_of};
+ghost use Rattle.row_ledger.specs.Lists.{counts_of};
 ghost use Rattle.pcm_base.specs.History.{amended, edited, points_of, purged};
 ghost use Rattle.layout_uses.specs.Layouts.{history_tracks, points_tracks, track_blocks};
 ghost use Rattle.layout_uses.specs.Occurrences.{HasIds, times_named};
@@ -25,37 +25,39 @@ fn leave_points(tally: &mut Tally, history: &History<Point>, from: usize, to: us
 }
 
 /// A point is to stand after the current one: it uses its layouts, and the points that go for it use theirs no more.
-/// It takes no memory.
+/// It cannot fail.
 pub fn count_edit(tally: &mut Tally, history: &History<Point>, point: &Point)
     requires room { length point.now ≤ tally.old.uses.spare }
-    requires there { HasIds (count_of tally.old.ledger) (track_blocks point.now) }
+    requires there { HasIds (counts_of tally.old.ledger) (track_blocks point.now) }
     requires few { (id : ℕ) →
-        occurrences (count_of tally.old.ledger id) + times_named id (track_blocks point.now) < 2 ^ 128 }
+        occurrences (counts_of tally.old.ledger id) + times_named id (track_blocks point.now) < 2 ^ 128 }
     requires counted { MayBecome point.now (history_tracks history.now.history) tally.old }
     ensures { (tag : ℕ) → Becomes point.now (history_tracks history.now.history)
         (history_tracks (edited history.now.history point.now tag)) tally.old tally.new }
 {
-    tally.use_point(point);
+    let cursor = history.cursor();
+    tally.use_point(point, history.point(cursor));
     let len = history.len();
-    let kept = history.cursor() + 1;
+    let kept = cursor + 1;
     leave_points(tally, history, kept, len);
     let depth = history.depth() as usize;
     leave_points(tally, history, 0, (kept + 1).saturating_sub(depth));
 }
 
 /// A point is to stand in the place of the current one: it uses its layouts, and the current point and those after it
-/// use theirs no more. It takes no memory.
+/// use theirs no more. It cannot fail.
 pub fn count_amend(tally: &mut Tally, history: &History<Point>, point: &Point)
     requires room { length point.now ≤ tally.old.uses.spare }
-    requires there { HasIds (count_of tally.old.ledger) (track_blocks point.now) }
+    requires there { HasIds (counts_of tally.old.ledger) (track_blocks point.now) }
     requires few { (id : ℕ) →
-        occurrences (count_of tally.old.ledger id) + times_named id (track_blocks point.now) < 2 ^ 128 }
+        occurrences (counts_of tally.old.ledger id) + times_named id (track_blocks point.now) < 2 ^ 128 }
     requires counted { MayBecome point.now (history_tracks history.now.history) tally.old }
     ensures { Becomes point.now (history_tracks history.now.history)
         (history_tracks (amended history.now.history point.now)) tally.old tally.new }
 {
-    tally.use_point(point);
-    leave_points(tally, history, history.cursor(), history.len());
+    let cursor = history.cursor();
+    tally.use_point(point, history.point(cursor));
+    leave_points(tally, history, cursor, history.len());
 }
 
 /// This many of the oldest points are to go: they use their layouts no more. It takes no memory.
@@ -71,15 +73,16 @@ pub fn count_purge(tally: &mut Tally, history: &History<Point>, count: usize)
 
 /// The points of a history that is taken over use their layouts.
 pub fn count_points(tally: &mut Tally, history: &History<Point>) -> Result<(), NoMemory>
-    requires there { HasIds (count_of tally.old.ledger) (track_blocks (history_tracks history.now.history)) }
-    requires few { (id : ℕ) → occurrences (count_of tally.old.ledger id)
+    requires there { HasIds (counts_of tally.old.ledger) (track_blocks (history_tracks history.now.history)) }
+    requires few { (id : ℕ) → occurrences (counts_of tally.old.ledger id)
         + times_named id (track_blocks (history_tracks history.now.history)) < 2 ^ 128 }
     ensures { OnOk result (Comes (history_tracks history.now.history) tally.old tally.new) }
 {
+    let last = history.len() - 1;
     for i in (0..history.len()).rev() {
         let point = history.point(i);
         tally.reserve(point.len() as u64)?;
-        tally.use_point(point);
+        tally.use_point(point, history.point(last.min(i + 1)));
     }
     Ok(())
 }

@@ -3,26 +3,28 @@ ghost use Rattle.std.specs.Prelude.{◌≡◌, ◌+◌, ◌≤◌, ◌<◌, ◌^
 ghost use Rattle.std.specs.Prelude.{IfNone};
 ghost use Rattle.std.specs.Prelude.{IsTrue, OnOk, is_none, length};
 ghost use Rattle.pcm_base.specs.declared.block.BlockRef.{BlockRef};
-ghost use Rattle.block_ledger.specs.Counts.{IsFirstFree, IsNamed, occurrences};
+ghost use Rattle.block_ledger.specs.Counts.{IsFirstFree, occurrences};
 ghost use Rattle.block_ledger.specs.Entries.{count_of};
+ghost use Rattle.row_ledger.specs.Lists.{counts_of};
 ghost use Rattle.clip_track.specs.Clips.{layout_blocks};
 ghost use Rattle.project_state.specs.declared.track.Track.{Track};
 ghost use Rattle.layout_uses.specs.Layouts.{AreNumbered, track_blocks};
 ghost use Rattle.layout_uses.specs.Occurrences.{HasIds, times_named};
 ghost use Rattle.layout_uses.specs.Tallies.{Comes, Goes, Has, IsTally, SameIds};
 
-use super::blocks::{drop_blocks, drop_clips, hold_blocks, hold_clips};
+use super::blocks::{drop_blocks, drop_layout, hold_blocks, hold_layout};
 use block_ledger::Ledger;
 use pcm_base::{BlockRef, NoMemory};
 use project_state::{Point, Track};
+use row_ledger::RowLedger;
 use std::alloc::Global;
 
 /// How often each layout is used, by its number, and how often each block is named by the layouts so used and by what
-/// else names blocks.
+/// else names blocks. A layout is named by a list of its ids, and by itself where there was too little memory for one.
 #[derive(Drop)]
 pub struct Tally {
     pub uses: Ledger,
-    pub ledger: Ledger,
+    pub ledger: RowLedger,
 }
 
 // Whether a layout is used by nothing.
@@ -42,13 +44,12 @@ fn is_free(uses: &Ledger, number: u64) -> bool
     }
 }
 
-// Whether a count is one of an id that occurs.
-fn occurs(count: Option<u128>) -> bool
-    ensures { IsTrue result ↔ IsNamed count }
-{
-    match count {
-        Some(count) => count > 0,
-        None => false,
+// The number that the layout of a track has in a point, 0 where there is no such track. The place `first` is looked at
+// first.
+fn number_in(point: &Point, id: u64, first: usize) -> u64 {
+    match point.place_of(id, first) {
+        Some(i) => point.track_at(i).number,
+        None => 0,
     }
 }
 
@@ -56,11 +57,11 @@ impl Tally {
     /// Nothing is used yet, and nothing named.
     pub fn new(alloc: Global) -> Tally
         ensures counted { IsTally [] [] result }
-        ensures none { (id : ℕ) → count_of result.ledger id ≡ None }
+        ensures none { (id : ℕ) → counts_of result.ledger id ≡ None }
     {
         Tally {
             uses: Ledger::new(alloc),
-            ledger: Ledger::new(alloc),
+            ledger: RowLedger::new(alloc),
         }
     }
 
@@ -75,18 +76,24 @@ impl Tally {
     }
 
     /// A track uses its layout. Where it is the first that does, the layout's blocks, which are all there, are named by
-    /// it. It takes no memory.
-    pub fn use_track(&mut self, track: &Track)
+    /// it. That takes a step for each block by which the layout differs from that of the number `base`, and for each row
+    /// of blocks. It cannot fail: where there is too little memory for a list, the blocks are named one by one.
+    pub fn use_track(&mut self, track: &Track, base: u64)
         requires room { 0 < self.old.uses.spare }
-        requires there { HasIds (count_of self.old.ledger) (layout_blocks track.now.layout) }
-        requires few { (id : ℕ) → occurrences (count_of self.old.ledger id)
+        requires there { HasIds (counts_of self.old.ledger) (layout_blocks track.now.layout) }
+        requires few { (id : ℕ) → occurrences (counts_of self.old.ledger id)
             + times_named id (layout_blocks track.now.layout) < 2 ^ 128 }
         ensures { Comes (track.now ∷ []) self.old self.new }
     {
         let is_first = is_unused(&self.uses, track.number);
         self.uses.hold(track.number);
         if is_first {
-            hold_clips(&mut self.ledger, track.layout.as_slice());
+            hold_layout(
+                &mut self.ledger,
+                track.number,
+                base,
+                track.layout.as_slice(),
+            );
         }
     }
 
@@ -99,20 +106,22 @@ impl Tally {
         self.uses.drop_one(track.number);
         if is_free(&self.uses, track.number) {
             self.uses.forget(track.number);
-            drop_clips(&mut self.ledger, track.layout.as_slice());
+            drop_layout(&mut self.ledger, track.number, track.layout.as_slice());
         }
     }
 
-    /// A point uses the layouts of its tracks. It takes no memory.
-    pub fn use_point(&mut self, point: &Point)
+    /// A point uses the layouts of its tracks, which are like those of the point `base` where it can be so. It cannot
+    /// fail, as [`Tally::use_track`] cannot.
+    pub fn use_point(&mut self, point: &Point, base: &Point)
         requires room { length point.now ≤ self.old.uses.spare }
-        requires there { HasIds (count_of self.old.ledger) (track_blocks point.now) }
+        requires there { HasIds (counts_of self.old.ledger) (track_blocks point.now) }
         requires few { (id : ℕ) →
-            occurrences (count_of self.old.ledger id) + times_named id (track_blocks point.now) < 2 ^ 128 }
+            occurrences (counts_of self.old.ledger id) + times_named id (track_blocks point.now) < 2 ^ 128 }
         ensures { Comes point.now self.old self.new }
     {
         for i in (0..point.len()).rev() {
-            self.use_track(point.track_at(i));
+            let track = point.track_at(i);
+            self.use_track(track, number_in(base, track.id, i));
         }
     }
 
@@ -129,8 +138,8 @@ impl Tally {
     /// Blocks, which are all there, are named by something else than a layout, as by what was copied. It takes no
     /// memory.
     pub fn name_blocks(&mut self, blocks: &[BlockRef])
-        requires there { HasIds (count_of self.old.ledger) blocks.now }
-        requires few { (id : ℕ) → occurrences (count_of self.old.ledger id) + times_named id blocks.now < 2 ^ 128 }
+        requires there { HasIds (counts_of self.old.ledger) blocks.now }
+        requires few { (id : ℕ) → occurrences (counts_of self.old.ledger id) + times_named id blocks.now < 2 ^ 128 }
         ensures counted { (tracks : List Track) (others : List BlockRef) → IsTally tracks others self.old
             → IsTally tracks (blocks.now ++ others) self.new }
         ensures ids { SameIds self.old self.new }
@@ -156,18 +165,18 @@ impl Tally {
         ensures { (tracks : List Track) (others : List BlockRef) → AreNumbered tracks → IsTally tracks others self.now
             → IsTrue result ↔ (0 < times_named id (track_blocks tracks ++ others)) }
     {
-        occurs(self.ledger.count(id))
+        self.ledger.is_named(id)
     }
 
     /// The least block of the ledger that nothing names.
     pub fn first_unnamed(&self) -> Option<u64>
-        ensures found { IfSome result (IsFirstFree (count_of self.now.ledger)) }
+        ensures found { IfSome result (IsFirstFree (counts_of self.now.ledger)) }
         ensures unnamed { (tracks : List Track) (others : List BlockRef) → AreNumbered tracks
             → IsTally tracks others self.now
             → IfSome result (λ id. times_named id (track_blocks tracks ++ others) ≡ 0) }
         ensures none { (tracks : List Track) (others : List BlockRef) → AreNumbered tracks
             → IsTally tracks others self.now
-            → IfNone result ((id : ℕ) → IsSome (count_of self.now.ledger id)
+            → IfNone result ((id : ℕ) → IsSome (counts_of self.now.ledger id)
             → 0 < times_named id (track_blocks tracks ++ others)) }
     {
         self.ledger.first_free()

@@ -1,6 +1,6 @@
 -- One line: nothing refuses it, so it is carried out, or there is no memory for it.
 use Rattle.std.proofs.Common.{◌≡◌, ⊎_elim, ℕ, ◌+◌, ◌-◌, ◌≤◌, IsTrue, None, Err, Ok, Result, IfErr, refl, sym, ap, ◌∙◌}
-use Rattle.std.proofs.Common.{Bool, true, false, if◌then◌else◌, List, length, Option, Some, subst, arith}
+use Rattle.std.proofs.Common.{Bool, true, false, if◌then◌else◌, List, length, Option, Some, subst, arith, inl, inr, ◌⊎◌}
 use Rattle.std.proofs.lemmas.Option.{none-some}
 use Rattle.pcm_base.specs.Counters.{Needs, commits_of, places_of}
 use Rattle.pcm_base.specs.Run.{Answers, Breaks, CarriesOut, ChangeFailed, DiskFails, LeavesAll, ReadFailed, Refuses}
@@ -12,7 +12,7 @@ use Rattle.disk_model.specs.{Frames.asked, Room.Room, Room.files_made, Room.toge
 use Rattle.envelope_view.specs.Answers.{IsUndamaged}
 use Rattle.editor_state.specs.Took.{Exchange, Took, asks, quietly, silent, as_reply}
 use Rattle.editor_state.specs.{Applied.EndsAlike, Core.Core, Left.LeavesOthers, Left.MayRemove, Packing.packed_by}
-use Rattle.editor_state.specs.{Packing.packs, Studios.studio_of, Exchanges.begun_in_vain, Exchanges.is_broken_off}
+use Rattle.editor_state.specs.{Packing.packs, Reads.Looks, Studios.IsHeld, Studios.studio_of, Exchanges.begun_in_vain, Exchanges.is_broken_off}
 use Rattle.model_laws.proofs.Answered.{carried_is}
 use Rattle.script_gen.proofs.Passing.{places-few}
 use Rattle.editor_state.proofs.Calls.VaultCalls.{names_none as none_named}
@@ -50,6 +50,37 @@ pub told_valid : {A : Type 0} (f : A → Reply) (answer : Result A Refusal) → 
     → IfErr (as_reply f answer) IsUndamaged
 told_valid f (Ok a) valid = tt
 told_valid f (Err why) valid = valid
+
+-- a line that is asked by the call that is its own
+pub asked_call : {D A : Type 0} (disk : Ghosts D) (s new : Core D) {line own : Command} (f : A → Reply)
+    (answer : Result A Refusal) (short : Result (Unit {0}) Refusal) → line ≡ own
+    → Took disk s (quietly (Line own) (as_reply f answer)) new → EndsAlike answer short
+    → (IsHeld disk s → IfErr answer IsUndamaged) → Asked disk s line short new
+asked_call disk s new f answer short is took ends valid = record {
+  told = as_reply f answer;
+  took = subst (λ (k : Command). Took disk s (quietly (Line k) (as_reply f answer)) new) (sym is) took;
+  ends = told_ends f answer short ends;
+  valid = λ held. told_valid f answer (valid held);
+}
+
+-- and one whose call only looks
+pub asked_look : {D A : Type 0} (disk : Ghosts D) (s new : Core D) {line own : Command} (f : A → Reply)
+    (answer : Result A Refusal) (short : Result (Unit {0}) Refusal) → line ≡ own
+    → Looks disk s (Line own) (as_reply f answer) new → EndsAlike answer short → Asked disk s line short new
+asked_look disk s new f answer short is looks ends = record {
+  told = as_reply f answer;
+  took = subst (λ (k : Command). Took disk s (quietly (Line k) (as_reply f answer)) new) (sym is) looks.took;
+  ends = told_ends f answer short ends;
+  valid = looks.valid;
+}
+
+-- neither want of memory nor an earlier fault is damage
+pub never_damaged : {A : Type 0} (answer : Result A Refusal)
+    → IfErr answer (λ e. (e ≡ refusal.NoMemory) ⊎ ((faults : ℕ) × (e ≡ refusal.Stopped faults)))
+    → IfErr answer IsUndamaged
+never_damaged (Ok a) why = tt
+never_damaged (Err e) (inl none) = subst IsUndamaged (sym none) tt
+never_damaged (Err e) (inr (faults, stopped)) = subst IsUndamaged (sym stopped) tt
 
 -- ---- why there is no answer
 

@@ -113,11 +113,16 @@ where
         }
     }
 
-    // Opens the file to be read, where it is there and not open.
+    // Has the file open to be read, where it is there.
     fn open_to_read(&mut self, file: u64) -> Result<(), Failed> {
-        if self.open_files.get(file).is_some() {
+        if self.open_files.find(file).is_some() {
             return Ok(());
         }
+        self.open_closed(file)
+    }
+
+    // Opens the file to be read, where it is there. It is not open.
+    fn open_closed(&mut self, file: u64) -> Result<(), Failed> {
         match self.open_plain(OpenOptions::new().read(true), file)? {
             Some(inner) => self.open_files.keep(Handle::new(file, inner, false)),
             None => Ok(()),
@@ -175,8 +180,11 @@ where
         requires { at + length buf.old ≤ COUNTER_LIMIT }
         ensures within { IfOk result (λ n. n ≤ length buf.old) }
     {
-        self.open_to_read(file)?;
-        match self.open_files.get(file) {
+        if let Some(handle) = self.open_files.find(file) {
+            return read_full(&handle.inner, at, buf);
+        }
+        self.open_closed(file)?;
+        match self.open_files.find(file) {
             Some(handle) => read_full(&handle.inner, at, buf),
             None => Ok(0),
         }
@@ -189,8 +197,11 @@ where
         if out.is_empty() {
             return Ok(true);
         }
-        self.open_to_read(file)?;
-        match self.open_files.get(file) {
+        if let Some(handle) = self.open_files.find(file) {
+            return read_samples(&handle.inner, at, out);
+        }
+        self.open_closed(file)?;
+        match self.open_files.find(file) {
             Some(handle) => read_samples(&handle.inner, at, out),
             None => Ok(false),
         }

@@ -46,6 +46,8 @@ pub struct OpenFiles<F> {
     synced: Vec<Handle<F>>,
     // Read, or synced as was asked.
     read: Vec<Handle<F>>,
+    // Where the one among these stood that was found last.
+    last: usize,
     // How many of the written ones are kept, and how many of the others, if that is fewer than READ_FILES.
     most: usize,
 }
@@ -118,16 +120,49 @@ impl<F: OpenFile + Drop> OpenFiles<F> {
             waiting: Vec::with_capacity(alloc, most)?,
             synced: Vec::with_capacity(alloc, most)?,
             read: Vec::with_capacity(alloc, READ_FILES)?,
+            last: 0,
             most,
         })
     }
 
     // The open file of this number.
     pub(crate) fn get(&self, file: u64) -> Option<&Handle<F>> {
+        if let Some(handle) = self.written(file) {
+            return Some(handle);
+        }
+        let place = place_in(self.read.as_slice(), file)?;
+        self.read.get(place)
+    }
+
+    // The open file of this number, for a read: mostly it is the one that was found last.
+    pub(crate) fn find(&mut self, file: u64) -> Option<&Handle<F>> {
         if file == 0 {
             return self.first.as_ref();
         }
-        for handles in [&self.waiting, &self.synced, &self.read] {
+        if self.is_last(file) {
+            return self.read.get(self.last);
+        }
+        let Some(place) = place_in(self.read.as_slice(), file) else {
+            return self.written(file);
+        };
+        self.last = place;
+        self.read.get(place)
+    }
+
+    // Whether the file is the one that was found last.
+    fn is_last(&self, file: u64) -> bool {
+        match self.read.get(self.last) {
+            Some(handle) => handle.file == file,
+            None => false,
+        }
+    }
+
+    // The open file of this number, if it is file 0 or was written.
+    fn written(&self, file: u64) -> Option<&Handle<F>> {
+        if file == 0 {
+            return self.first.as_ref();
+        }
+        for handles in [&self.waiting, &self.synced] {
             if let Some(place) = place_in(handles.as_slice(), file) {
                 return handles.get(place);
             }

@@ -2,12 +2,12 @@
 use Rattle.record_body.proofs.Common.{◌≡◌, ℕ, zero, suc, ◌-◌, ◌<◌, ◌≤◌, ◌==◌, ◌&&◌, Bool, true, false}
 use Rattle.record_body.proofs.Common.{List, [], ◌∷◌, ◌++◌, length, take, drop, Option, Some, None, refl, sym, ◌∙◌, ap}
 use Rattle.record_body.proofs.Common.{ap₂, arith, take_all, eqb-true, eq-eqb, ltb-true, BlockRef, Side}
-use Rattle.record_body.proofs.Common.{Clip, Track, unnumbered, side_byte, mute_byte, Same, is_block, common, same_clip}
+use Rattle.record_body.proofs.Common.{Clip, Track, unnumbered, side_byte, mute_byte, Same, common, same_clip}
 use Rattle.record_body.proofs.Common.{same_clips, last_blocks, last_start, same_but_last, same_settings, change_of}
 use Rattle.record_body.proofs.Common.{with_last, tailed, changed}
 use Rattle.std.proofs.{Common.take-append-drop}
 use Rattle.record_body.specs.Changes.{same_blocks, front_clips}
-use Rattle.block_sequence.proofs.Fronts.{block_same, common_take, common_within}
+use Rattle.block_sequence.proofs.Fronts.{common_take, common_within}
 use Rattle.pcm_base.specs.declared.sound.Side.TheVariants as side
 
 -- ---- tests that hold
@@ -35,7 +35,7 @@ clip_same a b e =
     let blocks : a.blocks ≡ b.blocks = blocks_same a.blocks b.blocks is.second in
     λ i. record { start = start i; blocks = blocks i }
 
-clips_same : (xs ys : List Clip) → same_clips xs ys ≡ true → xs ≡ ys
+pub clips_same : (xs ys : List Clip) → same_clips xs ys ≡ true → xs ≡ ys
 clips_same [] [] e = refl
 clips_same [] (y ∷ ys) e = absurd cc
 clips_same (x ∷ xs) [] e = absurd cc

@@ -1,7 +1,7 @@
 -- What two lists of blocks, or of clips, have in common.
-use Rattle.record_body.proofs.Common.{◌≡◌, ℕ, suc, ◌-◌, ◌<◌, ◌≤◌, get_or, min, Bool, true, false, inl, inr, ◌⊎◌, List}
-use Rattle.record_body.proofs.Common.{[], ◌∷◌, length, drop, refl, ◌∙◌, ap, arith, ◌&&◌, cases_lt}
-use Rattle.record_body.proofs.Common.{drop_all, BlockRef, Clip, common, same_clip, same_clips, last_blocks}
+use Rattle.record_body.proofs.Common.{◌≡◌, suc, ◌-◌, ◌<◌, get_or, Bool, true, false, List}
+use Rattle.record_body.proofs.Common.{[], ◌∷◌, length, refl, ◌∙◌, ap, arith, ◌&&◌}
+use Rattle.record_body.proofs.Common.{Clip, same_clip, same_clips, last_blocks}
 use Rattle.record_body.proofs.Common.{last_start}
 
 pub clips_unlike : (xs ys : List Clip) → (length xs ≡ length ys → ⊥) → same_clips xs ys ≡ false

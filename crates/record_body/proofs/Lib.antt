@@ -23,6 +23,8 @@ pub mod Commons
 pub mod Tails
 pub mod DiffTracks
 pub mod ChangeLaws
+pub mod ByClips
+pub mod Chosen
 pub mod Agreeing
 pub mod Measured
 pub mod DeltaBodies

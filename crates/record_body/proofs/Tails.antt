@@ -20,6 +20,9 @@ take_len zero bs = omega arith
 take_len (suc n) [] = omega arith
 take_len (suc n) (b ∷ bs) = omega (arith, take_len n bs)
 
+pub less_of : (len n : ℕ) (bs : List BlockRef) → len ≡ blocks_len (take n bs) → len ≤ blocks_len bs
+less_of len n bs is = omega (arith, is, take_len n bs)
+
 pub len_append : (xs ys : List BlockRef) → blocks_len (xs ++ ys) ≡ blocks_len xs + blocks_len ys
 len_append [] ys = omega arith
 len_append (x ∷ xs) ys = omega (arith, len_append xs ys)

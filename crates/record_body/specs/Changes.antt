@@ -1,6 +1,6 @@
 -- How a record tells a track of an edit by the current point: as it is there, written out, or with the last blocks of
 -- its last clip replaced.
-use Rattle.std.specs.Prelude.{ℕ, suc, ◌-◌, ◌==◌, ◌&&◌, nat_lt, Bool, true, false, if◌then◌else◌, List, [], ◌∷◌, ◌++◌}
+use Rattle.std.specs.Prelude.{ℕ, ◌-◌, ◌==◌, ◌&&◌, nat_lt, Bool, true, false, if◌then◌else◌, List, [], ◌∷◌, ◌++◌}
 use Rattle.std.specs.Prelude.{length, take, drop, Option, Some, None}
 use Rattle.std.specs.{Option.option_map, List.flat_map}
 use Rattle.byteorder.specs.Endian.{little_bytes}

@@ -1,8 +1,9 @@
 // How a track differs from that of the current point.
-ghost use Rattle.std.specs.Prelude.{◌≡◌, ◌≤◌, ◌<◌, ◌^◌, length, IsTrue, Some};
+ghost use Rattle.std.specs.Prelude.{◌≡◌, ◌≤◌, ◌<◌, length, IsTrue, Some};
 ghost use Rattle.block_sequence.specs.Fronts.{common};
 ghost use Rattle.record_body.specs.Changes as change;
-ghost use Rattle.record_body.specs.Choices.{change_by, LiesWithin};
+ghost use Rattle.pcm_base.specs.declared.limits.TheConstants.{MAX_CELLS};
+ghost use Rattle.record_body.specs.Choices.{change_by, clips_choice, last_choice, LiesIn, LiesWithin};
 ghost use Rattle.project_state.specs.Numbers.{NumbersAgree, are_numbered_alike};
 ghost use Rattle.record_body.specs.Spelling.{side_byte};
 
@@ -108,18 +109,35 @@ fn same_number(old: &Track, new: &Track) -> bool
     new.number == old.number && new.number > 0
 }
 
-/// Whether the layouts are the same. Of layouts that have one number it reads no clip.
-fn same_layout(old: &Track, new: &Track) -> bool
-    requires numbers { NumbersAgree old.now new.now }
-    ensures { result ≡ change.same_clips old.now.layout new.now.layout }
+/// How the last clip is told, where all others are the same, and it begins at the same place.
+fn last_change(old: &Sequence, new: &Sequence) -> Choice
+    ensures value { result ≡ last_choice old.now new.now }
+    ensures few { length old.now ≤ MAX_CELLS }
 {
-    if same_number(old, new) {
-        return true;
+    let kept = common_len(old, new);
+    let gone = old.count() - kept;
+    if gone == 0 && old.count() == new.count() {
+        return Choice::Same;
     }
-    same_clips(old.layout.as_slice(), new.layout.as_slice())
+    Choice::Tail { gone, kept }
 }
 
-/// The shortest way to tell a track by the one of the current point with the same id.
+/// The shortest way to tell clips by others, in one pass over both.
+fn clips_change(old: &[Clip], new: &[Clip]) -> Choice
+    ensures value { result ≡ clips_choice old.now new.now }
+    ensures within { LiesIn new.now result }
+{
+    if same_but_last(old, new) {
+        return last_change(last_blocks(old), last_blocks(new));
+    }
+    if old.is_empty() && new.is_empty() {
+        return Choice::Same;
+    }
+    Choice::Whole
+}
+
+/// The shortest way to tell a track by the one of the current point with the same id. Of layouts that have one number
+/// it reads no clip.
 pub(crate) fn choose(old: &Track, new: &Track) -> Choice
     requires numbers { NumbersAgree old.now new.now }
     ensures value { change_by new.now result ≡ change.change_of (Some old.now) new.now }
@@ -128,18 +146,8 @@ pub(crate) fn choose(old: &Track, new: &Track) -> Choice
     if !same_settings(old, new) {
         return Choice::Whole;
     }
-    if same_layout(old, new) {
+    if same_number(old, new) {
         return Choice::Same;
     }
-    let olds = old.layout.as_slice();
-    let news = new.layout.as_slice();
-    if !same_but_last(olds, news) {
-        return Choice::Whole;
-    }
-    let blocks = last_blocks(olds);
-    let kept = common_len(blocks, last_blocks(news));
-    Choice::Tail {
-        gone: blocks.count() - kept,
-        kept,
-    }
+    clips_change(old.layout.as_slice(), new.layout.as_slice())
 }

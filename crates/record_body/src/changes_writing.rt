@@ -45,13 +45,13 @@ fn fresh(track: &Track, kept: usize) -> usize
     last_blocks(track.layout.as_slice()).count() - kept
 }
 
-/// How many bytes tell a track.
-fn diff_len(current: &Point, track: &Track) -> usize
-    requires numbers { AgreesIfAny (track_of track.now.id current.now) track.now }
-    ensures value { result ≡ length (change.diff_bytes current.now track.now) }
+/// How many bytes tell a track that is written so.
+fn diff_len(choice: Choice, track: &Track) -> usize
+    requires within { LiesWithin track.now choice }
+    ensures value { result ≡ 8 + length (change.change_bytes (change_by track.now choice)) }
     ensures few { result ≤ 2 ^ 38 }
 {
-    match choice_in(current, track) {
+    match choice {
         Choice::Same => 9,
         Choice::Whole => 1 + track_len(track),
         Choice::Tail { kept, .. } => 17 + 12 * fresh(track, kept),
@@ -123,14 +123,14 @@ fn write_change(choice: Choice, track: &Track, out: &mut [u8])
     }
 }
 
-/// The id, and how the track is written by the current point.
-fn write_diff(current: &Point, track: &Track, out: &mut [u8])
-    requires numbers { AgreesIfAny (track_of track.now.id current.now) track.now }
-    requires size { length out.old ≡ length (change.diff_bytes current.now track.now) }
-    ensures { out.new ≡ change.diff_bytes current.now track.now }
+/// The id, and how the track is written.
+fn write_diff(choice: Choice, track: &Track, out: &mut [u8])
+    requires within { LiesWithin track.now choice }
+    requires size { length out.old ≡ 8 + length (change.change_bytes (change_by track.now choice)) }
+    ensures { out.new ≡ little_bytes 8 track.now.id ++ change.change_bytes (change_by track.now choice) }
 {
     LittleEndian::write_u64(out, track.id);
-    write_change(choice_in(current, track), track, &mut out[8..]);
+    write_change(choice, track, &mut out[8..]);
 }
 
 fn all_diff_len(current: &Point, point: &Point) -> usize
@@ -140,7 +140,8 @@ fn all_diff_len(current: &Point, point: &Point) -> usize
 {
     let mut len = 0;
     for i in 0..point.len() {
-        len += diff_len(current, point.track_at(i));
+        let track = point.track_at(i);
+        len += diff_len(choice_in(current, track), track);
     }
     len
 }
@@ -153,8 +154,9 @@ fn write_all_diff(current: &Point, point: &Point, out: &mut [u8])
     let mut at = 0;
     for i in 0..point.len() {
         let track = point.track_at(i);
-        let end = at + diff_len(current, track);
-        write_diff(current, track, &mut out[at..end]);
+        let choice = choice_in(current, track);
+        let end = at + diff_len(choice, track);
+        write_diff(choice, track, &mut out[at..end]);
         at = end;
     }
 }

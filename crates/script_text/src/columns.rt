@@ -6,14 +6,15 @@ ghost use Rattle.script_text.specs.Text.{column_text};
 
 use super::gathered::Gathered;
 use super::numbers::{put_number, put_signed};
+use super::roots::root;
 use edit_ports::Sink;
-use pcm_base::{Scan, isqrt};
+use pcm_base::Scan;
 
 // The root of the mean of the squares, both rounded down.
 fn rms(scan: &Scan) -> u64
     ensures { result ≡ rms_of scan.now }
 {
-    isqrt(scan.squares.checked_div(scan.count).unwrap_or(0))
+    root(scan.squares.checked_div(scan.count).unwrap_or(0))
 }
 
 fn put_scan<O: Sink>(text: &mut Gathered, out: &mut O, scan: &Scan)

@@ -21,6 +21,7 @@ mod numbers;
 mod parsing;
 mod project;
 mod reasons;
+mod roots;
 mod summary;
 mod table;
 mod text;

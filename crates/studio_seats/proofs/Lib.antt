@@ -3,6 +3,7 @@ mod Common
 pub mod Refused
 pub mod TestFaults
 pub mod Chains
+pub mod FirstSeat
 pub mod Grown
 pub mod ImportLemmas
 pub mod AskLemmas

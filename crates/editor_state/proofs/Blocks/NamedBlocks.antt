@@ -12,7 +12,10 @@ use Rattle.layout_uses.specs.Layouts.{points_tracks, track_blocks}
 use Rattle.layout_uses.specs.{Laws.AreAmong, Laws.IsAmong}
 use Rattle.layout_uses.proofs.Naming.{counted_is_named, counts_most, free_is_unnamed, named_is_counted}
 use Rattle.layout_uses.proofs.{Putting.among_self, Tracks.times_counted}
-use Rattle.editor_state.specs.{Occurrences.HasAll, Occurrences.Moves}
+use Rattle.editor_state.specs.{Occurrences.HasAll, Occurrences.Moves, Occurrences.MovesSingles}
+use Rattle.layout_uses.specs.{Layouts.used_blocks, Tallies.Uses, Tallies.unlisted}
+use Rattle.layout_uses.proofs.Times.{named_append}
+use Rattle.std.specs.Prelude.{Option}
 use Rattle.editor_state.proofs.Lists.{all_so}
 
 -- ---- the blocks that they name
@@ -100,14 +103,44 @@ module _ {D : Type 0} (disk : Ghosts D) (s : Core D) (is : IsStudio disk s) (id 
 -- ---- the clipboard's share
 
 -- what is counted of the clipboard is there
-pub others_counted : (ts : List Track) (blocks : List BlockRef) (uses counts : Counts) → AreCounts ts blocks uses counts
-    → HasAll counts blocks
+pub others_counted : (ts : List Track) (blocks : List BlockRef) (uses : Uses) (counts : Counts)
+    → AreCounts ts blocks uses counts → HasAll counts blocks
 others_counted ts blocks uses counts is id = omega (arith, is.fresh_counts id, times_counted id ts blocks)
 
+-- and named by itself
+pub others_single : (ts : List Track) (blocks : List BlockRef) (uses : Uses) (counts : Counts)
+    → AreCounts ts blocks uses counts → (id : ℕ) → times_named id blocks ≤ uses.singles id
+others_single ts blocks uses counts is id =
+    omega (arith, is.singles id, named_append id (used_blocks (unlisted uses.lists ts)) blocks)
+
 -- other blocks in the place of the clipboard's
-pub others_moved : (ts : List Track) (before after : List BlockRef) (uses counts new : Counts)
-    → AreCounts ts before uses counts → Moves counts new before after → AreCounts ts after uses new
-others_moved ts before after uses counts new is moves = search (rules, times_counted)
+pub others_moved : (ts : List Track) (before after : List BlockRef) (uses uses' : Uses) (counts new : Counts)
+    → AreCounts ts before uses counts → Moves counts new before after → MovesSingles uses uses' before after
+    → AreCounts ts after uses' new
+others_moved ts before after uses uses' counts new is moves singles =
+    subst (λ (p : Counts × (ℕ → Option (List ℕ))).
+    AreCounts ts after (record { counts = p.0; lists = p.1; singles = uses'.singles }) new)
+    (λ i. (sym singles.counts i, sym singles.lists i))
+    (record {
+      fresh_uses = is.fresh_uses;
+      none_free = is.none_free;
+      fresh_counts = λ id. omega (
+        arith,
+        moves.counts id,
+        is.fresh_counts id,
+        times_counted id ts before,
+        times_counted id ts after,
+      );
+      listed = is.listed;
+      no_other = is.no_other;
+      singles = λ id. omega (
+        arith,
+        singles.singles id,
+        is.singles id,
+        named_append id (used_blocks (unlisted uses.lists ts)) before,
+        named_append id (used_blocks (unlisted uses.lists ts)) after,
+      );
+    })
 
 -- ---- how many there are
 

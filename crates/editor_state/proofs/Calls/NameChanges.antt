@@ -4,20 +4,20 @@ use Rattle.editor_state.proofs.Common.{AllByRecursion, Reply, BlockRef, Call, Ca
 use Rattle.editor_state.proofs.Common.{IsWhole, Counts, Item, IsValidPoint, IsGiven, PinsRise, MayPaste, IsHeld}
 use Rattle.editor_state.proofs.Common.{IsStudio, studio_of, named_blocks, clip_blocks, pin_tracks, Core, Pin, MayRemove}
 use Rattle.editor_state.proofs.Common.{Took, quietly, silent, history_tracks, AreCounts}
-use Rattle.layout_uses.specs.{Layouts.AreDrawn, Layouts.AreNumbered}
+use Rattle.layout_uses.specs.{Layouts.AreDrawn, Layouts.AreNumbered, Tallies.Uses}
 use Rattle.editor_state.proofs.SameStudios.{durable_so}
 use Rattle.editor_state.proofs.Calls.FileRemovals.{PacksNone, RemovesNone, frees_none, ids_still, no_record, none_given}
 use Rattle.editor_state.proofs.{Images.ImageProjects.keeps_now, Calls.OtherFiles.others_none}
 use Rattle.editor_state.proofs.{Refusals.PurgeNumbers.quiet_purges, Calls.QuietCalls.IsQuiet}
 
 -- another clipboard, other pins, uses and counts
-abbrev pub renamed : {D : Type 0} → Core D → Option (List (List Item)) → List Pin → ℕ → Counts → Counts → Core D
+abbrev pub renamed : {D : Type 0} → Core D → Option (List (List Item)) → List Pin → ℕ → Uses → Counts → Core D
 renamed s clip pins next_pin uses counts =
     record s { clipboard = clip; pins = pins; next_pin = next_pin; uses = uses; counts = counts }
 
 -- these name no blocks but those that the studio names
 pub record Renames {D : Type 0} (s : Core D) (clip : Option (List (List Item))) (pins : List Pin) (next_pin : ℕ)
-    (uses counts : Counts) : Type 1 where
+    (uses : Uses) (counts : Counts) : Type 1 where
   pub covers : (P : BlockRef → Type 0) → AllByRecursion P (named_blocks s)
       → AllByRecursion P (named_blocks (renamed s clip pins next_pin uses counts))
   pub numbers : PinsRise 1 next_pin pins
@@ -32,7 +32,7 @@ pub record Renames {D : Type 0} (s : Core D) (clip : Option (List (List Item))) 
   pub ids : (id : ℕ) → IsSome (counts id) ↔ IsSome (s.counts id)
 
 module _ {D : Type 0} (disk : Ghosts D) (s : Core D) (is : IsStudio disk s) (clip : Option (List (List Item)))
-    (pins : List Pin) (next_pin : ℕ) (uses counts : Counts) (names : Renames s clip pins next_pin uses counts) where
+    (pins : List Pin) (next_pin : ℕ) (uses : Uses) (counts : Counts) (names : Renames s clip pins next_pin uses counts) where
   abbrev new : Core D
   new = renamed s clip pins next_pin uses counts
 

@@ -1,7 +1,7 @@
 -- The blocks of the row, and the rows after it.
 use Rattle.cell_reader.proofs.Common.{◌≡◌, ℕ, ◌+◌, List, ◌++◌, length, map, subst, sym, ap, ◌∙◌, arith}
 use Rattle.cell_reader.proofs.Common.{length-map, map-append, on_ok_weaker, Contains-append_left}
-use Rattle.cell_reader.proofs.Common.{Contains-append_right, exit_err, Files, Cell, BlockRef, block_samples, blocks_len}
+use Rattle.cell_reader.proofs.Common.{Contains-append_right, exit_err, Files, Cell, block_samples}
 use Rattle.cell_reader.proofs.Common.{length-blocks, reads_more, reads_then, told_on, Puts, HasBlocks, stored_of, Sample}
 use Rattle.std.specs.Prelude.{OnOk}
 use Rattle.block_sequence.{specs.Rows.flat, proofs.FlatRows.blocks_len-append, proofs.FlatRows.block_samples-append}

@@ -1,5 +1,5 @@
 -- One row more is put.
-use Rattle.cell_reader.proofs.Common.{◌≡◌, ℕ, ◌+◌, ℤ, List, [], ◌∷◌, ◌++◌, length, drop, map, refl, sym, ap}
+use Rattle.cell_reader.proofs.Common.{◌≡◌, ℕ, ◌+◌, ℤ, List, [], ◌++◌, length, drop, map, refl, sym, ap}
 use Rattle.cell_reader.proofs.Common.{subst, ◌∙◌, arith, length-map, map-append, length-blocks}
 use Rattle.cell_reader.proofs.Common.{Contains-append_left, Contains-append_right, Files, Contains, reads_more}
 use Rattle.cell_reader.proofs.Common.{reads_none, reads_then, told_on, HasBlocks, blocks_len, block_samples, BlockRef}

@@ -1,6 +1,6 @@
 -- One block more is passed.
-use Rattle.cell_reader.proofs.Common.{◌≡◌, ℕ, ◌+◌, ◌-◌, ◌<◌, ◌∷◌, ◌++◌, [], List, length, take, drop, get_or, refl, sym}
-use Rattle.cell_reader.proofs.Common.{ap, ◌∙◌, arith, subst, ⊎_elim, length-drop, length-take, nil_from_length, BlockRef}
+use Rattle.cell_reader.proofs.Common.{◌≡◌, ◌+◌, ◌-◌, ◌<◌, ◌∷◌, ◌++◌, [], List, length, take, drop, get_or, refl, sym}
+use Rattle.cell_reader.proofs.Common.{ap, arith, subst, ⊎_elim, length-drop, length-take, nil_from_length, BlockRef}
 use Rattle.cell_reader.proofs.Common.{blocks_len, first_of}
 use Rattle.block_sequence.{specs.Rows.flat, proofs.FlatRows.blocks_len-append}
 use Rattle.cell_reader.specs.Rests.{EndsBehind}

@@ -1,6 +1,6 @@
 -- The items so far.
-use Rattle.editor_core.proofs.Common.{take, count_of, strip_blocks, Dropped}
+use Rattle.editor_core.proofs.Common.{take, strip_blocks, Unnames}
 use Rattle.editor_core.proofs.clipboards.drop_items.Given as goal
 
 abbrev pub invariant-loop-item : goal.invariant-loop-item
-invariant-loop-item l = Dropped (count_of l.fn.ledger) (count_of l.ledger) (strip_blocks (take l.item-index l.items))
+invariant-loop-item l = Unnames l.fn.ledger l.ledger (strip_blocks (take l.item-index l.items))

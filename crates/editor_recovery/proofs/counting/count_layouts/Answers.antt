@@ -1,16 +1,16 @@
 -- Each block of the history is noted, and is counted by its layouts.
-use Rattle.editor_recovery.proofs.Common.{count_of, history_tracks}
+use Rattle.editor_recovery.proofs.Common.{counts_of, history_tracks}
 use Rattle.editor_recovery.proofs.Ledgers.{counted_then, points_few, points_there, tally_then}
 use Rattle.editor_recovery.proofs.counting.count_layouts.Goals as goal
 
 pub count_points-requires-clause-there : goal.count_points-requires-clause-there
 count_points-requires-clause-there c =
-    points_there c.args.files.now c.args.history.now.history c.requires.named (count_of c.in_ok-tally.tally.ledger)
+    points_there c.args.files.now c.args.history.now.history c.requires.named (counts_of c.in_ok-tally.tally.ledger)
     c.in_ok-tally.ensures.noted
 
 pub count_points-requires-clause-few : goal.count_points-requires-clause-few
 count_points-requires-clause-few c =
-    points_few c.args.files.now c.args.history.now.history c.requires.named (count_of c.in_ok-tally.tally.ledger)
+    points_few c.args.files.now c.args.history.now.history c.requires.named (counts_of c.in_ok-tally.tally.ledger)
     c.in_ok-tally.ensures.noted c.requires.few
 
 pub returns-clause-counted : goal.returns-clause-counted

@@ -1,17 +1,16 @@
--- A layout that the point before has brings nothing new.
-use Rattle.editor_recovery.proofs.Common.{sym, ◌∙◌, size_in}
-use Rattle.editor_recovery.proofs.Searched.{layout_searched}
+-- The old track is one of the point before.
+use Rattle.editor_recovery.proofs.Common.{size_in}
+use Rattle.layout_uses.specs.Layouts.{Agree}
+use Rattle.editor_recovery.specs.Sizes.{IsSearched}
+use Rattle.editor_recovery.proofs.Searched.{track_holds, track_part}
 use Rattle.editor_recovery.proofs.sizes.wrong_track.Goals as goal
 
-pub returns-then-is_as_before : goal.returns-then-is_as_before
-returns-then-is_as_before c =
-    let like = c.is_as_before.ensures c.if-is_as_before.true in
-    sym (layout_searched (size_in c.args.sizes.now) c.args.found c.args.before.now c.args.track.now like.0
-    c.requires.numbered c.requires.searched like.1 like.2)
+pub wrong_layout-requires-clause-numbered : goal.wrong_layout-requires-clause-numbered
+wrong_layout-requires-clause-numbered c =
+    track_holds (Agree c.args.track.now) c.args.before.now c.in-Some.i c.track_at.result.now c.track_at.ensures
+    c.requires.numbered
 
-pub wrong_clips-requires : goal.wrong_clips-requires
-wrong_clips-requires c =
-    rw c.as_slice.ensures.value c.requires.blocks
-
-pub returns : goal.returns
-returns c = c.wrong_clips.ensures ∙ rw c.as_slice.ensures.value
+pub wrong_layout-requires-clause-searched : goal.wrong_layout-requires-clause-searched
+wrong_layout-requires-clause-searched c =
+    track_part (IsSearched (size_in c.args.sizes.now) c.args.found) c.args.before.now c.in-Some.i
+    c.track_at.result.now c.track_at.ensures c.requires.searched

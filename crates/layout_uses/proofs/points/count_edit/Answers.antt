@@ -7,35 +7,35 @@ use Rattle.layout_uses.proofs.points.count_edit.Goals as goal
 pub leave_points-requires-clause-all : goal.leave_points-requires-clause-all
 leave_points-requires-clause-all c =
     let h = c.args.history.now.history in
-    let n = c.cursor-kept.result + 1 in
+    let n = c.cursor-cursor.result + 1 in
     subst (λ (k : ℕ). Has (points_tracks (drop n (take k (points_of h)))) c.use_point.new.self)
     (sym c.len-len.ensures.len)
     (subst (λ z. Has z c.use_point.new.self) (sym (rest_is h n))
-    (has_last h c.cursor-kept.ensures.whole c.args.point.now n c.args.tally.now c.use_point.new.self
+    (has_last h c.cursor-cursor.ensures.whole c.args.point.now n c.args.tally.now c.use_point.new.self
     c.use_point.ensures c.requires.counted))
 
 pub leave_points-requires-2-clause-all : goal.leave_points-requires-2-clause-all
 leave_points-requires-2-clause-all c =
     let h = c.args.history.now.history in
-    let n = c.cursor-kept.result + 1 in
+    let n = c.cursor-cursor.result + 1 in
     let went = goes_rest h n _ c.use_point.new.self c.leave_points.new.tally c.len-len.ensures.len
     c.leave_points.ensures in
     let whole = c.depth-depth.ensures.whole in
-    has_oldest h c.cursor-kept.ensures.whole c.args.point.now n c.args.tally.now c.use_point.new.self
+    has_oldest h c.cursor-cursor.ensures.whole c.args.point.now n c.args.tally.now c.use_point.new.self
     c.use_point.ensures c.leave_points.new.tally went c.saturating_sub.result
     (omega (arith, c.saturating_sub.ensures, whole.current, whole.few, c.depth-depth.ensures.depth)) c.requires.counted
 
 pub returns : goal.returns
 returns c tag =
     let h = c.args.history.now.history in
-    let n = c.cursor-kept.result + 1 in
+    let n = c.cursor-cursor.result + 1 in
     let went = goes_rest h n _ c.use_point.new.self c.leave_points.new.tally c.len-len.ensures.len
     c.leave_points.ensures in
     let d = c.depth-depth.ensures in
-    let at : n ≡ h.cursor + 1 = ap (λ (k : ℕ). k + 1) c.cursor-kept.ensures.cursor in
+    let at : n ≡ h.cursor + 1 = ap (λ (k : ℕ). k + 1) c.cursor-cursor.ensures.cursor in
     let away : c.saturating_sub.result ≡ h.cursor + 1 + 1 - h.depth =
-    c.saturating_sub.ensures ∙ (λ i. c.cursor-kept.ensures.cursor i + 1 + 1 - c.depth-depth.ensures.depth i) in
-    became_edited h c.cursor-kept.ensures.whole c.args.point.now n c.args.tally.now c.use_point.new.self
+    c.saturating_sub.ensures ∙ (λ i. c.cursor-cursor.ensures.cursor i + 1 + 1 - c.depth-depth.ensures.depth i) in
+    became_edited h c.cursor-cursor.ensures.whole c.args.point.now n c.args.tally.now c.use_point.new.self
     c.use_point.ensures c.leave_points.new.tally went c.saturating_sub.result
     (omega (arith, c.saturating_sub.ensures, d.whole.current, d.whole.few, d.depth)) c.leave_points-2.new.tally tag
     c.leave_points-2.ensures at away

@@ -4,4 +4,4 @@ use Rattle.record_body.proofs.Parts.{length_blocks}
 use Rattle.record_body.proofs.changes_writing.diff_len.Goals as goal
 
 pub returns-in-Tail-clause-value : goal.returns-in-Tail-clause-value
-returns-in-Tail-clause-value c = search (arith, c.in-Tail.ensures.value, c.fresh.ensures.value, length_blocks)
+returns-in-Tail-clause-value c = search (arith, c.in-Tail.is, c.fresh.ensures.value, length_blocks)

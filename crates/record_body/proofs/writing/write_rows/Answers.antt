@@ -1,5 +1,5 @@
 -- The blocks of one row more are written.
-use Rattle.record_body.proofs.Common.{◌≡◌, ◌+◌, ◌-◌, ◌*◌, ◌++◌, List, [], length, take, drop, refl, sym, ap, ◌∙◌, arith, ℕ}
+use Rattle.record_body.proofs.Common.{◌≡◌, ◌+◌, ◌-◌, ◌++◌, List, [], length, take, drop, sym, ap, ◌∙◌, arith, ℕ}
 use Rattle.record_body.proofs.Common.{append_assoc, append-nil, length-append, length-drop, drop_all, take_all, BlockRef}
 use Rattle.record_body.proofs.Common.{flat_map, block_bytes}
 use Rattle.std.proofs.{lemmas.Grind.flat_map-append, lemmas.Slice.take-put_mid}

@@ -6,7 +6,7 @@ use Rattle.pcm_base.specs.{declared.refusal.Refusal.Refusal, declared.sound.Fram
 use Rattle.pin_turn.specs.Calls.{known}
 use Rattle.studio_seats.specs.Onward.{IsReadOf, Onward, worker}
 use Rattle.studio_seats.specs.{Desks.IsAt, Desks.start_at, Shows.IsMixOf, Stands.origin}
-use Rattle.studio_seats.proofs.{OnwardLemmas.onward_on, ReadLemmas.reads_self}
+use Rattle.studio_seats.proofs.{OnwardLemmas.onward_on, OnwardLemmas.onward_self, ReadLemmas.reads_self}
 use Rattle.seat_examples.proofs.jobs.play.Goals as goal
 
 -- what was read with room to spare is all that there is
@@ -17,6 +17,24 @@ all_read all out mix count room spare is given =
     let len = ap length cut in
     let some = length-take room all in
     sym (take_all room all (omega (arith, len, some, spare))) ∙ cut
+
+pub reads-init : goal.reads-init
+reads-init g c =
+    let new = c.new-giver in
+    let of = new.ensures.of in
+    let o = origin g.S.Store g.V.Vault (start_at c.args.desk.now) in
+    record {
+      desk = of.0;
+      pin = of.1;
+      goes = subst (Onward (IsReadOf c.args.pin) (known c.args.seat)) (sym new.ensures.seat)
+          (onward_self (IsReadOf c.args.pin) (known c.args.seat));
+      shows = λ all h.
+          subst (λ (d : _). IsMixOf (origin g.S.Store g.V.Vault (start_at d)) (known new.result.seat).seen new.result.pin all)
+          (sym of.0)
+          (subst (λ (v : _). IsMixOf o v.seen new.result.pin all) (sym new.ensures.seat)
+          (subst (λ (p : ℕ). IsMixOf o (known c.args.seat).seen p all) (sym of.1) h));
+      read = λ some. absurd (omega (arith, some));
+    }
 
 pub returns-then-not-is_mix-clause-same : goal.returns-then-not-is_mix-clause-same
 returns-then-not-is_mix-clause-same g c =

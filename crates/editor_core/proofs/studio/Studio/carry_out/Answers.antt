@@ -8,7 +8,7 @@ use Rattle.edit_ops.specs.Plans.{AreNew}
 use Rattle.editor_state.specs.Edits.{Committed, TaggedEdit, tagged_by}
 use Rattle.editor_state.specs.{Made.PiecesReadable}
 use Rattle.editor_edits.proofs.EditBodies.{carried_at, commit_of, body_point}
-use Rattle.editor_edits.proofs.EditResults.{IsPointed, lasts_so, out_fits, out_named, out_room, out_there}
+use Rattle.editor_edits.proofs.EditResults.{IsPointed, lasts_so, out_fits, out_named, out_room, out_single, out_there}
 use Rattle.editor_edits.proofs.EditResults.{recorded_counted, recorded_few, recorded_there, took_so}
 use Rattle.editor_edits.proofs.{EditPlans.pieces_there, EditSteps.edit_err, EditLasts.lasts_err}
 use Rattle.editor_edits.proofs.{BeforeBlocks.carried_still, VaultCuts.cut_or, VaultCuts.serves_so}
@@ -189,7 +189,10 @@ take_out-requires g c =
       there = out_there g.S.Store s c.requires.studio c.requires.going e plan now at;
       room = out_room g.S.Store s c.requires.studio c.requires.going e plan now at;
       fits = out_fits g.S.Store s c.requires.studio c.requires.going e plan now at;
-      named = out_named g.S.Store s c.requires.studio c.requires.going e plan now at;
+      named = record {
+        all = out_named g.S.Store s c.requires.studio c.requires.going e plan now at;
+        singles = out_single g.S.Store s c.requires.studio c.requires.going e plan now at;
+      };
     }
 
 pub returns-clause-took : goal.returns-clause-took
@@ -200,8 +203,8 @@ returns-clause-took g c =
       λ call sound serves edit. inr (took_so g.S.Store (core_of c.args.self.now) c.requires.studio c.requires.going
           (done_as g (goal.at.returns-clause-took g c).In_ok-carry) (c.requires.planned by.0)
           (core_of c.take_recorded.new.self) (pointed g (goal.at.returns-clause-took g c).After-take_recorded)
-          (core_of c.take_out.new.self) c.take_out.ensures.fields c.take_out.ensures.moves g.met.S.Store.may_fewer
-          call sound edit),
+          (core_of c.take_out.new.self) c.take_out.ensures.fields c.take_out.ensures.moves c.take_out.ensures.single
+          g.met.S.Store.may_fewer call sound edit),
     )
 
 pub returns-clause-lasts : goal.returns-clause-lasts
@@ -209,4 +212,5 @@ returns-clause-lasts g c = λ call sound serves one. lasts_so g.S.Store (core_of
     c.requires.studio c.requires.going (done_as g (goal.at.returns-clause-lasts g c).In_ok-carry)
     (c.requires.planned c.in_ok-carry.ensures.carried.0) (core_of c.take_recorded.new.self)
     (pointed g (goal.at.returns-clause-lasts g c).After-take_recorded)
-    (core_of c.take_out.new.self) c.take_out.ensures.fields c.take_out.ensures.moves call sound one
+    (core_of c.take_out.new.self) c.take_out.ensures.fields c.take_out.ensures.moves c.take_out.ensures.single call
+    sound one

@@ -1,16 +1,17 @@
 -- A copy is a step.
 use Rattle.editor_core.proofs.Common.{refl, sym, ap, ◌∙◌, subst, List, Err, Ok, err_from_is_err_and, after_err, Line}
-use Rattle.editor_core.proofs.Common.{count_of, IsUndamaged, Track, RunRange, run_of, strips_blocks, Core, lacks, Took}
+use Rattle.editor_core.proofs.Common.{counts_of, IsUndamaged, Track, RunRange, run_of, strips_blocks, Core, lacks, Took}
 use Rattle.editor_core.proofs.Common.{quietly, as_reply, core_of, named_there}
 use Rattle.std.specs.Prelude.{IfErr}
 use Rattle.pcm_base.specs.{declared.answer.Reply.TheVariants.Copied}
 use Rattle.editor_tracks.specs.Copies.{Copies, AnswersCopy}
-use Rattle.editor_tracks.proofs.CopySteps.{clip_counted, clip_room, copy_stopped, copy_lacks, copy_refused, strips_few}
-use Rattle.editor_tracks.proofs.CopySteps.{strips_named, copy_done}
+use Rattle.editor_tracks.proofs.CopySteps.{clip_counted, clip_room, clip_single, copy_done, copy_lacks, copy_refused}
+use Rattle.editor_tracks.proofs.CopySteps.{copy_stopped, strips_few, strips_named}
 use Rattle.editor_commits.proofs.CallsWithoutReads.{copies_tell}
 use Rattle.pcm_base.specs.declared.command.Command.TheVariants as command
 use Rattle.pcm_base.specs.declared.refusal.Refusal.TheVariants as refusal
 use Rattle.editor_core.proofs.studio.Studio.copy.Goals as goal
+use Rattle.layout_uses.specs.Tallies.{uses_of}
 
 pub returns-in-Some-clause-took : goal.returns-in-Some-clause-took
 returns-in-Some-clause-took g c =
@@ -76,7 +77,10 @@ take_clip-requires g c =
       few =
           strips_few g.S.Store s c.requires range (g.met.S.Store.may_fewer s.store)
           c.in_ok-layout_of.field-0.now c.in_ok-layout_of.ensures c.in_default.is v copies;
-      named = clip_counted g.S.Store (core_of c.args.self.now) c.requires;
+      named = record {
+        all = clip_counted g.S.Store (core_of c.args.self.now) c.requires;
+        singles = clip_single g.S.Store (core_of c.args.self.now) c.requires;
+      };
     }
 
 pub returns-clause-took : goal.returns-clause-took
@@ -91,7 +95,8 @@ returns-clause-took g c =
     subst (λ (z : Core g.row.S.Denot). Took g.S.Store s (quietly call (Ok Copied)) z) (sym c.take_clip.ensures.fields)
     (copy_done g.S.Store s c.requires range (g.met.S.Store.may_fewer s.store)
     c.in_ok-layout_of.field-0.now c.in_ok-layout_of.ensures c.in_default.is v copies
-    (count_of c.take_clip.new.self.tally.ledger) c.take_clip.ensures.moves c.take_clip.ensures.most)
+    (uses_of c.take_clip.new.self.tally) (counts_of c.take_clip.new.self.tally.ledger) c.take_clip.ensures.moves
+    c.take_clip.ensures.single c.take_clip.ensures.most)
 
 pub returns-clause-copied : goal.returns-clause-copied
 returns-clause-copied g c =

@@ -1,7 +1,7 @@
 -- An edit that makes no blocks is a step.
 use Rattle.editor_core.proofs.Common.{◌≡◌, ◌∙◌, refl, sym, ap, subst, ℕ, ◌+◌, ◌≤◌, ◌<◌, ◌^◌, List, length, Err, Ok}
 use Rattle.editor_core.proofs.Common.{IfOk, None, ⊎_elim, arith, after_err, Done, Line, record_test, History, edited}
-use Rattle.editor_core.proofs.Common.{◌otherwise◌, Counts, count_of, AllPass, Stored, IsUndamaged, Edit, current_tracks}
+use Rattle.editor_core.proofs.Common.{◌otherwise◌, Counts, AllPass, Stored, IsUndamaged, Edit, current_tracks}
 use Rattle.editor_core.proofs.Common.{Track, point_blocks, AgreeById, AllBelow, Tally, history_tracks, Becomes}
 use Rattle.editor_core.proofs.Common.{MayBecome, Took, quietly, silent, as_reply, AddsBody, AddsDrawn, all_bytes}
 use Rattle.editor_core.proofs.Common.{single, whole_len, Core, HasIds, is_block, core_of, few_more, named_there}
@@ -20,6 +20,8 @@ use Rattle.pcm_base.specs.declared.refusal.Refusal.TheVariants as refusal
 use Rattle.editor_core.proofs.studio.Studio.edit.Given.{Over}
 use Rattle.editor_core.proofs.studio.Studio.edit.Goals.{After-make_room, In_ok-point, In_ok-point-2}
 use Rattle.editor_core.proofs.studio.Studio.edit.Goals as goal
+use Rattle.layout_uses.specs.Tallies.{uses_of}
+use Rattle.row_ledger.specs.Lists.{counts_of}
 
 -- the edit passed its tests, and makes this point
 record IsReady {D : Type 0} (s : Core D) (e : PlainEdit) (p : List Track) : Type 0 where
@@ -67,10 +69,10 @@ left g c = (
 -- and what holds of the counts and the point holds of those left
 of_left : (g : Over) (c : In_ok-point-2 g) (P : Counts → List Track → Type 0)
     → P (core_of c.args.self.now).counts c.in_ok-point.point
-    → P (count_of c.commit_point.new.self.tally.ledger) c.in_ok-point-2.point
+    → P (counts_of c.commit_point.new.self.tally.ledger) c.in_ok-point-2.point
 of_left g c P =
     let l = left g c in
-    let counts = sym (ap (λ (t : Tally). count_of t.ledger) l.2
+    let counts = sym (ap (λ (t : Tally). counts_of t.ledger) l.2
     ∙ ap (λ (z : Core g.row.S.Denot). z.counts) c.make_room.ensures.same) in
     subst (λ (w : Counts × List Track). P w.0 w.1) (λ i. (counts i, sym l.0 i))
 
@@ -229,13 +231,13 @@ returns-clause-took g c =
     let number : mid.next_layout + c.layouts_for-layouts.result ≡ s.next_layout + layouts_by e =
     λ i. layout i + layouts i in
     let counted = subst (λ (n : ℕ). CountsAfter s.pins (edited s.history p 0) s.clipboard n s.counts
-    (count_of after.uses) (count_of after.ledger)) (sym number)
+    (uses_of after) (counts_of after.ledger)) (sym number)
     (edit_counts g.S.Store s is e c.requires.good r.none p r.made before after
     (ap (λ (z : Core g.row.S.Denot). z.uses) same) (ap (λ (z : Core g.row.S.Denot). z.counts) same) fits becomes) in
     subst (λ (z : Core g.row.S.Denot). Took g.S.Store s (quietly (Line (line_of e)) (Ok Done)) z)
     (sym c.take_point.ensures.fields)
     (edit_done g.S.Store s is e c.requires.good r.none p r.made r.tracks r.going r.number c.in_ok-point-2.point mid
-    (edited mid.history c.in_ok-point-2.point 0) (count_of after.uses) (count_of after.ledger)
+    (edited mid.history c.in_ok-point-2.point 0) (uses_of after) (counts_of after.ledger)
     (mid.next_track + c.tracks_for-tracks.result) (mid.next_layout + c.layouts_for-layouts.result) adds
     (λ i. edited (l.1 i) (l.0 i) 0) counted (λ i. next i + tracks i) number)
 

@@ -1,6 +1,11 @@
 -- One block after another.
-use Rattle.editor_core.proofs.Common.{◌+◌, [], ◌∷◌, ◌++◌, arith, count_of, core_of, first_none, long}
-use Rattle.editor_cleanup.proofs.{FirstIds.none_from, ForgetPass.forgets_all, ForgetPass.forgetting_more}
+use Rattle.editor_core.proofs.Common.{◌≡◌, ◌+◌, [], ◌∷◌, ◌++◌, inl, refl, sym, subst, length, arith, core_of}
+use Rattle.editor_core.proofs.Common.{first_none, long}
+use Rattle.row_ledger.specs.Lists.{counts_of}
+use Rattle.layout_uses.specs.Tallies.{Uses}
+use Rattle.editor_cleanup.proofs.{FirstIds.none_from, ForgetPass.Forgetting, ForgetPass.forgets_all}
+use Rattle.editor_cleanup.proofs.{ForgetPass.forgetting_more}
+use Rattle.editor_core.proofs.SameUses.{same_uses}
 use Rattle.editor_core.proofs.studio.Studio.forget_first.Goals as goal
 
 pub returns-in_default : goal.returns-in_default
@@ -17,10 +22,21 @@ loop-i-preserved g c =
     let s = core_of c.args.self.now in
     let mid = core_of c.loop-i.self in
     let is = c.loop-i.invariant in
-    let id = c.in-Some.id in (
+    let id = c.in-Some.id in
+    let forgot = c.forget.ensures in
+    let counts = counts_of c.forget.new.self in
+    let tally = c.loop-i.self.tally in
+    let uses = same_uses tally (record tally { ledger = c.forget.new.self }) (λ n. refl) forgot.lists forgot.singles in (
       is.0 ++ id ∷ [],
       id + 1,
       omega (arith, long is.0 id, is.2),
-      forgetting_more s is.0 is.1 id mid (count_of c.forget.new.self) is.3 c.in-Some.ensures.found
-          c.forget.ensures.counts,
+      subst (λ (u : Uses). Forgetting s (is.0 ++ id ∷ []) (id + 1) (record mid { counts = counts; uses = u })) (sym uses)
+          (forgetting_more s is.0 is.1 id mid counts is.3 c.in-Some.ensures.found forgot.counts),
     )
+
+pub returns : goal.returns
+returns g c =
+    let is = c.loop-i.invariant in
+    let all : length is.0 ≡ c.args.count = omega (arith, is.2, c.loop-i-test.false, c.loop-i.auto.i-end) in
+    forgets_all (core_of c.args.self.now) c.args.count is.0 is.1 (core_of c.loop-i.self) is.3
+    (record { end = is.1; next = is.3.next; few = omega (arith, all); all = inl all })

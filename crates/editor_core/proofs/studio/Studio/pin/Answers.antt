@@ -1,10 +1,9 @@
 -- A pin is a step.
 use Rattle.editor_core.proofs.Common.{◌≡◌, sym, ap, ◌∙◌, subst, ℕ, ◌+◌, ◌-◌, ◌<◌, ◌^◌, List, length, Err, Ok, arith}
-use Rattle.editor_core.proofs.Common.{err_from_is_err_and, after_err, count_of, Stored, IsUndamaged, Track}
+use Rattle.editor_core.proofs.Common.{err_from_is_err_and, after_err, Stored, IsUndamaged, Track}
 use Rattle.editor_core.proofs.Common.{point_blocks, current_tracks, Core, HasIds, Took, quietly, as_reply, core_of}
 use Rattle.editor_core.proofs.Common.{named_there, few_more, Few}
 use Rattle.std.specs.Prelude.{IfErr}
-use Rattle.block_ledger.specs.Entries.{LedgerState}
 use Rattle.layout_uses.specs.Tallies.{Comes}
 use Rattle.editor_views.specs.Pins.{AnswersPin}
 use Rattle.editor_commits.proofs.CurrentProject.{current_valid, old_names}
@@ -12,6 +11,8 @@ use Rattle.editor_views.proofs.PinSteps.{pinned, pin_spent, pin_stopped, pin_wan
 use Rattle.pcm_base.specs.declared.answer.Reply.TheVariants as reply
 use Rattle.pcm_base.specs.declared.command.Call.TheVariants as call
 use Rattle.editor_core.proofs.studio.Studio.pin.Goals as goal
+use Rattle.layout_uses.specs.Tallies.{uses_of}
+use Rattle.row_ledger.specs.Lists.{RowsState, counts_of}
 
 pub returns-in-Some-clause-took : goal.returns-in-Some-clause-took
 returns-in-Some-clause-took g c =
@@ -58,7 +59,7 @@ use_current-requires-clause-there g c =
     let was = same_history c.add_pin.new.self.history c.args.self.now.history c.in_ok-add_pin.ensures.history in
     let base : HasIds s.counts (point_blocks (current_tracks s.history)) = named_there g.S.Store s c.requires
     (point_blocks (current_tracks s.history)) (old_names g.S.Store s c.requires) in
-    subst (λ (l : LedgerState). HasIds (count_of l) (point_blocks (current_tracks c.add_pin.new.self.history.history)))
+    subst (λ (l : RowsState). HasIds (counts_of l) (point_blocks (current_tracks c.add_pin.new.self.history.history)))
     (sym c.in_ok-add_pin.ensures.ledger) (subst (λ (ts : List Track). HasIds s.counts (point_blocks ts)) (sym was) base)
 
 pub use_current-requires-clause-few : goal.use_current-requires-clause-few
@@ -67,7 +68,7 @@ use_current-requires-clause-few g c =
     let was = same_history c.add_pin.new.self.history c.args.self.now.history c.in_ok-add_pin.ensures.history in
     let base : Few s.counts (point_blocks (current_tracks s.history)) = few_more g.S.Store s c.requires
     (current_tracks s.history) s.next_track (current_valid g.S.Store s c.requires) in
-    subst (λ (l : LedgerState). Few (count_of l) (point_blocks (current_tracks c.add_pin.new.self.history.history)))
+    subst (λ (l : RowsState). Few (counts_of l) (point_blocks (current_tracks c.add_pin.new.self.history.history)))
     (sym c.in_ok-add_pin.ensures.ledger) (subst (λ (ts : List Track). Few s.counts (point_blocks ts)) (sym was) base)
 
 pub returns-clause-took : goal.returns-clause-took
@@ -86,13 +87,13 @@ returns-clause-took g c =
     let replied : s.next_pin ≡ mid.next_pin + 1 - 1 = omega (arith, number) in
     subst (λ (n : ℕ). Took g.S.Store s (quietly call.Pin (Ok (reply.Pinned n))) (record mid {
       next_pin = mid.next_pin + 1;
-      uses = count_of tally'.uses;
-      counts = count_of tally'.ledger;
+      uses = uses_of tally';
+      counts = counts_of tally'.ledger;
     })) replied
     (subst (λ (z : Core g.row.S.Denot). Took g.S.Store s (quietly call.Pin (Ok (reply.Pinned s.next_pin))) (record z {
       next_pin = z.next_pin + 1;
-      uses = count_of tally'.uses;
-      counts = count_of tally'.ledger;
+      uses = uses_of tally';
+      counts = counts_of tally'.ledger;
     })) (sym c.in_ok-add_pin.ensures.ok)
     (pinned g.S.Store s is
     (g.met.S.Store.may_fewer s.store) tally tally' uses_are counts_are came room c.in_default.is))
@@ -106,8 +107,8 @@ returns-clause-pinned g c =
       omega (arith, number),
       (λ i. record (c.in_ok-add_pin.ensures.ok i) {
         next_pin = number i + 1;
-        uses = count_of tally'.uses;
-        counts = count_of tally'.ledger;
+        uses = uses_of tally';
+        counts = counts_of tally'.ledger;
       }),
     )
 

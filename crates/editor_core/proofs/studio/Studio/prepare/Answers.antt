@@ -1,8 +1,8 @@
 -- Room in memory leaves the current point as it was. The numbers of layouts, or the records, refuse what is to be
 -- prepared.
-use Rattle.editor_core.proofs.Common.{ℕ, inl, inr, ⊎_elim, subst, sym, ◌+◌, IfErr, after_err, record_test, ◌otherwise◌}
+use Rattle.editor_core.proofs.Common.{ℕ, inl, inr, ⊎_elim, subst, sym, ◌∙◌, ◌+◌, IfErr, after_err, record_test}
 use Rattle.editor_core.proofs.Common.{Writing, all_len, whole_len, writing, Undrawn, NotPrepared, Core, current_tracks}
-use Rattle.editor_core.proofs.Common.{BodyAgrees, AgreeById, core_of}
+use Rattle.editor_core.proofs.Common.{BodyAgrees, AgreeById, core_of, ◌otherwise◌}
 use Rattle.editor_state.proofs.Refusals.CommitTests.{outgrows}
 use Rattle.editor_core.proofs.studio.Studio.prepare.Goals as goal
 
@@ -15,6 +15,12 @@ pub write_records-requires-clause-again : goal.write_records-requires-clause-aga
 write_records-requires-clause-again g c =
     subst (λ (z : Core g.row.S.Denot). AgreeById (current_tracks z.history) (current_tracks z.history))
     (sym c.ready_counts.ensures.same) c.requires.again
+
+pub returns-in_err-write_records-clause-same : goal.returns-in_err-write_records-clause-same
+returns-in_err-write_records-clause-same g c = c.write_records.ensures.same ∙ c.ready_counts.ensures.same
+
+pub returns-clause-same : goal.returns-clause-same
+returns-clause-same g c = c.write_records.ensures.same ∙ c.ready_counts.ensures.same
 
 -- numbers of layouts are not left
 pub returns-in_err-may_draw-clause-err : goal.returns-in_err-may_draw-clause-err

@@ -12,6 +12,8 @@ use Rattle.pcm_base.specs.declared.command.Command.TheVariants as command
 use Rattle.editor_core.proofs.MoveAnswers.{IsMove, refused, unadded}
 use Rattle.editor_core.proofs.studio.Studio.purge.Given.{Over}
 use Rattle.editor_core.proofs.studio.Studio.purge.Goals as goal
+use Rattle.layout_uses.specs.Tallies.{uses_of}
+use Rattle.row_ledger.specs.Lists.{counts_of}
 
 -- a test refused it
 early : (g : Over) (c : goal.After-from_residual g) → IsMove g.S.Store (core_of c.args.self.now)
@@ -127,7 +129,7 @@ returns-clause-took g c =
     let gone = purged_by n c.commit_small.new.self.history c.purge.new.self c.purge.result some.0 few'
     c.purge.ensures.ok c.purge.ensures.err in
     moves g.S.Store s c.requires (Line (command.Purge n)) (Purge n) (purged s.history n) mid c.purge.new.self.history
-    (count_of tally'.uses) (count_of tally'.ledger) (purges g.S.Store s c.requires n some.0 some.1 c.ranges.count.fits)
+    (uses_of tally') (counts_of tally'.ledger) (purges g.S.Store s c.requires n some.0 some.1 c.ranges.count.fits)
     may.0 own refl may.3 adds (gone ∙ ap (λ (h : History (List Track)). purged h n) same)
     (purged_counts g.S.Store s c.requires n tally tally' uses_are counts_are becomes)
 

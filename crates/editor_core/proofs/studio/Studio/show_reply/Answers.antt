@@ -24,3 +24,11 @@ returns g c =
       c.as_mut_slice.ensures.len,
       ap length c.as_mut_slice.ensures.value,
     )))) c.in_ok-count.ensures.seen.looks.took
+
+pub returns-in_err-count : goal.returns-in_err-count
+returns-in_err-count g c =
+    let s = core_of c.args.self.now in
+    let new = core_of c.show.new.self in
+    let call = Line (command.Show c.args.track c.args.from c.args.to) in
+    after_err (λ r. Took g.S.Store s (quietly call r) new) _ c.from_residual-in_err-count.result
+    c.from_residual-in_err-count.ensures.1 c.in_err-count.ensures.seen.looks.took

@@ -1,9 +1,11 @@
 -- One sync after another.
-use Rattle.editor_core.proofs.Common.{◌≡◌, refl, sym, subst, ℕ, ◌+◌, [], ◌∷◌, ◌++◌, IsSome, Some, Option, Err, arith}
-use Rattle.editor_core.proofs.Common.{after_err, Entries, count_of, core_of, Syncing, first_none, long}
+use Rattle.editor_core.proofs.Common.{◌≡◌, inl, refl, sym, subst, length, ℕ, ◌+◌, [], ◌∷◌, ◌++◌, IsSome, Some}
+use Rattle.editor_core.proofs.Common.{Option, Err, arith}
+use Rattle.editor_core.proofs.Common.{after_err, Entries, core_of, Syncing, first_none, long}
 use Rattle.editor_cleanup.specs.Passes.{SyncsFirst}
 use Rattle.editor_cleanup.proofs.SyncPass.{next_there, none_there, syncing_more, syncing_none, syncs_all, syncs_fail}
 use Rattle.editor_core.proofs.studio.Studio.sync_first.Goals as goal
+use Rattle.row_ledger.specs.Lists.{counts_of}
 
 is_some : (o : Option ℕ) → o ≡ Some 0 → IsSome o
 is_some o e = subst IsSome (sym e) refl
@@ -41,7 +43,7 @@ overflow_add-from g c =
     let is = c.loop-i.invariant in
     let next = next_there g.S.Store (core_of c.args.self.now) is.0 c.loop-i.from (core_of c.loop-i.self) is.2
     c.in-Some.id c.in-Some.ensures.found in
-    let most = c.requires c.in-Some.id (is_some (count_of c.args.self.now.tally.ledger c.in-Some.id) next.free) in
+    let most = c.requires c.in-Some.id (is_some (counts_of c.args.self.now.tally.ledger c.in-Some.id) next.free) in
     omega (arith, most)
 
 pub loop-i-preserved : goal.loop-i-preserved
@@ -60,3 +62,10 @@ loop-i-preserved g c =
           (syncing_more g.S.Store s is.0 c.loop-i.from mid is.2 id store done.reads done.changed next
           done.durable done.faults.kept done.read_faults),
     )
+
+pub returns : goal.returns
+returns g c =
+    let is = c.loop-i.invariant in
+    let all : length is.0 ≡ c.args.count = omega (arith, is.1, c.loop-i-test.false, c.loop-i.auto.i-end) in
+    syncs_all g.S.Store (core_of c.args.self.now) is.0 c.loop-i.from (core_of c.loop-i.self) is.2 tt c.args.count
+    (record { end = c.loop-i.from; next = is.2.next; few = omega (arith, all); all = inl all })

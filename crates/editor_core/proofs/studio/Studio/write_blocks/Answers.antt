@@ -1,6 +1,6 @@
 -- One block after another.
 use Rattle.editor_core.proofs.Common.{◌≡◌, ◌∙◌, ℕ, false, Some, length, slice_get, refl, sym, subst, arith}
-use Rattle.editor_core.proofs.Common.{slice_get_read, after_err, NewBlock, Brought, MayBring, AllPass, count_of, Core}
+use Rattle.editor_core.proofs.Common.{slice_get_read, after_err, NewBlock, Brought, MayBring, AllPass, Core}
 use Rattle.editor_core.proofs.Common.{batch_of, is_given, core_of}
 use Rattle.block_writer.specs.Brought.{AreInOrder}
 use Rattle.editor_state.specs.{Makes.MadeOne, Makes.Writes, Makes.Written}
@@ -11,6 +11,7 @@ use Rattle.editor_state.proofs.Blocks.CachePages.{pages_by_blocks}
 use Rattle.editor_core.proofs.studio.Studio.write_blocks.Given.{Over}
 use Rattle.editor_core.proofs.studio.Studio.write_blocks.Goals.{After-write_one-arg-in-rows-1}
 use Rattle.editor_core.proofs.studio.Studio.write_blocks.Goals as goal
+use Rattle.row_ledger.specs.Lists.{counts_of}
 
 -- the block that is next, and that it is ready
 here : (g : Over) (c : goal.After-write_one-arg-in-rows-1 g)
@@ -60,7 +61,7 @@ write_one-requires-clause-size g c = omega (
 pub write_one-requires-clause-fresh : goal.write_one-requires-clause-fresh
 write_one-requires-clause-fresh g c =
     let s = core_of c.args.self.now in
-    fresh_next s.next_block c.rows.block-index s.counts (count_of c.rows.self.tally.ledger) c.block-item.result.id
+    fresh_next s.next_block c.rows.block-index s.counts (counts_of c.rows.self.tally.ledger) c.block-item.result.id
     c.rows.invariant.brought.written.making.ledger c.requires.below (ready g c).id
 
 pub returns-in_err-write_one-clause-written : goal.returns-in_err-write_one-clause-written

@@ -1,5 +1,5 @@
 -- A row that fits, or does not.
-use Rattle.std.proofs.Common.{◌≡◌, refl, sym, subst, ap, ◌∙◌, true, false, ℕ, ◌+◌, ◌-◌, drop, arith, ◌<◌, length, List}
+use Rattle.std.proofs.Common.{◌≡◌, refl, sym, subst, true, false, ℕ, ◌+◌, ◌-◌, drop, arith, ◌<◌, length, List}
 use Rattle.std.proofs.lemmas.Option.{slice_get_read}
 use Rattle.pcm_base.specs.declared.block.BlockRef.{BlockRef}
 use Rattle.block_sequence.specs.Rows.{flat}
