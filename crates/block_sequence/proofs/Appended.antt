@@ -79,3 +79,11 @@ three_parts bs from at end to xs h k l =
     ∙ append_assoc bs (a ++ b) c
     ∙ ap (λ (ys : List BlockRef). bs ++ (ys ++ c)) (from_to_by from at end xs h k)
     ∙ ap (λ (ys : List BlockRef). bs ++ ys) (from_to_by from end to xs (omega (arith, h, k)) l)
+
+-- others after the first ones, of which a part comes in place of all that go
+pub ended : (kept count : ℕ) (bs first rest : List BlockRef) → count ≡ length bs
+    → spliced kept count first bs ++ rest ≡ take kept bs ++ (first ++ rest)
+ended kept count bs first rest all =
+    ap (λ (ys : List BlockRef). (take kept bs ++ (first ++ ys)) ++ rest) (drop_all count bs (omega (arith, all)))
+    ∙ ap (λ (ys : List BlockRef). (take kept bs ++ ys) ++ rest) (append-nil first)
+    ∙ append_assoc (take kept bs) first rest

@@ -1,7 +1,7 @@
 -- What two lists of blocks have in common.
 use Rattle.std.proofs.Common.{◌≡◌, ℕ, ◌+◌, ◌≤◌, min, Bool, true, false, ◌&&◌, inl, inr, ◌⊎◌, List}
-use Rattle.std.proofs.Common.{[], ◌∷◌, ◌++◌, length, take, drop, refl, sym, ap, ap₂, ◌∙◌, arith}
-use Rattle.std.proofs.lemmas.{Bool.cases_lt, Bool.eqb-true, List.drop_all, List.take_all}
+use Rattle.std.proofs.Common.{zero, suc, get_or, if◌then◌else◌, [], ◌∷◌, ◌++◌, length, take, drop, refl, sym, ap, ap₂, ◌∙◌, arith}
+use Rattle.std.proofs.lemmas.{Bool.cases_lt, Bool.eq-eqb, Bool.eqb-true, List.drop_all, List.take_all}
 use Rattle.pcm_base.specs.declared.block.BlockRef.{BlockRef}
 use Rattle.block_sequence.specs.Fronts.{is_block, common}
 
@@ -42,6 +42,23 @@ pub count_more : (xs ys us vs : List BlockRef) (n : ℕ) (ls os : List BlockRef)
 count_more xs ys us vs n ls os e l o =
     common_more xs ys us vs
     ∙ ap₂ ◌+◌ (sym e) (ap₂ common (ap (λ k. drop k xs ++ us) (sym e) ∙ sym l) (ap (λ k. drop k ys ++ vs) (sym e) ∙ sym o))
+
+is_itself : (a : BlockRef) → is_block a a ≡ true
+is_itself a = search (arith, eq-eqb)
+
+-- past blocks that are the same the rest decides
+pub common_past : (n : ℕ) (xs ys : List BlockRef) → n ≤ length xs → n ≤ length ys → take n xs ≡ take n ys
+    → common xs ys ≡ n + common (drop n xs) (drop n ys)
+common_past zero xs ys x y same = omega arith
+common_past (suc n) [] ys x y same = omega (arith, x)
+common_past (suc n) (a ∷ xs) [] x y same = omega (arith, y)
+common_past (suc n) (a ∷ xs) (b ∷ ys) x y same =
+    let here : a ≡ b = ap (λ (zs : List BlockRef). get_or zs 0 a) same in
+    let more : take n xs ≡ take n ys = ap (drop 1) same in
+    let test : is_block a b ≡ true = ap (is_block a) (sym here) ∙ is_itself a in
+    ap (λ c. if c then suc (common xs ys) else 0) test
+    ∙ ap suc (common_past n xs ys (omega (arith, x)) (omega (arith, y)) more)
+    ∙ (let e : suc (n + common (drop n xs) (drop n ys)) ≡ suc n + common (drop n xs) (drop n ys) = omega arith in e)
 
 -- two fronts without a common block, each empty only if all is
 pub common_none : (xs ys us vs : List BlockRef) → common xs ys ≡ 0 → (xs ≡ [] → us ≡ []) → (ys ≡ [] → vs ≡ [])

@@ -1,6 +1,7 @@
 -- Rows of references, and parts of a list.
 use Rattle.std.specs.Prelude.{◌≡◌, ℕ, ◌-◌, ◌≤◌, ◌<◌, List, [], ◌∷◌, ◌++◌, length, take, drop}
 use Rattle.pcm_base.specs.{Blocks.blocks_len, declared.block.BlockRef.BlockRef}
+use Rattle.pcm_base.specs.declared.limits.TheConstants.{MAX_CELLS}
 
 -- rows, one after another
 abbrev pub flat : List (List BlockRef) → List BlockRef
@@ -20,6 +21,11 @@ pub record IsRow (bs : List BlockRef) (len : ℕ) : Type 0 where
   pub some : 0 < length bs
   pub short : length bs ≤ 1024
   pub same_len : blocks_len bs ≡ len
+
+-- rows that are laid so far, and how many samples they hold
+pub record AreLaid (bs : List BlockRef) (len : ℕ) : Type 0 where
+  pub same_len : blocks_len bs ≡ len
+  pub few : len ≤ MAX_CELLS
 
 -- a place between two rows: how many rows lie before it, and how many references
 pub record IsEdge (rows : List (List BlockRef)) (row at : ℕ) : Type 0 where

@@ -8,6 +8,7 @@
 
 mod cutting;
 mod fusing;
+mod laid_rows;
 mod parts;
 mod row_appends;
 mod row_edges;
@@ -20,7 +21,9 @@ mod seq;
 mod types;
 
 pub use fusing::fuse;
+pub use laid_rows::RowList;
 pub use parts::{part_of, piece_len};
+pub use row_lists::row_size;
 pub use rows::{ROW_MOST, Row};
 pub use seq::Sequence;
 pub use types::{Laid, Pieces};

@@ -1,5 +1,5 @@
 // How many blocks stand at the front of two lists of rows, which may be cut at different places.
-ghost use Rattle.std.specs.Prelude.{◌≡◌, ◌≤◌, ◌++◌, [], length, drop};
+ghost use Rattle.std.specs.Prelude.{◌≡◌, ◌≤◌, ◌++◌, [], length, take, drop};
 ghost use Rattle.pcm_base.specs.declared.limits.TheConstants.{MAX_CELLS};
 ghost use Rattle.block_sequence.specs.Fronts.{common, is_block as is_same};
 ghost use Rattle.block_sequence.specs.Rows.{flat};
@@ -62,20 +62,32 @@ fn common_blocks(a: &[BlockRef], b: &[BlockRef]) -> usize
     most
 }
 
-/// How many blocks stand at the front of both.
-pub fn common_count(a: &[Row], b: &[Row]) -> usize
-    requires { length (flat a.now) ≤ MAX_CELLS }
+// What is left of rows without their first blocks. It takes a step for each row.
+fn left_after<'a>(rows: &'a [Row], count: usize) -> Left<'a>
+    requires { count ≤ length (flat rows.now) }
+    ensures all { result.blocks.now ++ flat result.rows.now ≡ drop count (flat rows.now) }
+    ensures first { result.blocks.now ≡ [] → flat result.rows.now ≡ [] }
+{
+    let mut skip = count;
+    let mut left = entered(Left { blocks: &[], rows });
+    'rows: while left.blocks.len() < skip {
+        skip -= left.blocks.len();
+        left = after(left, left.blocks.len());
+    }
+    after(left, skip)
+}
+
+/// How many blocks stand at the front of both. The first `kept` are known to be the same, and are not compared.
+pub fn common_count(a: &[Row], b: &[Row], kept: usize) -> usize
+    requires few { length (flat a.now) ≤ MAX_CELLS }
+    requires a { kept ≤ length (flat a.now) }
+    requires b { kept ≤ length (flat b.now) }
+    requires same { take kept (flat a.now) ≡ take kept (flat b.now) }
     ensures { result ≡ common (flat a.now) (flat b.now) }
 {
-    let mut count = 0;
-    let mut left = entered(Left {
-        blocks: &[],
-        rows: a,
-    });
-    let mut other = entered(Left {
-        blocks: &[],
-        rows: b,
-    });
+    let mut count = kept;
+    let mut left = left_after(a, kept);
+    let mut other = left_after(b, kept);
     let mut same = common_blocks(left.blocks, other.blocks);
     'rows: while same > 0 {
         count += same;

@@ -81,8 +81,8 @@ pub fn share_rows(out: &mut Vec<Row>, rows: &[Row]) -> Result<(), NoMemory>
     Ok(())
 }
 
-// How long the rows of `count` references are: all of one size, but for the last.
-fn row_size(count: usize) -> usize
+/// How long the rows of `count` references are: all of one size, but for the last.
+pub fn row_size(count: usize) -> usize
     requires { 0 < count }
     ensures some { 0 < result }
     ensures short { result ≤ 1024 }

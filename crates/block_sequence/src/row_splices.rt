@@ -1,11 +1,11 @@
 // Rows with other blocks in place of some.
-ghost use Rattle.std.specs.Prelude.{◌≡◌, ◌≤◌, ◌++◌, length, IfOk};
+ghost use Rattle.std.specs.Prelude.{◌≡◌, ◌≤◌, ◌++◌, length, take, IfOk};
 ghost use Rattle.pcm_base.specs.declared.limits.TheConstants.{MAX_CELLS};
 ghost use Rattle.pcm_base.specs.Blocks.{blocks_len};
 ghost use Rattle.block_sequence.specs.Rows.{flat, from_to, spliced};
 
 use super::row_edges::{Span, span_of};
-use super::row_lists::{append_blocks, lay_rows, share_rows};
+use super::row_lists::{append_blocks, count_blocks, lay_rows, share_rows};
 use super::rows::Row;
 use pcm_base::{BlockRef, NoMemory};
 use std::alloc::{AllocError, Global};
@@ -50,5 +50,27 @@ pub fn spliced_rows(
     share_rows(&mut out, &rows[..span.start.row])?;
     lay_rows(alloc, &mut out, blocks)?;
     share_rows(&mut out, &rows[span.end.row..])?;
+    Ok(out)
+}
+
+/// The first rows up to a place, and after them others. Those before the place are shared, and those others but the
+/// first.
+pub fn ended_rows(
+    alloc: Global,
+    rows: &[Row],
+    kept: usize,
+    others: &[Row],
+) -> Result<Vec<Row>, NoMemory>
+    requires all { length (flat rows.now) ≤ MAX_CELLS }
+    requires within { kept ≤ length (flat rows.now) }
+    requires few { blocks_len (take kept (flat rows.now) ++ flat others.now) ≤ MAX_CELLS }
+    ensures { IfOk result (λ v. flat v.items ≡ take kept (flat rows.now) ++ flat others.now) }
+{
+    let count = count_blocks(rows);
+    if others.is_empty() {
+        return spliced_rows(alloc, rows, kept, count, &[]);
+    }
+    let mut out = spliced_rows(alloc, rows, kept, count, others[0].as_slice())?;
+    share_rows(&mut out, &others[1..])?;
     Ok(out)
 }

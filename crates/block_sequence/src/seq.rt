@@ -7,11 +7,12 @@ ghost use Rattle.block_sequence.specs.Fronts.{common};
 ghost use Rattle.block_sequence.specs.Rows.{flat, from_to, spliced};
 ghost use Rattle.block_sequence.specs.Sequences.{IsHalfFullSomewhere};
 
+use super::laid_rows::RowList;
 use super::row_appends::appended_rows;
 use super::row_fronts::common_count;
 use super::row_lists::{append_blocks, count_blocks, count_samples, lay_rows, share_rows};
 use super::row_pieces::append_pieces;
-use super::row_splices::spliced_rows;
+use super::row_splices::{ended_rows, spliced_rows};
 use super::rows::Row;
 use super::types::Pieces;
 use pcm_base::{BlockRef, NoMemory};
@@ -71,6 +72,16 @@ impl Sequence {
         Ok(from_rows(rows))
     }
 
+    /// A sequence of rows, which it takes over.
+    pub fn of_rows(list: RowList) -> Sequence
+        requires full { IsHalfFullSomewhere list }
+        requires none_empty { NoneEmpty list }
+        ensures { result ≡ list }
+    {
+        let _len = list.len();
+        from_rows(list.rows)
+    }
+
     /// The sequence of no blocks. It takes no memory.
     pub fn empty(alloc: Global) -> Sequence
         ensures { result ≡ [] }
@@ -105,14 +116,18 @@ impl Sequence {
         self.rows.as_slice()
     }
 
-    /// How many blocks stand at the front of both. Where the rows are cut does not matter.
-    pub fn common(&self, other: &Sequence) -> usize
+    /// How many blocks stand at the front of both. The first `kept` are known to be the same, and are not compared.
+    /// Where the rows are cut does not matter.
+    pub fn common(&self, other: &Sequence, kept: usize) -> usize
+        requires mine { kept ≤ length self.now }
+        requires other { kept ≤ length other.now }
+        requires same { take kept self.now ≡ take kept other.now }
         ensures value { result ≡ common self.now other.now }
         ensures few { result ≤ MAX_CELLS }
     {
         let mine = self.rows();
         let others = other.rows();
-        common_count(mine, others)
+        common_count(mine, others, kept)
     }
 
     /// Another sequence of the same blocks: both have the rows, and no reference is copied.
@@ -181,6 +196,24 @@ impl Sequence {
     {
         let alloc = *self.rows.allocator();
         let rows = appended_rows(alloc, self.rows(), other.rows(), from, to)?;
+        Ok(from_rows(rows))
+    }
+
+    /// A sequence of the first blocks up to a place, and after them those of rows. It has both rows in common with
+    /// them, but for one of each, or two where they are short.
+    ///
+    /// # Errors
+    ///
+    /// There is no memory for the new rows.
+    pub fn ended(&self, kept: usize, others: &RowList) -> Result<Sequence, NoMemory>
+        requires within { kept ≤ length self.now }
+        requires full { IsHalfFullSomewhere (take kept self.now ++ others.now) }
+        requires none_empty { NoneEmpty (take kept self.now ++ others.now) }
+        requires few { blocks_len (take kept self.now ++ others.now) ≤ MAX_CELLS }
+        ensures { IfOk result (λ s. s ≡ take kept self.now ++ others.now) }
+    {
+        let alloc = *self.rows.allocator();
+        let rows = ended_rows(alloc, self.rows(), kept, others.rows.as_slice())?;
         Ok(from_rows(rows))
     }
 

@@ -1,5 +1,6 @@
 mod Common
 pub mod CellCounts
+pub mod KeptLists
 pub mod Layouts
 pub mod RestItems
 pub mod RoomClips

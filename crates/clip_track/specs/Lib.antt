@@ -1,6 +1,7 @@
 pub mod Clips
 pub mod Counts
 pub mod Items
+pub mod Kept
 pub mod Rests
 pub mod Room
 pub mod Rough

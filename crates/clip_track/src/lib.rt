@@ -8,11 +8,13 @@
 
 mod clips;
 mod items;
+mod kept;
 mod rest;
 mod shared;
 mod strip_clips;
 
 pub use clips::{Clip, Layout};
 pub use items::{Item, Strip, append_gap, append_part, append_piece};
+pub use kept::Kept;
 pub use rest::{Rest, Stretch};
 pub use strip_clips::StripClip;

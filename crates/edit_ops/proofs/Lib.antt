@@ -2,6 +2,7 @@ mod Common
 pub mod CellLists
 pub mod ChangedItems
 pub mod Copies
+pub mod KeptBlocks
 pub mod LaidLists
 pub mod Named
 pub mod Pastes

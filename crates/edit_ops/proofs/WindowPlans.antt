@@ -59,16 +59,16 @@ old_after old xs ys ns g h =
     subst (AreOldOrNew old (xs ++ ys)) (append-nil ns) (old_or_new_append old xs ys ns [] h (all_old old ys g))
 
 -- the blocks of a track with some blocks in a window's place
-abbrev blocks_with : Window → List BlockRef → List BlockRef
+abbrev pub blocks_with : Window → List BlockRef → List BlockRef
 blocks_with w bs = layout_blocks w.before.now ++ (front_of w ++ bs ++ back_of w ++ layout_blocks w.after.now)
 
-blocks_now : (m : ℕ) (t : List Clip) (w : Window) → IsWindow m t w → layout_blocks t ≡ blocks_with w (middle_of w)
+pub blocks_now : (m : ℕ) (t : List Clip) (w : Window) → IsWindow m t w → layout_blocks t ≡ blocks_with w (middle_of w)
 blocks_now m t w h =
     let bs = window_blocks w in
     ap layout_blocks h.clips ∙ blocks_append w.before.now (clip_of w.start bs ++ w.after.now)
     ∙ ap (λ (xs : List BlockRef). layout_blocks w.before.now ++ xs) (of_blocks w.start bs w.after.now)
 
-blocks_then : (w : Window) (old new : ℕ) (small : List Clip)
+pub blocks_then : (w : Window) (old new : ℕ) (small : List Clip)
     → layout_blocks (track_with w old new small) ≡ blocks_with w (layout_blocks small)
 blocks_then w old new small =
     let after = moved (w.from + old) (w.from + new) w.after.now in

@@ -6,7 +6,8 @@ use Rattle.pcm_base.specs.{declared.refusal.Refusal.TheVariants.EmptyClipboard}
 use Rattle.clip_track.specs.Clips.{end_of, layout_cells, AllHalfFull, layout_blocks}
 use Rattle.clip_track.specs.Items.{strip_len, strip_cells, strip_blocks}
 use Rattle.clip_track.specs.{declared.items.Item.Item, declared.clips.Clip.Clip}
-use Rattle.edit_ops.specs.Plans.{Start, IsPlan, Means}
+use Rattle.clip_track.specs.Kept.{Keeps}
+use Rattle.edit_ops.specs.{Plans.Start, Plans.IsPlan, Plans.Means}
 use Rattle.edit_ops.specs.{declared.types.Plan.Plan, Strips.IsClip, Strips.ItemsFrom}
 use denote.Ref.{Bor}
 
@@ -67,6 +68,7 @@ start_behind start p = record start { next = p.next }
 -- the plan of one edit of a track
 pub record IsCut (edit : List Cell → List Cell) (start : Start) (t : List Clip) (p : Plan) : Type 0 where
   pub plan : IsPlan start (layout_blocks t) 0 p
+  pub kept : Keeps p.kept (layout_blocks t) (layout_blocks p.layout)
   pub cells : Means (λ src. edit) t p
   pub few_made : length p.makes ≤ 8
 
@@ -81,6 +83,7 @@ AreCuts edit start (t ∷ ts) (p ∷ ps) = IsCut edit start t p × AreCuts edit 
 pub record IsPaste (edit : List Cell → List Cell → List Cell) (start : Start) (c : List Item) (t : List Clip)
     (p : Plan) : Type 0 where
   pub plan : IsPlan start (layout_blocks t ++ strip_blocks c) 0 p
+  pub kept : Keeps p.kept (layout_blocks t) (layout_blocks p.layout)
   pub cells : Means (λ src. edit (strip_cells src c)) t p
   pub few_made : length p.makes ≤ 8
 

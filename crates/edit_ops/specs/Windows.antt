@@ -4,7 +4,7 @@ use Rattle.pcm_base.specs.{declared.block.BlockRef.BlockRef, Blocks.AllFull, Blo
 use Rattle.pcm_base.specs.{Blocks.block_lens, Blocks.blocks_len}
 use Rattle.block_sequence.specs.Rows.{from_to}
 use Rattle.clip_track.specs.{declared.clips.Clip.Clip, Clips.AllHalfFull, Clips.AreClips, Clips.IsLayout, Clips.clip_end}
-use Rattle.clip_track.specs.Clips.{end_of}
+use Rattle.clip_track.specs.{Clips.end_of, Clips.layout_blocks, declared.kept.Kept.Kept}
 use Rattle.edit_ops.specs.{declared.windows.Near.Near, declared.windows.Window.Window, declared.types.Plan.Plan}
 use Rattle.edit_ops.specs.{declared.strips.Cutting.Cutting, declared.strips.Cutting.TheVariants.Delete}
 use Rattle.edit_ops.specs.declared.strips.Cutting.TheVariants.{SplitDelete, Trim}
@@ -97,3 +97,8 @@ cells_left Trim old count = None
 abbrev pub StartsFit : List Clip → Type 0
 StartsFit [] = Unit {0}
 StartsFit (c ∷ cs) = (c.start < 2 ^ 64) × StartsFit cs
+
+-- all blocks before a window and after it
+pub record IsKeptAround (w : Window) (k : Kept) : Type 0 where
+  pub front : k.front ≡ length (layout_blocks w.before.now) + w.begin
+  pub back : k.back ≡ length (layout_blocks w.after.now) + (w.count - w.end)

@@ -5,6 +5,7 @@ ghost use Rattle.pcm_base.specs.Edits as edits;
 ghost use Rattle.pcm_base.specs.Pieces.{Sources, stretch};
 ghost use Rattle.pcm_base.specs.Refusals.{bad_range, inserted_length, length_limit};
 ghost use Rattle.clip_track.specs.Clips.{end_of, layout_cells, AllHalfFull, layout_blocks};
+ghost use Rattle.clip_track.specs.Kept.{Keeps};
 ghost use Rattle.edit_ops.specs.Plans.{IsPlan, Means, AnswersTest, start_of};
 
 use super::planner::Planner;
@@ -24,6 +25,7 @@ pub fn insert(planner: Planner, t: &Layout, at: u64, count: u64) -> Result<Plan,
     requires half_full { AllHalfFull planner.block_size t.now }
     requires sum { at + count + end_of 0 t.now < 2 ^ 64 }
     ensures plan { IfOk result (λ p. IsPlan (start_of planner) (layout_blocks t.now) count p) }
+    ensures kept { IfOk result (λ p. Keeps p.kept (layout_blocks t.now) (layout_blocks p.layout)) }
     ensures cells { IfOk result
         (λ p. Means (λ src. edits.inserted at (edits.as_cells (stretch src.given 0 count))) t.now p) }
     ensures few_made { IfOk result (λ p. length p.makes ≤ 8 + count / planner.block_size) }
@@ -48,6 +50,7 @@ pub fn edit_range(
 ) -> Result<Plan, Refusal>
     requires half_full { AllHalfFull planner.block_size t.now }
     ensures plan { IfOk result (λ p. IsPlan (start_of planner) (layout_blocks t.now) 0 p) }
+    ensures kept { IfOk result (λ p. Keeps p.kept (layout_blocks t.now) (layout_blocks p.layout)) }
     ensures cells { IfOk result (λ p. Means (λ src. edits.range_edited edit from to) t.now p) }
     ensures few_made { IfOk result (λ p. (src : Sources) →
         length p.makes ≤ blocks_of_edit edit planner.block_size (edits.part from to (layout_cells src t.now))) }

@@ -4,8 +4,9 @@ ghost use Rattle.pcm_base.specs.declared.limits.TheConstants.{MAX_CELLS};
 ghost use Rattle.pcm_base.specs.Pieces.{Sources};
 ghost use Rattle.pcm_base.specs.Cells.{trimmed};
 ghost use Rattle.clip_track.specs.Items.{ItemsFit, strip_len, strip_cells};
-ghost use Rattle.clip_track.specs.Clips.{layout_cells};
+ghost use Rattle.clip_track.specs.Clips.{layout_blocks, layout_cells};
 ghost use Rattle.pcm_base.specs.declared.block.BlockRef.{BlockRef};
+ghost use Rattle.clip_track.specs.Kept.{Keeps};
 ghost use Rattle.edit_ops.specs.Plans.{AreWritten, IsPlan, start_of};
 ghost use Rattle.edit_ops.specs.Strips.{ItemsFrom};
 ghost use Rattle.block_sequence.specs.Room.{First};
@@ -17,7 +18,7 @@ use super::laying::lay_strip;
 use super::planner::Planner;
 use super::types::{LaidClip, NewBlock, NewBlocks, Plan};
 use block_sequence::{Laid, Sequence};
-use clip_track::{Clip, Layout, Strip};
+use clip_track::{Clip, Kept, Layout, Strip};
 use pcm_base::{BlockRef, NoMemory};
 use std::alloc::{AllocError, Global};
 
@@ -64,6 +65,7 @@ fn name_clips(planner: Planner, clips: Vec<LaidClip>) -> Result<Plan, NoMemory>
     ensures layout { IfOk result (λ p. p.layout ≡ laid.named_clips planner.next clips.items) }
     ensures makes { IfOk result (λ p. p.makes ≡ laid.clips_new_blocks planner.next clips.items) }
     ensures next { IfOk result (λ p. p.next ≡ laid.clips_next planner.next clips.items) }
+    ensures kept { IfOk result (λ p. (old : List BlockRef) → Keeps p.kept old (layout_blocks p.layout)) }
 {
     let mut out = Vec::new(planner.alloc);
     let mut makes = Vec::new(planner.alloc);
@@ -79,6 +81,7 @@ fn name_clips(planner: Planner, clips: Vec<LaidClip>) -> Result<Plan, NoMemory>
         layout: Layout::from_clips(out)?,
         makes: NewBlocks::new(makes),
         next: id,
+        kept: Kept::none(),
     })
 }
 
@@ -95,6 +98,7 @@ pub fn plan_strip(planner: Planner, strip: &Strip) -> Result<Plan, NoMemory>
         → length p.makes ≤ 2 * rough_items planner.block_size true true strip.now) }
     ensures few_samples { IfOk result
         (λ p. planner.block_size * length p.makes ≤ strip_room planner.block_size First true strip.now) }
+    ensures kept { IfOk result (λ p. (old : List BlockRef) → Keeps p.kept old (layout_blocks p.layout)) }
 {
     let clips = lay_strip(planner, strip.as_slice())?;
     Ok(name_clips(planner, clips)?)

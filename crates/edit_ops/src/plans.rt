@@ -7,6 +7,7 @@ ghost use Rattle.pcm_base.specs.Pieces.{Sources, stretch};
 ghost use Rattle.pcm_base.specs.Refusals.{inserted_length};
 ghost use Rattle.clip_track.specs.Clips.{end_of, layout_cells, AllHalfFull, layout_blocks};
 ghost use Rattle.edit_ops.specs.Changes.{cell_change};
+ghost use Rattle.clip_track.specs.Kept.{Keeps};
 ghost use Rattle.pcm_base.specs.Sizes.{sample_count, clip_count};
 ghost use Rattle.edit_ops.specs.Plans.{IsPlan, Means, start_of};
 ghost use Rattle.edit_ops.specs.Strips.{CutsWithin, cut_cells};
@@ -35,6 +36,7 @@ fn plan_cut_whole(
     requires rising { from ≤ to }
     requires within { CutsWithin cut to (end_of 0 t.now) }
     ensures plan { IfOk result (λ p. IsPlan (start_of planner) (layout_blocks t.now) 0 p) }
+    ensures kept { IfOk result (λ p. Keeps p.kept (layout_blocks t.now) (layout_blocks p.layout)) }
     ensures cells { IfOk result (λ p. Means (λ src. cut_cells cut from to) t.now p) }
     ensures few_made { IfOk result (λ p. length p.makes ≤ 8) }
 {
@@ -66,6 +68,7 @@ fn plan_cut_near(
     requires half_full { AllHalfFull planner.block_size t.now }
     requires rising { from < to }
     ensures plan { IfOk result (λ o. IfSome o (λ p. IsPlan (start_of planner) (layout_blocks t.now) 0 p)) }
+    ensures kept { IfOk result (λ o. IfSome o (λ p. Keeps p.kept (layout_blocks t.now) (layout_blocks p.layout))) }
     ensures cells { IfOk result (λ o. IfSome o (λ p. Means (λ src. cut_cells cut from to) t.now p)) }
     ensures few_made { IfOk result (λ o. IfSome o (λ p. length p.makes ≤ 8)) }
 {
@@ -95,6 +98,7 @@ pub fn plan_cut(
     requires rising { from ≤ to }
     requires within { CutsWithin cut to (end_of 0 t.now) }
     ensures plan { IfOk result (λ p. IsPlan (start_of planner) (layout_blocks t.now) 0 p) }
+    ensures kept { IfOk result (λ p. Keeps p.kept (layout_blocks t.now) (layout_blocks p.layout)) }
     ensures cells { IfOk result (λ p. Means (λ src. cut_cells cut from to) t.now p) }
     ensures few_made { IfOk result (λ p. length p.makes ≤ 8) }
 {
@@ -118,6 +122,7 @@ fn plan_change_whole(
     requires half_full { AllHalfFull planner.block_size t.now }
     requires rising { from ≤ to }
     ensures plan { IfOk result (λ p. IsPlan (start_of planner) (layout_blocks t.now) 0 p) }
+    ensures kept { IfOk result (λ p. Keeps p.kept (layout_blocks t.now) (layout_blocks p.layout)) }
     ensures cells { IfOk result (λ p. Means (λ src. edits.changed (cell_change change) from to) t.now p) }
     ensures few_made { IfOk result (λ p. (src : Sources) →
         let cells = edits.part from to (layout_cells src t.now) in
@@ -139,6 +144,7 @@ fn plan_change_near(
     requires half_full { AllHalfFull planner.block_size t.now }
     requires rising { from < to }
     ensures plan { IfOk result (λ o. IfSome o (λ p. IsPlan (start_of planner) (layout_blocks t.now) 0 p)) }
+    ensures kept { IfOk result (λ o. IfSome o (λ p. Keeps p.kept (layout_blocks t.now) (layout_blocks p.layout))) }
     ensures cells { IfOk result (λ o. IfSome o
         (λ p. Means (λ src. edits.changed (cell_change change) from to) t.now p)) }
     ensures few_made { IfOk result (λ o. IfSome o (λ p. (src : Sources) →
@@ -167,6 +173,7 @@ fn plan_with_change(
     requires half_full { AllHalfFull planner.block_size t.now }
     requires rising { from ≤ to }
     ensures plan { IfOk result (λ p. IsPlan (start_of planner) (layout_blocks t.now) 0 p) }
+    ensures kept { IfOk result (λ p. Keeps p.kept (layout_blocks t.now) (layout_blocks p.layout)) }
     ensures cells { IfOk result (λ p. Means (λ src. edits.changed (cell_change change) from to) t.now p) }
     ensures few_made { IfOk result (λ p. (src : Sources) →
         let cells = edits.part from to (layout_cells src t.now) in
@@ -193,6 +200,7 @@ pub fn plan_edited(
     requires rising { from ≤ to }
     requires within { to ≤ end_of 0 t.now }
     ensures plan { IfOk result (λ p. IsPlan (start_of planner) (layout_blocks t.now) 0 p) }
+    ensures kept { IfOk result (λ p. Keeps p.kept (layout_blocks t.now) (layout_blocks p.layout)) }
     ensures cells { IfOk result (λ p. Means (λ src. edits.range_edited edit from to) t.now p) }
     ensures few_made { IfOk result (λ p. (src : Sources) →
         length p.makes ≤ blocks_of_edit edit planner.block_size (edits.part from to (layout_cells src t.now))) }
@@ -211,6 +219,7 @@ fn plan_given_whole(planner: Planner, t: &Layout, at: u64, count: u64) -> Result
     requires half_full { AllHalfFull planner.block_size t.now }
     requires few { inserted_length at count (end_of 0 t.now) ≤ MAX_CELLS }
     ensures plan { IfOk result (λ p. IsPlan (start_of planner) (layout_blocks t.now) count p) }
+    ensures kept { IfOk result (λ p. Keeps p.kept (layout_blocks t.now) (layout_blocks p.layout)) }
     ensures cells { IfOk result
         (λ p. Means (λ src. edits.inserted at (edits.as_cells (stretch src.given 0 count))) t.now p) }
     ensures few_made { IfOk result (λ p. length p.makes ≤ 8 + count / planner.block_size) }
@@ -231,6 +240,7 @@ fn plan_given_near(
     requires half_full { AllHalfFull planner.block_size t.now }
     requires few { inserted_length at count (end_of 0 t.now) ≤ MAX_CELLS }
     ensures plan { IfOk result (λ o. IfSome o (λ p. IsPlan (start_of planner) (layout_blocks t.now) count p)) }
+    ensures kept { IfOk result (λ o. IfSome o (λ p. Keeps p.kept (layout_blocks t.now) (layout_blocks p.layout))) }
     ensures cells { IfOk result (λ o. IfSome o
         (λ p. Means (λ src. edits.inserted at (edits.as_cells (stretch src.given 0 count))) t.now p)) }
     ensures few_made { IfOk result (λ o. IfSome o (λ p. length p.makes ≤ 8 + count / planner.block_size)) }
@@ -249,6 +259,7 @@ pub fn plan_with_given(planner: Planner, t: &Layout, at: u64, count: u64) -> Res
     requires half_full { AllHalfFull planner.block_size t.now }
     requires few { inserted_length at count (end_of 0 t.now) ≤ MAX_CELLS }
     ensures plan { IfOk result (λ p. IsPlan (start_of planner) (layout_blocks t.now) count p) }
+    ensures kept { IfOk result (λ p. Keeps p.kept (layout_blocks t.now) (layout_blocks p.layout)) }
     ensures cells { IfOk result
         (λ p. Means (λ src. edits.inserted at (edits.as_cells (stretch src.given 0 count))) t.now p) }
     ensures few_made { IfOk result (λ p. length p.makes ≤ 8 + count / planner.block_size) }

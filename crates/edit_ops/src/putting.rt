@@ -1,17 +1,19 @@
 // A track with another track in a window's place.
-ghost use Rattle.std.specs.Prelude.{◌≡◌, ◌+◌, ◌-◌, ◌≤◌, ◌++◌, [], IfOk, IfSome, OnOk};
+ghost use Rattle.std.specs.Prelude.{◌≡◌, ◌+◌, ◌-◌, ◌≤◌, ◌++◌, [], IfOk, IfSome, OnOk, length};
 ghost use Rattle.pcm_base.specs.declared.limits.TheConstants.{MAX_CELLS};
 ghost use Rattle.pcm_base.specs.Blocks.{blocks_len};
-ghost use Rattle.clip_track.specs.Clips.{AllHalfFull, end_of};
+ghost use Rattle.clip_track.specs.Clips.{AllHalfFull, end_of, layout_blocks};
+ghost use Rattle.clip_track.specs.Kept.{Keeps};
 ghost use Rattle.edit_ops.specs.Joins.{IsJoining, finished, moved};
-ghost use Rattle.edit_ops.specs.Windows.{IsAround, IsJoined, IsPlaced, IsWindow, StartsFit, back_of, front_of, middle_of};
+ghost use Rattle.edit_ops.specs.Windows.{IsAround, IsJoined, IsKeptAround, IsPlaced, IsWindow, StartsFit, back_of, front_of};
+ghost use Rattle.edit_ops.specs.Windows.{middle_of};
 
 use super::joins::{Joining, Part, add_clips, add_part, close};
 use super::planner::Planner;
 use super::types::Plan;
 use super::windows::Window;
 use block_sequence::Sequence;
-use clip_track::{Clip, Layout};
+use clip_track::{Clip, Kept, Layout};
 use pcm_base::NoMemory;
 
 /// Adds clips, moved from one place to another.
@@ -107,7 +109,33 @@ fn track_around(
     Ok(Some(layout))
 }
 
-/// The plan of a window's track, put in its place in the whole track, where it fits there.
+/// How many blocks some clips have.
+fn count_blocks(clips: &[Clip]) -> usize
+    requires { length (layout_blocks clips.now) ≤ MAX_CELLS }
+    ensures { result ≡ length (layout_blocks clips.now) }
+{
+    let mut count = 0;
+    for clip in clips {
+        count += clip.blocks.count();
+    }
+    count
+}
+
+/// How many blocks a track has before a window and after it.
+fn kept_around(window: Window<'_>) -> Kept
+    requires rising { window.begin ≤ window.end }
+    requires last { window.end ≤ window.count }
+    requires few { length (layout_blocks window.before.now) + window.count
+        + length (layout_blocks window.after.now) ≤ MAX_CELLS }
+    ensures { IsKeptAround window.entry result }
+{
+    let front = count_blocks(window.before) + window.begin;
+    let back = count_blocks(window.after) + (window.count - window.end);
+    Kept { front, back }
+}
+
+/// The plan of a window's track, put in its place in the whole track, where it fits there. All blocks outside the
+/// window stay as they are.
 pub fn put_back(
     planner: Planner,
     t: &Layout,
@@ -122,12 +150,14 @@ pub fn put_back(
     requires far { window.from + new ≤ MAX_CELLS }
     requires t { AllHalfFull planner.block_size t.now }
     requires small { AllHalfFull planner.block_size plan.layout }
-    ensures { IfOk result (λ o. IfSome o (IsPlaced planner.block_size window.entry old new plan)) }
+    ensures placed { IfOk result (λ o. IfSome o (IsPlaced planner.block_size window.entry old new plan)) }
+    ensures kept { IfOk result (λ o. IfSome o (λ p. Keeps p.kept (layout_blocks t.now) (layout_blocks p.layout))) }
 {
     let Plan {
         layout,
         makes,
         next,
+        ..
     } = plan;
     if layout.len() > new {
         return Ok(None);
@@ -137,6 +167,7 @@ pub fn put_back(
             layout,
             makes,
             next,
+            kept: kept_around(window),
         })),
         None => Ok(None),
     }

@@ -1,6 +1,6 @@
 // Plans.
 use block_sequence::{Laid, Pieces};
-use clip_track::{Layout, Strip};
+use clip_track::{Kept, Layout, Strip};
 use pcm_base::Items;
 
 /// A block that is to be written: its id, how many samples it has, and the pieces that they come from.
@@ -15,13 +15,14 @@ pub struct NewBlock {
 /// New blocks, in the order of their ids.
 pub type NewBlocks = Items<NewBlock>;
 
-/// What an edit makes of a track: its new layout, the blocks that are to be written before it holds, and the id that
-/// the next new block would get.
+/// What an edit makes of a track: its new layout, the blocks that are to be written before it holds, the id that the
+/// next new block would get, and how many old blocks stay as they are at both ends.
 #[derive(Drop)]
 pub struct Plan {
     pub layout: Layout,
     pub makes: NewBlocks,
     pub next: u64,
+    pub kept: Kept,
 }
 
 /// A clip that is laid out, before its new blocks have ids.

@@ -7,4 +7,5 @@ mod Replies
 pub mod NewProjects
 mod CountedBlocks
 mod PointCounts
+mod KeptBodies
 mod SameUses

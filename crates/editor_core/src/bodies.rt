@@ -6,13 +6,14 @@ ghost use Rattle.project_journal.specs.Journal.{AreWaiting};
 ghost use Rattle.record_body.specs.Batches.{with_point};
 ghost use Rattle.record_body.specs.Saved.{current_tracks};
 ghost use Rattle.project_state.specs.Numbers.{AgreeById};
-ghost use Rattle.record_body.specs.Numbers.{BodyAgrees};
+ghost use Rattle.record_body.specs.Numbers.{BodyAgrees, BodyKeeps};
 ghost use Rattle.editor_state.specs.Adding.{ExceedsBy};
 ghost use Rattle.editor_state.specs.Bodies.{all_bytes, all_len, body_bytes, single, whole_len, writing};
 ghost use Rattle.editor_core.specs.Core.{core_of};
 
 use super::current::current_of;
 use super::studio::Studio;
+use clip_track::Kept;
 use disk_model::Store;
 use pcm_base::{NoMemory, Refusal};
 use project_journal::add_record;
@@ -22,22 +23,24 @@ use record_body::{Body, body_len, delta_len, write_body, write_delta_body};
 const WHOLE_VERSION: u32 = 1;
 
 impl<S: Store> Studio<S> {
-    // How many bytes it has.
-    fn body_size(&self, body: &Body) -> usize
+    // How many bytes it has. Its tracks keep as many blocks of the current ones as `kept` says.
+    fn body_size(&self, body: &Body, kept: Kept) -> usize
         requires numbers { BodyAgrees (current_tracks self.now.history.history) body.now }
+        requires kept { BodyKeeps kept (current_tracks self.now.history.history) body.now }
         ensures value { result ≡ length (body_bytes (core_of self.now) body.now) }
         ensures few { result ≤ 2 ^ 45 }
     {
         if self.version == WHOLE_VERSION {
             return body_len(body);
         }
-        delta_len(body, current_of(&self.history))
+        delta_len(body, current_of(&self.history), kept)
     }
 
     // Whether the journal has the places for a record with this body, and it is short enough, also written out whole.
     // It returns how many bytes the body has.
-    pub(crate) fn may_record(&self, body: &Body) -> Result<usize, Refusal>
+    pub(crate) fn may_record(&self, body: &Body, kept: Kept) -> Result<usize, Refusal>
         requires numbers { BodyAgrees (current_tracks self.now.history.history) body.now }
+        requires kept { BodyKeeps kept (current_tracks self.now.history.history) body.now }
         requires end { self.now.journal_end ≤ COUNTER_LIMIT }
         ensures value { IfOk result (λ len. len ≡ length (body_bytes (core_of self.now) body.now)) }
         ensures place { IfOk result (λ len. self.now.journal_end + (6 + len) ≤ COUNTER_LIMIT) }
@@ -46,7 +49,7 @@ impl<S: Store> Studio<S> {
             (length (body_bytes (core_of self.now) body.now))) }
     {
         self.may_add(body_len(body) as u64)?;
-        let len = self.body_size(body);
+        let len = self.body_size(body, kept);
         self.may_add(len as u64)?;
         Ok(len)
     }
@@ -89,8 +92,9 @@ impl<S: Store> Studio<S> {
 
     // The same as `may_record` of records that come together, this many before the last. It returns how many bytes they
     // have without the gate of the first and the length of its body.
-    pub(crate) fn may_write(&self, body: &Body, more: u64) -> Result<u64, Refusal>
+    pub(crate) fn may_write(&self, body: &Body, more: u64, kept: Kept) -> Result<u64, Refusal>
         requires numbers { BodyAgrees (current_tracks self.now.history.history) body.now }
+        requires kept { BodyKeeps kept (current_tracks self.now.history.history) body.now }
         requires again { AgreeById (current_tracks self.now.history.history) (current_tracks self.now.history.history) }
         requires end { self.now.journal_end ≤ COUNTER_LIMIT }
         requires few { more < 64 }
@@ -102,19 +106,21 @@ impl<S: Store> Studio<S> {
             (all_len (core_of self.now) (writing more body.now)) why) }
     {
         if more == 0 {
-            let len = self.may_record(body)?;
+            let len = self.may_record(body, kept)?;
             return Ok(len as u64);
         }
         let again = self.again(body)?;
         self.may_add(len_together(more, body_len(&again), body_len(body)))?;
-        let len = len_together(more, self.body_size(&again), self.body_size(body));
+        let one = self.body_size(&again, Kept::none());
+        let len = len_together(more, one, self.body_size(body, kept));
         self.may_add(len)?;
         Ok(len)
     }
 
     // Writes it.
-    pub(crate) fn write_record(&mut self, body: &Body) -> Result<(), NoMemory>
+    pub(crate) fn write_record(&mut self, body: &Body, kept: Kept) -> Result<(), NoMemory>
         requires numbers { BodyAgrees (current_tracks self.old.history.history) body.now }
+        requires kept { BodyKeeps kept (current_tracks self.old.history.history) body.now }
         ensures same { core_of self.new ≡ core_of self.old }
         ensures body { OnOk result (self.new.body.items ≡ body_bytes (core_of self.old) body.now) }
         ensures row { self.new.row ≡ self.old.row }
@@ -124,13 +130,19 @@ impl<S: Store> Studio<S> {
         if self.version == WHOLE_VERSION {
             return write_body(body, &mut self.body);
         }
-        write_delta_body(body, current_of(&self.history), &mut self.body)
+        write_delta_body(body, current_of(&self.history), kept, &mut self.body)
     }
 
     // Writes records that come together into the row of the journal, this many before the last, with room for a byte
     // more.
-    pub(crate) fn write_records(&mut self, body: &Body, more: u64) -> Result<(), NoMemory>
+    pub(crate) fn write_records(
+        &mut self,
+        body: &Body,
+        more: u64,
+        kept: Kept,
+    ) -> Result<(), NoMemory>
         requires numbers { BodyAgrees (current_tracks self.old.history.history) body.now }
+        requires kept { BodyKeeps kept (current_tracks self.old.history.history) body.now }
         requires again { AgreeById (current_tracks self.old.history.history) (current_tracks self.old.history.history) }
         requires short { all_len (core_of self.old) (writing more body.now) ≤ LONGEST_BODY }
         ensures same { core_of self.new ≡ core_of self.old }
@@ -141,7 +153,7 @@ impl<S: Store> Studio<S> {
         ensures ledger { self.new.tally ≡ self.old.tally }
     {
         self.write_again(body, more)?;
-        self.write_record(body)?;
+        self.write_record(body, kept)?;
         add_record(&mut self.row, &self.body)?;
         self.row.reserve(1)?;
         Ok(())
@@ -163,7 +175,7 @@ impl<S: Store> Studio<S> {
             return Ok(());
         }
         let again = self.again(body)?;
-        self.write_record(&again)?;
+        self.write_record(&again, Kept::none())?;
         add_times(&mut self.row, &self.body, more)
     }
 }

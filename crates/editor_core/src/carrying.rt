@@ -17,7 +17,7 @@ ghost use Rattle.editor_state.specs.Applied.{Lasts};
 ghost use Rattle.project_journal.specs.Journal.{AreWaiting};
 ghost use Rattle.record_body.specs.Saved.{current_tracks};
 ghost use Rattle.project_state.specs.Numbers.{AgreeById};
-ghost use Rattle.record_body.specs.Numbers.{BodyAgrees};
+ghost use Rattle.record_body.specs.Numbers.{BodyAgrees, BodyKeeps};
 ghost use Rattle.editor_state.specs.Adding.{Undrawn};
 ghost use Rattle.editor_state.specs.Bodies.{all_bytes, all_len, whole_len, writing};
 ghost use Rattle.editor_core.specs.Core.{core_of};
@@ -32,6 +32,7 @@ ghost use Rattle.editor_state.specs.Took.{Took, as_reply, with_sound};
 
 use super::studio::Studio;
 use block_writer::Brings;
+use clip_track::Kept;
 use disk_model::Store;
 use edit_ops::{NewBlock, Strips};
 use editor_state::Planned;
@@ -105,8 +106,10 @@ impl<S: Store> Studio<S> {
         blocks: u64,
         tracks: u64,
         layouts: u64,
+        kept: Kept,
     ) -> Result<(), Refusal>
         requires numbers { BodyAgrees (current_tracks self.old.history.history) body.now }
+        requires kept { BodyKeeps kept (current_tracks self.old.history.history) body.now }
         requires again { AgreeById (current_tracks self.old.history.history) (current_tracks self.old.history.history) }
         requires layouts { self.old.next_layout ≤ COUNTER_LIMIT }
         requires next { self.old.next_block ≤ COUNTER_LIMIT }
@@ -131,9 +134,9 @@ impl<S: Store> Studio<S> {
         self.may_make(blocks, tracks, more + 1)?;
         let whole = self.whole_size(body, more)?;
         self.may_draw(whole, layouts)?;
-        self.may_write(body, more)?;
+        self.may_write(body, more, kept)?;
         self.ready_counts(blocks)?;
-        self.write_records(body, more)?;
+        self.write_records(body, more, kept)?;
         Ok(())
     }
 
@@ -144,10 +147,12 @@ impl<S: Store> Studio<S> {
         more: u64,
         makes: &[NewBlock],
         draws: Draws,
+        kept: Kept,
         given: &mut G,
     ) -> Result<(), Refusal>
         requires studio { IsStudio S.Store (core_of self.old) }
         requires numbers { BodyAgrees (current_tracks self.old.history.history) body.now }
+        requires kept { BodyKeeps kept (current_tracks self.old.history.history) body.now }
         requires more { more < 64 }
         requires new { AreNew self.old.buffers self.old.next_block makes.now }
         requires pieces { PiecesReadable (G.brings given.old).count makes.now }
@@ -173,7 +178,8 @@ impl<S: Store> Studio<S> {
         ensures uses { OnOk result (MAX_TRACKS ≤ self.new.tally.uses.spare) }
         ensures layouts { OnOk result (self.old.next_layout + draws.layouts ≤ COUNTER_LIMIT) }
     {
-        self.prepare(body, more, makes.len() as u64, draws.tracks, draws.layouts)?;
+        let blocks = makes.len() as u64;
+        self.prepare(body, more, blocks, draws.tracks, draws.layouts, kept)?;
         self.make_blocks(makes, given)?;
         self.commit_rows(more + 1)
     }
@@ -242,6 +248,7 @@ impl<S: Store> Studio<S> {
             tracks,
             layouts,
             clip,
+            kept,
         } = edit;
         let body = Body::Edit {
             tag,
@@ -250,11 +257,11 @@ impl<S: Store> Studio<S> {
             point,
         };
         let draws = Draws { tracks, layouts };
-        self.carry(&body, more, makes.as_slice(), draws, given)?;
+        self.carry(&body, more, makes.as_slice(), draws, kept, given)?;
         let Body::Edit { point, .. } = body else {
             unreachable!();
         };
-        self.take_recorded(point, tag, tracks, layouts);
+        self.take_recorded(point, tag, tracks, layouts, kept);
         self.take_out(clip);
         Ok(self.commit_number)
     }

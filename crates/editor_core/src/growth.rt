@@ -11,7 +11,7 @@ ghost use Rattle.editor_imports.specs.Imports.{AddsChannel, AllFitBehind, FitsBe
 ghost use Rattle.editor_imports.specs.Imports.{piece_behind, track_with};
 
 use block_sequence::Pieces;
-use clip_track::Layout;
+use clip_track::{Kept, Layout};
 use edit_ops::{NewBlock, NewBlocks, Plan, Planner, insert};
 use editor_imports::Growing;
 use editor_state::Planned;
@@ -73,12 +73,14 @@ fn plan_channel(planner: Planner, from: u64, count: u64) -> Result<Plan, Refusal
         layout,
         makes,
         next: after,
+        kept,
     } = plan;
     let makes = moved_blocks(planner.alloc, makes.as_slice(), from)?;
     Ok(Plan {
         layout,
         makes: NewBlocks::new(makes),
         next: after,
+        kept,
     })
 }
 
@@ -135,6 +137,7 @@ pub(crate) fn add_channel(
         layout,
         makes,
         next,
+        ..
     } = plan;
     add_track(&mut growing.point, id, growing.number, layout)?;
     add_blocks(&mut growing.makes, makes)?;
@@ -147,7 +150,8 @@ pub(crate) fn add_channel(
 // The plan of the project that has grown by this many tracks, each with a layout of its own.
 pub(crate) fn planned_of(growing: Growing, tracks: u64) -> Planned
     ensures { (result.point ≡ growing.point) × (result.makes ≡ growing.makes.items) × (result.next ≡ growing.next)
-        × (result.tracks ≡ tracks) × (result.layouts ≡ tracks) × (result.clip ≡ None) }
+        × (result.tracks ≡ tracks) × (result.layouts ≡ tracks) × (result.clip ≡ None)
+        × (result.kept ≡ record { front = 0; back = 0 }) }
 {
     let Growing {
         point,
@@ -162,5 +166,6 @@ pub(crate) fn planned_of(growing: Growing, tracks: u64) -> Planned
         tracks,
         layouts: tracks,
         clip: None,
+        kept: Kept { front: 0, back: 0 },
     }
 }

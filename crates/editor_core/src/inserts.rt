@@ -11,6 +11,7 @@ ghost use Rattle.pcm_base.specs.declared.entry.SoundMove.{SoundMove};
 ghost use Rattle.pcm_base.specs.Form.{IsNumber};
 ghost use Rattle.pcm_base.specs.Sizes.{blocks_of_samples};
 ghost use Rattle.clip_track.specs.Clips.{AllHalfFull, IsLayout, end_of, layout_blocks};
+ghost use Rattle.clip_track.specs.Kept.{Keeps};
 ghost use Rattle.edit_ops.specs.Plans.{AnswersTest, IsPlan, Means, start_of};
 ghost use Rattle.block_writer.specs.Bringing.{brought_count};
 ghost use Rattle.envelope_view.specs.Answers.{IsUndamaged};
@@ -98,6 +99,7 @@ fn plan_insert(planner: Planner, layout: &Layout, place: Place, count: u64) -> R
     requires place { IsPlace place }
     requires count { count ≤ COUNTER_LIMIT }
     ensures plan { IfOk result (λ p. IsPlan (start_of planner) (layout_blocks layout.now) count p) }
+    ensures kept { IfOk result (λ p. Keeps p.kept (layout_blocks layout.now) (layout_blocks p.layout)) }
     ensures cells { IfOk result (λ p. Means (λ src. place_cells place count src.given) layout.now p) }
     ensures few { IfOk result (λ p. length p.makes ≤ blocks_of_samples planner.block_size count) }
     ensures tests { AnswersTest (place_test place count (end_of 0 layout.now)) result }

@@ -8,9 +8,10 @@ ghost use Rattle.project_state.specs.Tracks.{AllBelow, AreAbove};
 ghost use Rattle.project_state.specs.declared.track.Track.{Track};
 ghost use Rattle.layout_uses.specs.Drawing.{HasNumbers};
 ghost use Rattle.editor_tracks.specs.Copies.{run_of};
-ghost use Rattle.editor_tracks.specs.RunEdits.{IsRunPlan, Lays, laid_or, next_number};
+ghost use Rattle.editor_tracks.specs.RunEdits.{AllKeep, IsRunPlan, Lays, laid_or, next_number};
 ghost use Rattle.editor_tracks.specs.TrackEdits.{with_layout};
 
+use clip_track::Kept;
 use edit_ops::{NewBlock, NewBlocks, Plan, Plans, Strips};
 use editor_state::Planned;
 use pcm_base::NoMemory;
@@ -51,6 +52,29 @@ fn laid_out(
         number,
         layout,
     })
+}
+
+// The most blocks that each of some plans keeps, at the front and at the back.
+fn least_kept(plans: &[Plan]) -> Kept
+    ensures { AllKeep result plans.now }
+{
+    let mut kept = Kept {
+        front: usize::MAX,
+        back: usize::MAX,
+    };
+    for plan in plans {
+        let front = kept.front.min(plan.kept.front);
+        let back = kept.back.min(plan.kept.back);
+        kept = Kept { front, back };
+    }
+    kept
+}
+
+// The same of a run's plans.
+fn kept_by(plans: &Plans) -> Kept
+    ensures { AllKeep result plans.now }
+{
+    least_kept(plans.as_slice())
 }
 
 // The number after one, where a layout got it.
@@ -134,6 +158,7 @@ pub(crate) fn planned_run(
     ensures tracks { IfOk result (λ p. p.tracks ≡ 0) }
     ensures clip { IfOk result (λ p. p.clip ≡ clip) }
 {
+    let kept = kept_by(&plans);
     let mut left = plans.into_vec().into_iter();
     let mut point = Point::new(alloc);
     let mut makes = Vec::new(alloc);
@@ -151,5 +176,6 @@ pub(crate) fn planned_run(
         tracks: 0,
         layouts: number - next.layout,
         clip,
+        kept,
     })
 }

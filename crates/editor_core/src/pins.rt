@@ -19,6 +19,7 @@ ghost use Rattle.editor_state.specs.Took.{Took, quietly, as_reply};
 
 use super::current::current_of;
 use super::studio::Studio;
+use clip_track::Kept;
 use disk_model::Store;
 use editor_state::Pin;
 use layout_uses::Tally;
@@ -47,7 +48,7 @@ fn use_current(tally: &mut Tally, history: &History<Point>)
     ensures { Comes (current_tracks history.now.history) tally.old tally.new }
 {
     let current = current_of(history);
-    tally.use_point(current, current);
+    tally.use_point(current, current, Kept::none());
 }
 
 impl<S: Store> Studio<S> {

@@ -22,12 +22,14 @@ pub(crate) fn planned(
     ensures tracks { IfOk result (λ p. p.tracks ≡ 0) }
     ensures layouts { IfOk result (λ p. p.layouts ≡ 1) }
     ensures clip { IfOk result (λ p. p.clip ≡ None) }
+    ensures kept { IfOk result (λ p. p.kept ≡ plan.kept) }
     ensures layout { OnOk result (IsLayout plan.layout) }
 {
     let Plan {
         layout,
         makes,
         next,
+        kept,
     } = plan;
     let _clips = layout.as_slice();
     let new = Track {
@@ -46,5 +48,6 @@ pub(crate) fn planned(
         tracks: 0,
         layouts: 1,
         clip: None,
+        kept,
     })
 }

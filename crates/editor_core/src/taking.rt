@@ -20,6 +20,7 @@ ghost use Rattle.editor_core.specs.Core.{core_of};
 ghost use Rattle.editor_state.specs.Given.{is_block};
 
 use super::studio::Studio;
+use clip_track::Kept;
 use disk_model::Store;
 use layout_uses::count_edit;
 use pcm_base::{MAX_TRACKS, NoMemory, Refusal};
@@ -49,8 +50,8 @@ impl<S: Store> Studio<S> {
         ensures history { self.new.history ≡ self.old.history }
         ensures ledger { self.new.tally ≡ self.old.tally }
     {
-        self.may_record(body)?;
-        self.write_record(body)?;
+        self.may_record(body, Kept::none())?;
+        self.write_record(body, Kept::none())?;
         self.commit_written()
     }
 
@@ -110,7 +111,7 @@ impl<S: Store> Studio<S> {
         ensures counts { Becomes point (history_tracks self.old.history.history)
             (history_tracks (edited self.old.history.history point 0)) self.old.tally self.new.tally }
     {
-        count_edit(&mut self.tally, &self.history, &point);
+        count_edit(&mut self.tally, &self.history, &point, Kept::none());
         let _ = self.history.push(point, 0);
         self.next_track += tracks;
         self.next_layout += layouts;

@@ -153,14 +153,18 @@ channel_means from count p means src written =
     ∙ inserted_first (stretch first 0 count)
     ∙ ap as_cells (sym (stretch_behind given from 0 count) ∙ ap (λ (k : ℕ). stretch given k count) at)
 
-pub channel_plan : (from count m next after : ℕ) (layout : List Clip) (makes moved : List NewBlock) → IsLayout layout
-    → IsPlan (record { block_size = m; next = next }) [] count (record { layout = layout; makes = makes; next = after })
-    → MeansInserted count (record { layout = layout; makes = makes; next = after })
-    → length makes ≤ 8 + count / m → moved ≡ map (block_behind from) makes
-    → IsChannelPlan from count m next (record { layout = layout; makes = moved; next = after })
-channel_plan from count m next after layout makes moved laid is means few same =
-    let was : Plan = record { layout = layout; makes = makes; next = after } in
-    let now : List NewBlock → Plan = λ bs. record { layout = layout; makes = bs; next = after } in
+-- a plan with its blocks moved
+abbrev pub plan_behind : Plan → List NewBlock → Plan
+plan_behind p bs = record p { makes = bs }
+
+pub channel_plan : (from count m next : ℕ) (was : Plan) (moved : List NewBlock) → IsLayout was.layout
+    → IsPlan (record { block_size = m; next = next }) [] count was → MeansInserted count was
+    → length was.makes ≤ 8 + count / m → moved ≡ map (block_behind from) was.makes
+    → IsChannelPlan from count m next (plan_behind was moved)
+channel_plan from count m next was moved laid is means few same =
+    let layout = was.layout in
+    let makes = was.makes in
+    let now : List NewBlock → Plan = plan_behind was in
     subst (λ (bs : List NewBlock). IsChannelPlan from count m next (now bs)) (sym same) (record {
       plan = record {
         half_full = is.half_full;

@@ -19,6 +19,8 @@ use Rattle.record_body.proofs.SavedBounds.{all_append}
 use Rattle.project_state.proofs.MeantHistories.{meant_recorded}
 use Rattle.layout_uses.specs.Drawing.{HasNumbers}
 use Rattle.editor_state.specs.Edits.{AreAmong, IsEdit, IsPlanned, alone, beside, blocks_with, tagged}
+use Rattle.project_state.proofs.KeptTracks.{each_same, keeps_each}
+use Rattle.project_state.specs.Kept.{KeepsTracks}
 use Rattle.editor_state.specs.Studios.{IsStudio, clip_blocks, named_blocks, studio_by}
 use Rattle.editor_state.specs.{declared.planned.Planned.Planned, Commits.IsCommitCall, Core.Core, Vaults.HasChannels}
 use Rattle.editor_state.specs.{Vaults.left_as, Took.Took, Took.with_sound}
@@ -99,6 +101,7 @@ module _ {D : Type 0} (disk : Ghosts D) (s : Core D) (is : IsStudio disk s) (cha
         tracks = length counts;
         layouts = length counts;
         clip = None;
+        kept = record { front = 0; back = 0 };
       }
 
       point_valid : IsValidPoint m (s.next_block + n) (s.next_track + length counts) point
@@ -134,6 +137,10 @@ module _ {D : Type 0} (disk : Ghosts D) (s : Core D) (is : IsStudio disk s) (cha
       clip_names : AreAmong every (clip_blocks s.clipboard)
       clip_names = search (rules, all_right, was_named)
 
+      -- the old tracks stay
+      kept : KeepsTracks plan_then.kept old point
+      kept = keeps_each plan_then.kept 1 old point point_valid.rising (each_same plan_then.kept old are.news)
+
       grown_planned : (count : ℕ) (given : ℕ → ℤ) → count ≡ total_of counts
           → IsPlanned s (tagged plan_then 0 0 count given)
       grown_planned count given all =
@@ -147,6 +154,7 @@ module _ {D : Type 0} (disk : Ghosts D) (s : Core D) (is : IsStudio disk s) (cha
             tag_counts = λ some. absurd (omega (arith, some));
             layouts = numbers;
             valid = point_valid;
+            kept = kept;
             names = point_names;
             used = point_used;
             clip_names = clip_names;

@@ -95,8 +95,8 @@ module _ {D : Type 0} (s : Core D) (counts : List ℕ) (i : ℕ) (g : Growing) (
 pub all_grown : {D : Type 0} (s : Core D) (counts : List ℕ) (i : ℕ) (g : Growing) (p : Planned)
     → AreGrown s (take i counts) g → take i counts ≡ counts
     → p.point ≡ g.point → p.makes ≡ g.makes.items → p.next ≡ g.next → p.tracks ≡ length counts
-    → p.layouts ≡ length counts → IsChannelsPlan s counts p
-all_grown s counts i g p grown all point makes at tracks layouts = record {
+    → p.layouts ≡ length counts → p.kept ≡ record { front = 0; back = 0 } → IsChannelsPlan s counts p
+all_grown s counts i g p grown all point makes at tracks layouts kept = record {
   grown = g;
   are = subst (λ (ns : List ℕ). AreGrown s ns g) all grown;
   point_is = point;
@@ -104,4 +104,5 @@ all_grown s counts i g p grown all point makes at tracks layouts = record {
   next_is = at;
   tracks_is = tracks;
   layouts_is = layouts;
+  kept_is = kept;
 }

@@ -106,6 +106,7 @@ pub record IsChannelsPlan {D : Type 0} (s : Core D) (counts : List ℕ) (p : Pla
   pub next_is : p.next ≡ grown.next
   pub tracks_is : p.tracks ≡ length counts
   pub layouts_is : p.layouts ≡ length counts
+  pub kept_is : p.kept ≡ record { front = 0; back = 0 }
 
 -- what refuses new tracks of this many samples each in a project of this many tracks
 abbrev pub channels_refusal : ℕ → List ℕ → Option Refusal

@@ -17,6 +17,7 @@ use Rattle.edit_ops.specs.Plans.{AreNew, AreWritten, AllNewFrom, ref_of}
 use Rattle.block_writer.specs.Brought.{Brought}
 use Rattle.project_journal.specs.Journal.{rows_length}
 use Rattle.project_state.specs.{declared.track.Track.Track, Meaning.meant_history, Meaning.point_blocks}
+use Rattle.project_state.specs.Kept.{KeepsTracks}
 use Rattle.record_body.specs.{Saved.current_tracks, SavedValid.IsValidPoint}
 use Rattle.layout_uses.specs.Drawing.{HasNumbers}
 use Rattle.editor_state.specs.Studios.{MayPaste, clip_blocks, clip_cells, named_blocks, studio_by}
@@ -73,6 +74,7 @@ pub record IsPlanned {D : Type 0} (s : Core D) (e : TaggedEdit) : Type 0 where
   pub tag_counts : 0 < e.more → 1 ≤ e.tag
   pub layouts : HasNumbers (current_tracks s.history) s.next_layout e.plan.point (s.next_layout + e.plan.layouts)
   pub valid : IsValidPoint s.block_size (s.next_block + length e.plan.makes) (s.next_track + e.plan.tracks) e.plan.point
+  pub kept : KeepsTracks e.plan.kept (current_tracks s.history) e.plan.point
   pub names : AreAmong (blocks_with s e.plan.makes) (point_blocks e.plan.point)
   pub used : AreAmong (point_blocks e.plan.point) (map ref_of e.plan.makes)
   pub clip_names : AreAmong (blocks_with s e.plan.makes) (clip_blocks (clip_behind s e.plan))

@@ -60,6 +60,7 @@ cuts_laid edit start (suc n) xs (t ∷ ts) (p ∷ ps) among cuts =
     let later = all_right (Contains xs) (layout_blocks t.layout) (point_blocks ts) among in (
       record {
         plan = plan_more start (layout_blocks t.layout) xs p here cuts.0.plan;
+        kept = cuts.0.kept;
         cells = cuts.0.cells;
         few = cuts.0.few_made;
       },

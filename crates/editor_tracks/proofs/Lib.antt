@@ -12,6 +12,7 @@ pub mod RunPlans
 pub mod RunMeaning
 pub mod RunBlocks
 pub mod RunLayouts
+pub mod RunKept
 pub mod RunLaws
 -- Copies.
 pub mod CopyStrips

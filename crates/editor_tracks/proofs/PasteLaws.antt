@@ -80,6 +80,7 @@ pastes_laid edit start xs (c ∷ cs) (t ∷ ts) (p ∷ ps) old clip pastes =
     (point_blocks ts) old) (all_left C (strip_blocks c) (strips_blocks cs) clip) in (
       record {
         plan = plan_more start (layout_blocks t.layout ++ strip_blocks c) xs p mine pastes.0.plan;
+        kept = pastes.0.kept;
         cells = pastes.0.cells;
         few = pastes.0.few_made;
       },

@@ -13,6 +13,9 @@ use Rattle.editor_tracks.proofs.RunPlans.{AreLaid, AreValidPlans, CellEdit, Layo
 use Rattle.editor_tracks.proofs.RunPlans.{laid_half_full, laid_length, laid_names, laid_new, laid_origin, laid_rising}
 use Rattle.editor_tracks.proofs.RunPlans.{laid_valid, valid_plans}
 use Rattle.editor_tracks.proofs.{CopyStrips.from_track, RunMeaning.laid_means, RunBlocks.laid_in}
+use Rattle.editor_tracks.proofs.{RunKept.laid_keeps}
+use Rattle.project_state.proofs.KeptTracks.{keeps_each}
+use Rattle.project_state.specs.Kept.{KeepsTracks}
 
 module _ {D : Type 0} (disk : Ghosts D) (s : Core D) (is : IsStudio disk s) (id : ℕ) (track : Track)
     (found : track_of id (current_tracks s.history) ≡ Some track)
@@ -73,12 +76,18 @@ module _ {D : Type 0} (disk : Ghosts D) (s : Core D) (is : IsStudio disk s) (id 
       (laid_in (Contains point) fs m s.next_block xs id 1 old track plans s.next_layout old_valid.rising found laid
       (among_itself point))
 
+  kept : KeepsTracks p.kept old p.point
+  kept =
+      subst (KeepsTracks p.kept old) (sym run.is) (keeps_each p.kept 1 old (laid_from id plans s.next_layout old)
+      laid_is_valid.rising
+      (laid_keeps p.kept fs m s.next_block xs id 1 old track plans s.next_layout old_valid.rising found laid run.keep))
+
   pub run_planned : p.tracks ≡ 0 → (clip : Option (List (List Item))) → clip_behind s p ≡ clip
       → HasNumbers old s.next_layout p.point (s.next_layout + p.layouts)
       → AreAmong every (clip_blocks clip) → length (clip_blocks clip) ≤ 2 ^ 71 → MayPaste m clip
       → IsPlanned s (tagged_by p 0 0 (brought_by Nothing) (brought Nothing))
   run_planned none clip behind numbers clip_names clip_few clip_fits =
-      search (rules, fresh, all_readable, origin, new_from_more, laid_is_valid, laid_are_named, refs, laid_used)
+      search (rules, fresh, all_readable, origin, new_from_more, kept, laid_is_valid, laid_are_named, refs, laid_used)
 
   pub run_few : n ≤ 8 * length fs
   run_few = search (rules, laid_few)

@@ -8,6 +8,7 @@ use Rattle.editor_tracks.proofs.Common.{IsGiven, laid_from, made_by, all_left, a
 use Rattle.editor_tracks.proofs.Common.{new_from_more, old_or_new}
 use Rattle.std.proofs.Common.{drop}
 use Rattle.clip_track.specs.Clips.{AllHalfFull}
+use Rattle.clip_track.specs.Kept.{Keeps}
 use Rattle.edit_ops.specs.Plans.{IsPlan}
 use Rattle.record_body.specs.Valid.{AllClipsGiven}
 use Rattle.editor_tracks.specs.RunEdits.{AreLayouts, laid_by}
@@ -22,6 +23,7 @@ CellEdit = Sources → List Cell → List Cell
 
 pub record IsLaid (f : CellEdit) (m next : ℕ) (xs : List BlockRef) (t : Track) (p : Plan) : Type 0 where
   pub plan : IsPlan (record { block_size = m; next = next }) xs 0 p
+  pub kept : Keeps p.kept (layout_blocks t.layout) (layout_blocks p.layout)
   pub cells : Means f t.layout p
   pub few : length p.makes ≤ 8
 

@@ -13,7 +13,10 @@ use Rattle.editor_tracks.proofs.Common.{refs_ids, all_readable, ids_clips, new_f
 use Rattle.std.proofs.{lemmas.List.Elements.Contains-append_left}
 use Rattle.block_writer.specs.declared.given.Given.{Given}
 use Rattle.layout_uses.proofs.Putting.{put_numbers}
+use Rattle.project_state.specs.Kept.{KeepsTracks}
 use Rattle.editor_state.specs.{Points.put_in, Points.put_one}
+use Rattle.project_state.proofs.KeptTracks.{keeps_each, put_each}
+use Rattle.clip_track.specs.{Kept.Keeps, declared.kept.Kept.Kept}
 use Rattle.editor_commits.proofs.TrackChanges.{layout_of, put_all, put_means, put_rising, put_valid}
 use Rattle.editor_blocks.proofs.StudioBlocks.{IsNewId}
 use Rattle.editor_blocks.proofs.PlanBlocks.{clips_ids}
@@ -136,6 +139,14 @@ module _ {D : Type 0} (disk : Ghosts D) (s : Core D) (is : IsStudio disk s) (e :
   numbers = subst (λ (k : ℕ). HasNumbers old s.next_layout planned.point (s.next_layout + k)) (sym p.layouts_is)
       (subst (λ (q : List Track). HasNumbers old s.next_layout q (s.next_layout + 1)) (sym p.is) (put_numbers old now))
 
+  kept : KeepsTracks planned.kept old planned.point
+  kept =
+      let K : Kept → Type 0 = λ k. Keeps k (layout_blocks was.layout) (layout_blocks p.plan.layout) in
+      let each = put_each planned.kept id now was (found_id id old was p.found) (subst K (sym p.kept_is) p.keeps) 1 old
+      old_valid.rising p.found in
+      subst (KeepsTracks planned.kept old) (sym p.is) (keeps_each planned.kept 1 old (put_in now old)
+      put_is_valid.rising each)
+
   pub track_planned : planned.tracks ≡ 0 → planned.clip ≡ None → (tag more : ℕ) → tag ≤ s.commit_number
       → (0 < more → 1 ≤ tag) → IsPlanned s (tagged_by planned tag more (brought_by given) (brought given))
   track_planned none keeps tag more tag_given counts = record {
@@ -148,6 +159,7 @@ module _ {D : Type 0} (disk : Ghosts D) (s : Core D) (is : IsStudio disk s) (e :
     layouts = numbers;
     valid = subst (λ (k : ℕ). IsValidPoint s.block_size (s.next_block + n) (s.next_track + k) planned.point) (sym none)
         (subst (IsValidPoint s.block_size (s.next_block + n) (s.next_track + 0)) (sym p.is) put_is_valid);
+    kept = kept;
     names = subst (λ (q : List Track). AreAmong every (point_blocks q)) (sym p.is) put_names;
     used = subst (λ (q : List Track). AreAmong (point_blocks q) (refs makes)) (sym p.is) put_used;
     clip_names = subst (λ (z : Option (List (List Item))). AreAmong every (clip_blocks (clip_then z s.clipboard)))

@@ -3,7 +3,8 @@ use Rattle.std.specs.Prelude.{◌≡◌, ℕ, ◌+◌, ◌≤◌, nat_le, if◌t
 use Rattle.std.specs.Prelude.{None}
 use Rattle.std.specs.List.{flat_map, AllByRecursion}
 use Rattle.clip_track.specs.Clips.{IsLayout}
-use Rattle.edit_ops.specs.{declared.types.NewBlock.NewBlock, declared.types.Plan.Plan}
+use Rattle.clip_track.specs.declared.kept.Kept.{Kept}
+use Rattle.edit_ops.specs.declared.types.{NewBlock.NewBlock, Plan.Plan}
 use Rattle.project_state.specs.declared.track.Track.{Track}
 use Rattle.editor_state.specs.declared.planned.Planned.{Planned}
 use Rattle.editor_tracks.specs.{Copies.run_of, TrackEdits.with_layout}
@@ -27,6 +28,13 @@ made_by ps = flat_map (λ (p : Plan). p.makes) ps
 
 abbrev pub AreLayouts : List Plan → Type 0
 AreLayouts ps = AllByRecursion (λ (p : Plan). IsLayout p.layout) ps
+
+-- none of some plans keeps less
+abbrev pub IsWithin : Kept → Kept → Type 0
+IsWithin j k = (j.front ≤ k.front) × (j.back ≤ k.back)
+
+abbrev pub AllKeep : Kept → List Plan → Type 0
+AllKeep k ps = AllByRecursion (λ (p : Plan). IsWithin k p.kept) ps
 
 -- a run that is being laid out: the plans that are left, the blocks that are to be made for those before, and the
 -- number of the next layout
@@ -63,3 +71,4 @@ pub record IsRunPlan (id next number : ℕ) (old : List Track) (plans : List Pla
   pub after_is : p.next ≡ next + length p.makes
   pub layouts : AreLayouts plans
   pub count : p.layouts ≡ length plans
+  pub keep : AllKeep p.kept plans

@@ -6,6 +6,7 @@ use Rattle.pcm_base.specs.{Counters.layouts_of, History.recorded, Outside.Outsid
 use Rattle.pcm_base.specs.{Refusals.call_tests, Refusals.no_track, State.State, State.current, Step.after}
 use Rattle.clip_track.specs.declared.clips.Clip.{Clip}
 use Rattle.clip_track.specs.Clips.{end_of, IsLayout, layout_blocks, layout_cells}
+use Rattle.clip_track.specs.Kept.{Keeps}
 use Rattle.edit_ops.specs.{declared.types.Plan.Plan, Plans.Start, Plans.IsPlan, Plans.Means}
 use Rattle.block_writer.specs.{declared.given.Given.Given, Bringing.brought}
 use Rattle.project_state.specs.{declared.track.Track.Track, Tracks.track_of}
@@ -45,6 +46,7 @@ pub record IsTrackPlan {D : Type 0} (e : TrackEdit) (count id : ℕ) (s : Core D
   pub tests : e.test (end_of 0 track.layout) ≡ None
   pub plan : Plan
   pub is_plan : IsPlan (plan_start s) (layout_blocks track.layout) count plan
+  pub keeps : Keeps plan.kept (layout_blocks track.layout) (layout_blocks plan.layout)
   pub means : Means (λ src. e.cells src.given) track.layout plan
   pub layout : IsLayout plan.layout
   pub few : (src : Sources) → length plan.makes ≤ e.most s.block_size (layout_cells src track.layout)
@@ -52,6 +54,7 @@ pub record IsTrackPlan {D : Type 0} (e : TrackEdit) (count id : ℕ) (s : Core D
   pub makes_is : p.makes ≡ plan.makes
   pub after_is : p.next ≡ plan.next
   pub layouts_is : p.layouts ≡ 1
+  pub kept_is : p.kept ≡ plan.kept
 
 -- there is none: an own test refuses it, or there is no memory
 abbrev pub NoTrackPlan : TrackEdit → ℕ → List Track → Refusal → Type 0

@@ -12,3 +12,5 @@ pub mod Numbers
 pub mod Draws
 pub mod Putting
 pub mod InTurn
+pub mod Parts
+pub mod Stays

@@ -1,6 +1,7 @@
 -- Counts of occurrences, as blocks come and go.
 use Rattle.std.specs.Prelude.{◌≡◌, ◌↔◌, ◌⊎◌, ℕ, ◌+◌, ◌≤◌, ◌<◌, Some, None, IsSome, List, map}
 use Rattle.pcm_base.specs.declared.block.BlockRef.{BlockRef}
+use Rattle.clip_track.specs.{Kept.Keeps, declared.kept.Kept.Kept}
 use Rattle.block_ledger.specs.Counts.{Counts, occurrences, times}
 use Rattle.row_ledger.specs.Lists.{ListComes, ListGoes, RowsState, counts_of, list_of, singles_of}
 
@@ -61,3 +62,9 @@ HasLayout kept number bs = (list_of kept number ≡ Some (ids_of bs)) ⊎ ((list
 abbrev pub UnnamesLayout : (old new : RowsState) → ℕ → List BlockRef → Type 0
 UnnamesLayout old new number bs = ((list_of old number ≡ Some (ids_of bs)) × ListGoes old new number (ids_of bs))
     ⊎ ((list_of old number ≡ None) × Unnames old new bs)
+
+-- Where the number `base` has a list, a layout keeps so many of its ids at both ends, or it is the layout of that
+-- number.
+abbrev pub KeepsList : Kept → RowsState → (base number : ℕ) → List BlockRef → Type 0
+KeepsList k kept base number bs = (xs : List ℕ) → list_of kept base ≡ Some xs
+    → (number ≡ base) ⊎ Keeps k xs (ids_of bs)

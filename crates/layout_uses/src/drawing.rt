@@ -20,7 +20,7 @@ fn same_blocks(a: &Sequence, b: &Sequence) -> bool
     if b.count() != count {
         return false;
     }
-    if a.common(b) != count {
+    if a.common(b, 0) != count {
         return false;
     }
     true

@@ -1,13 +1,15 @@
 // Points of a history that come and go.
-ghost use Rattle.std.specs.Prelude.{◌≡◌, ◌+◌, ◌≤◌, ◌<◌, ◌^◌, ℕ, [], OnOk, length, take, drop};
+ghost use Rattle.std.specs.Prelude.{◌≡◌, ◌+◌, ◌≤◌, ◌<◌, ◌^◌, ℕ, [], List, OnOk, Some, length, take, drop, slice_get};
 ghost use Rattle.block_ledger.specs.Counts.{occurrences};
 ghost use Rattle.row_ledger.specs.Lists.{counts_of};
 ghost use Rattle.pcm_base.specs.History.{amended, edited, points_of, purged};
+ghost use Rattle.project_state.specs.{Kept.KeepsTracks, declared.track.Track.Track};
 ghost use Rattle.layout_uses.specs.Layouts.{history_tracks, points_tracks, track_blocks};
 ghost use Rattle.layout_uses.specs.Occurrences.{HasIds, times_named};
 ghost use Rattle.layout_uses.specs.Tallies.{Becomes, Comes, Goes, Has, MayBecome};
 
 use super::tally::Tally;
+use clip_track::Kept;
 use pcm_base::NoMemory;
 use project_state::Point;
 use undo_history::History;
@@ -25,18 +27,21 @@ fn leave_points(tally: &mut Tally, history: &History<Point>, from: usize, to: us
 }
 
 /// A point is to stand after the current one: it uses its layouts, and the points that go for it use theirs no more.
-/// It cannot fail.
-pub fn count_edit(tally: &mut Tally, history: &History<Point>, point: &Point)
+/// Its tracks keep as many blocks of the current ones at both ends as `kept` says. It cannot fail.
+pub fn count_edit(tally: &mut Tally, history: &History<Point>, point: &Point, kept: Kept)
     requires room { length point.now ≤ tally.old.uses.spare }
     requires there { HasIds (counts_of tally.old.ledger) (track_blocks point.now) }
     requires few { (id : ℕ) →
         occurrences (counts_of tally.old.ledger id) + times_named id (track_blocks point.now) < 2 ^ 128 }
     requires counted { MayBecome point.now (history_tracks history.now.history) tally.old }
+    requires kept { (current : List Track)
+        → slice_get (points_of history.now.history) history.now.history.cursor ≡ Some current
+        → KeepsTracks kept current point.now }
     ensures { (tag : ℕ) → Becomes point.now (history_tracks history.now.history)
         (history_tracks (edited history.now.history point.now tag)) tally.old tally.new }
 {
     let cursor = history.cursor();
-    tally.use_point(point, history.point(cursor));
+    tally.use_point(point, history.point(cursor), kept);
     let len = history.len();
     let kept = cursor + 1;
     leave_points(tally, history, kept, len);
@@ -56,7 +61,7 @@ pub fn count_amend(tally: &mut Tally, history: &History<Point>, point: &Point)
         (history_tracks (amended history.now.history point.now)) tally.old tally.new }
 {
     let cursor = history.cursor();
-    tally.use_point(point, history.point(cursor));
+    tally.use_point(point, history.point(cursor), Kept::none());
     leave_points(tally, history, cursor, history.len());
 }
 
@@ -82,7 +87,7 @@ pub fn count_points(tally: &mut Tally, history: &History<Point>) -> Result<(), N
     for i in (0..history.len()).rev() {
         let point = history.point(i);
         tally.reserve(point.len() as u64)?;
-        tally.use_point(point, history.point(last.min(i + 1)));
+        tally.use_point(point, history.point(last.min(i + 1)), Kept::none());
     }
     Ok(())
 }

@@ -9,11 +9,14 @@ ghost use Rattle.row_ledger.specs.Lists.{counts_of};
 ghost use Rattle.clip_track.specs.Clips.{layout_blocks};
 ghost use Rattle.project_state.specs.declared.track.Track.{Track};
 ghost use Rattle.layout_uses.specs.Layouts.{AreNumbered, track_blocks};
-ghost use Rattle.layout_uses.specs.Occurrences.{HasIds, times_named};
+ghost use Rattle.project_state.specs.Tracks.{track_of};
+ghost use Rattle.layout_uses.specs.Occurrences.{HasIds, KeepsList, times_named};
+ghost use Rattle.layout_uses.specs.Staying.{MayKeep};
 ghost use Rattle.layout_uses.specs.Tallies.{Comes, Goes, Has, IsTally, SameIds};
 
 use super::blocks::{drop_blocks, drop_layout, hold_blocks, hold_layout};
 use block_ledger::Ledger;
+use clip_track::Kept;
 use pcm_base::{BlockRef, NoMemory};
 use project_state::{Point, Track};
 use row_ledger::RowLedger;
@@ -44,15 +47,6 @@ fn is_free(uses: &Ledger, number: u64) -> bool
     }
 }
 
-// The number that the layout of a track has in a point, 0 where there is no such track. The place `first` is looked at
-// first.
-fn number_in(point: &Point, id: u64, first: usize) -> u64 {
-    match point.place_of(id, first) {
-        Some(i) => point.track_at(i).number,
-        None => 0,
-    }
-}
-
 impl Tally {
     /// Nothing is used yet, and nothing named.
     pub fn new(alloc: Global) -> Tally
@@ -76,10 +70,12 @@ impl Tally {
     }
 
     /// A track uses its layout. Where it is the first that does, the layout's blocks, which are all there, are named by
-    /// it. That takes a step for each block by which the layout differs from that of the number `base`, and for each row
-    /// of blocks. It cannot fail: where there is too little memory for a list, the blocks are named one by one.
-    pub fn use_track(&mut self, track: &Track, base: u64)
+    /// it. As many blocks at both ends as `kept` says are those of the layout of the number `base`. That takes a step
+    /// for each block between them, and for each row of blocks. Where `kept` says 0 and 0, the layouts are compared.
+    /// It cannot fail: where there is too little memory for a list, the blocks are named one by one.
+    pub fn use_track(&mut self, track: &Track, base: u64, kept: Kept)
         requires room { 0 < self.old.uses.spare }
+        requires kept { KeepsList kept self.old.ledger base track.now.number (layout_blocks track.now.layout) }
         requires there { HasIds (counts_of self.old.ledger) (layout_blocks track.now.layout) }
         requires few { (id : ℕ) → occurrences (counts_of self.old.ledger id)
             + times_named id (layout_blocks track.now.layout) < 2 ^ 128 }
@@ -92,8 +88,32 @@ impl Tally {
                 &mut self.ledger,
                 track.number,
                 base,
+                kept,
                 track.layout.as_slice(),
             );
+        }
+    }
+
+    // A track uses its layout, which keeps so much of that of the track of its id in a point. The place `first` of that
+    // point is looked at first.
+    fn use_like(&mut self, track: &Track, base: &Point, first: usize, kept: Kept)
+        requires room { 0 < self.old.uses.spare }
+        requires kept { (old : Track) → track_of track.now.id base.now ≡ Some old
+            → KeepsList kept self.old.ledger old.number track.now.number (layout_blocks track.now.layout) }
+        requires there { HasIds (counts_of self.old.ledger) (layout_blocks track.now.layout) }
+        requires few { (id : ℕ) → occurrences (counts_of self.old.ledger id)
+            + times_named id (layout_blocks track.now.layout) < 2 ^ 128 }
+        ensures { Comes (track.now ∷ []) self.old self.new }
+    {
+        match base.place_of(track.id, first) {
+            Some(i) => {
+                let old = base.track_at(i);
+                self.use_track(track, old.number, kept);
+            }
+            None => {
+                let none = Kept::none();
+                self.use_track(track, 0, none);
+            }
         }
     }
 
@@ -110,10 +130,11 @@ impl Tally {
         }
     }
 
-    /// A point uses the layouts of its tracks, which are like those of the point `base` where it can be so. It cannot
-    /// fail, as [`Tally::use_track`] cannot.
-    pub fn use_point(&mut self, point: &Point, base: &Point)
+    /// A point uses the layouts of its tracks. Each is like that of the track of its id in the point `base`, and keeps
+    /// as many of its blocks at both ends as `kept` says. It cannot fail, as [`Tally::use_track`] cannot.
+    pub fn use_point(&mut self, point: &Point, base: &Point, kept: Kept)
         requires room { length point.now ≤ self.old.uses.spare }
+        requires kept { MayKeep kept base.now point.now self.old }
         requires there { HasIds (counts_of self.old.ledger) (track_blocks point.now) }
         requires few { (id : ℕ) →
             occurrences (counts_of self.old.ledger id) + times_named id (track_blocks point.now) < 2 ^ 128 }
@@ -121,7 +142,7 @@ impl Tally {
     {
         for i in (0..point.len()).rev() {
             let track = point.track_at(i);
-            self.use_track(track, number_in(base, track.id, i));
+            self.use_like(track, base, i, kept);
         }
     }
 

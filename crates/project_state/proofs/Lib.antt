@@ -1,3 +1,4 @@
+pub mod KeptTracks
 pub mod Points
 pub mod Meanings
 pub mod MeantHistories

@@ -3,6 +3,8 @@ use Rattle.record_body.proofs.Common.{◌≡◌, ℕ, zero, suc, ◌==◌, nat_l
 use Rattle.record_body.proofs.Common.{eqb-true, ltb-true, Clip, Edit, Undo, Redo, Purge, Body, same_clips, BodyAgrees}
 use Rattle.record_body.proofs.Common.{AgreesIfAny, Track, track_of}
 use Rattle.record_body.specs.{Batches.with_point}
+use Rattle.clip_track.specs.declared.kept.Kept.{Kept}
+use Rattle.project_state.specs.{Kept.KeepsTrack, Kept.KeepsTracks}
 use Rattle.project_state.specs.Numbers.{AgreeById, NumbersAgree, are_numbered_alike}
 use Rattle.record_body.proofs.ChangeLaws.{both, clips_refl}
 
@@ -22,6 +24,15 @@ agrees_at current (s ∷ ts) zero t all e =
     let same : s ≡ t = cc in
     subst (λ (x : Track). AgreesIfAny (track_of x.id current) x) same all.0
 agrees_at current (s ∷ ts) (suc i) t all e = agrees_at current ts i t all.1 e
+
+-- one of the tracks that keep blocks
+pub keeps_at : (kept : Kept) (current ts : List Track) (i : ℕ) (t : Track) → KeepsTracks kept current ts
+    → slice_get ts i ≡ Some t → KeepsTrack kept current t
+keeps_at kept current [] i t all e = absurd cc
+keeps_at kept current (s ∷ ts) zero t all e =
+    let same : s ≡ t = cc in
+    subst (λ (x : Track). KeepsTrack kept current x) same all.0
+keeps_at kept current (s ∷ ts) (suc i) t all e = keeps_at kept current ts i t all.1 e
 
 -- a body that says the current point again
 pub again_agrees : (current : List Track) (body : Body) → AgreeById current current

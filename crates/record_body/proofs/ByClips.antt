@@ -1,18 +1,15 @@
 -- The choice that is made of the clips in one pass.
-use Rattle.record_body.proofs.Common.{◌≡◌, suc, ◌-◌, ◌<◌, ◌==◌, ◌&&◌, Bool, true, List, [], ◌∷◌, length}
-use Rattle.record_body.proofs.Common.{take, Some, refl, sym, ap, arith, ap₂, ◌∙◌, eq-eqb, lt-ltb, ltb-true, subst, BlockRef, Clip, Track}
+use Rattle.record_body.proofs.Common.{◌≡◌, ◌<◌, ◌==◌, ◌&&◌, Bool, true, List, [], ◌∷◌, length}
+use Rattle.record_body.proofs.Common.{Some, refl, sym, ap, arith, ap₂, ◌∙◌, eq-eqb, lt-ltb, ltb-true, subst}
+use Rattle.record_body.proofs.Common.{BlockRef, Clip, Track}
 use Rattle.record_body.proofs.Common.{same_clip, same_clips, last_blocks, last_start, same_but_last, same_settings}
-use Rattle.record_body.proofs.Common.{◌≤◌, change_of, Same, Whole, common, if◌then◌else◌}
+use Rattle.record_body.proofs.Common.{◌≤◌, change_of, Same, Whole, if◌then◌else◌}
 use Rattle.pcm_base.specs.declared.limits.TheConstants.{MAX_CELLS}
 use Rattle.block_sequence.proofs.Fronts.{common_within}
 use Rattle.record_body.specs.Changes.{same_blocks, front_clips, tail_change}
 use Rattle.record_body.specs.Choices.{change_by, clips_choice, last_choice, LiesIn}
 use Rattle.record_body.proofs.ChangeLaws.{both, clips_refl, clips_same}
-
-front_more : (x z : Clip) (xs : List Clip) → front_clips (x ∷ z ∷ xs) ≡ x ∷ front_clips (z ∷ xs)
-front_more x z xs =
-    let more : length (x ∷ z ∷ xs) - 1 ≡ suc (length (z ∷ xs) - 1) = omega arith in
-    ap (λ n. take n (x ∷ z ∷ xs)) more
+use Rattle.record_body.proofs.KnownFronts.{front_more}
 
 decides : (xs ys : List Clip) → 0 < length xs → 0 < length ys → (last_start xs == last_start ys) ≡ true
     → same_clips (front_clips xs) (front_clips ys) ≡ true

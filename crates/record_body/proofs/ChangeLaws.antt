@@ -155,7 +155,7 @@ pub fewest_gone : (old t : Track) (gone : ℕ) (bs : List BlockRef) → 0 < leng
     → length (last_blocks old.layout) - common (last_blocks old.layout) (last_blocks t.layout) ≤ gone
 fewest_gone old t gone bs some le e = search (arith, last_with, common_front)
 
-same_refl : (bs : List BlockRef) → common bs bs ≡ length bs
+pub same_refl : (bs : List BlockRef) → common bs bs ≡ length bs
 same_refl [] = refl
 same_refl (b ∷ bs) = search (arith, same_refl bs, eq-eqb)
 

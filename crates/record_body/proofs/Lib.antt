@@ -5,6 +5,7 @@ pub mod Numbers
 pub mod Passing
 pub mod Sizes
 pub mod Steps
+pub mod RowSteps
 pub mod ValidBodies
 pub mod Spelled
 pub mod FieldsBack
@@ -23,6 +24,7 @@ pub mod Commons
 pub mod Tails
 pub mod DiffTracks
 pub mod ChangeLaws
+pub mod KnownFronts
 pub mod ByClips
 pub mod Chosen
 pub mod Agreeing

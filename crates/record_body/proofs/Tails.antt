@@ -7,8 +7,7 @@ use Rattle.record_body.proofs.Common.{gone_at, fresh_at, blocks_tests, blocks_at
 use Rattle.record_body.proofs.Common.{last_blocks, last_start, with_last, Pass, BlockRef, NoneEmpty, AllFull}
 use Rattle.record_body.proofs.Common.{IsHalfFull, block_lens, blocks_len, Clip, AreClips, AllHalfFull, IsLayout}
 use Rattle.record_body.proofs.Common.{clip_end, end_of}
-use Rattle.record_body.proofs.Common.{least_len, drop_all, append-nil, ◌∙◌}
-use Rattle.block_sequence.specs.Rows.{spliced}
+use Rattle.record_body.proofs.Common.{least_len, ◌∙◌}
 use Rattle.std.proofs.lemmas.Bool.{ltb-false}
 use Rattle.std.proofs.lemmas.List.{length-take-le}
 use Rattle.record_body.proofs.SavedBounds.{all_append}
@@ -161,18 +160,18 @@ tail_within l start olds at bytes pass =
     omega (arith, parts.0.0)
 
 -- one block alone has the samples of all
-pub lone_by_len : (m : ℕ) (bs : List BlockRef) → is_lone m bs ≡ (length bs == 1) && nat_lt (blocks_len bs) (least_len m true)
+pub lone_by_len : (m : ℕ) (bs : List BlockRef)
+    → is_lone m bs ≡ (length bs == 1) && nat_lt (blocks_len bs) (least_len m true)
 lone_by_len m [] = search arith
 lone_by_len m (b ∷ []) = search arith
 lone_by_len m (b ∷ c ∷ bs) = search arith
 
 -- others come after those that are kept
-pub splice_tail : (olds fresh bs : List BlockRef) (k n gone : ℕ) → n ≡ length olds → k ≡ n - gone → fresh ≡ bs
-    → spliced k n fresh olds ≡ kept_blocks olds gone ++ bs
-splice_tail olds fresh bs k n gone all kept same =
+pub ended_tail : (olds fresh bs : List BlockRef) (k n gone : ℕ) → n ≡ length olds → k ≡ n - gone → fresh ≡ bs
+    → take k olds ++ fresh ≡ kept_blocks olds gone ++ bs
+ended_tail olds fresh bs k n gone all kept same =
     let from : k ≡ length olds - gone = omega (arith, all, kept) in
-    ap (λ xs. take k olds ++ (fresh ++ xs)) (drop_all n olds (omega (arith, all)))
-    ∙ ap (λ xs. take k olds ++ xs) (append-nil fresh ∙ same) ∙ ap (λ m. take m olds ++ bs) from
+    ap (λ xs. take k olds ++ xs) same ∙ ap (λ m. take m olds ++ bs) from
 
 -- ---- the clips
 

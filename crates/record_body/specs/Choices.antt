@@ -1,5 +1,5 @@
 -- What the writer finds out of a track.
-use Rattle.std.specs.Prelude.{◌-◌, ◌≤◌, ◌<◌, ◌==◌, ◌&&◌, if◌then◌else◌, List, length, drop}
+use Rattle.std.specs.Prelude.{◌≡◌, ℕ, zero, suc, ◌-◌, ◌≤◌, ◌<◌, ◌==◌, ◌&&◌, if◌then◌else◌, List, [], ◌∷◌, length, drop}
 use Rattle.pcm_base.specs.declared.block.BlockRef.{BlockRef}
 use Rattle.pcm_base.specs.declared.limits.TheConstants.{MAX_CELLS}
 use Rattle.block_sequence.specs.Fronts.{common}
@@ -8,6 +8,13 @@ use Rattle.project_state.specs.declared.track.Track.{Track}
 use Rattle.record_body.specs.declared.changes.Choice.{Choice}
 use Rattle.record_body.specs.Changes.{Change, Same, Whole, Tail, last_blocks, same_blocks, same_but_last}
 use Rattle.record_body.specs.declared.changes.Choice.TheVariants as choice
+
+-- the first blocks are the same, as many as this number, as far as both lists have them
+abbrev pub HasFront : ℕ → List BlockRef → List BlockRef → Type 0
+HasFront zero xs ys = Unit {0}
+HasFront (suc n) [] ys = Unit {0}
+HasFront (suc n) (x ∷ xs) [] = Unit {0}
+HasFront (suc n) (x ∷ xs) (y ∷ ys) = (x ≡ y) × HasFront n xs ys
 
 -- a choice as a change to this track
 abbrev pub change_by : Track → Choice → Change

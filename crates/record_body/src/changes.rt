@@ -1,14 +1,16 @@
 // How a track differs from that of the current point.
-ghost use Rattle.std.specs.Prelude.{◌≡◌, ◌≤◌, ◌<◌, length, IsTrue, Some};
+ghost use Rattle.std.specs.Prelude.{◌≡◌, ◌-◌, ◌≤◌, ◌<◌, length, is_some, IfSome, IsSome, Some};
 ghost use Rattle.block_sequence.specs.Fronts.{common};
+ghost use Rattle.clip_track.specs.Clips.{layout_blocks};
 ghost use Rattle.record_body.specs.Changes as change;
 ghost use Rattle.pcm_base.specs.declared.limits.TheConstants.{MAX_CELLS};
-ghost use Rattle.record_body.specs.Choices.{change_by, clips_choice, last_choice, LiesIn, LiesWithin};
+ghost use Rattle.record_body.specs.Choices.{change_by, clips_choice, last_choice, HasFront, LiesIn, LiesWithin};
+ghost use Rattle.project_state.specs.Kept.{StaysOrKeeps};
 ghost use Rattle.project_state.specs.Numbers.{NumbersAgree, are_numbered_alike};
 ghost use Rattle.record_body.specs.Spelling.{side_byte};
 
 use block_sequence::Sequence;
-use clip_track::Clip;
+use clip_track::{Clip, Kept};
 use pcm_base::Side;
 use project_state::Track;
 
@@ -23,39 +25,54 @@ pub(crate) enum Choice {
     Tail { gone: usize, kept: usize },
 }
 
-/// How many blocks stand at the front of both.
-fn common_len(old: &Sequence, new: &Sequence) -> usize
+// In the functions below `front` is the number of first blocks that are known to be the same, as far as both have them.
+
+/// How many blocks stand at the front of both. Those that are known are not compared.
+fn common_len(old: &Sequence, new: &Sequence, front: usize) -> usize
+    requires known { HasFront front old.now new.now }
     ensures value { result ≡ common old.now new.now }
     ensures old { result ≤ length old.now }
     ensures new { result ≤ length new.now }
 {
-    old.common(new)
+    old.common(new, front.min(old.count()).min(new.count()))
 }
 
-fn same_blocks(old: &Sequence, new: &Sequence) -> bool
+/// Of blocks that are all known it compares only how many there are.
+fn same_blocks(old: &Sequence, new: &Sequence, front: usize) -> bool
+    requires known { HasFront front old.now new.now }
     ensures { result ≡ change.same_blocks old.now new.now }
 {
-    old.count() == new.count() && common_len(old, new) == old.count()
-}
-
-fn same_clip(old: &Clip, new: &Clip) -> bool
-    ensures { result ≡ change.same_clip old.now new.now }
-{
-    old.start == new.start && same_blocks(&old.blocks, &new.blocks)
-}
-
-fn same_clips(old: &[Clip], new: &[Clip]) -> bool
-    ensures { result ≡ change.same_clips old.now new.now }
-{
-    if old.len() != new.len() {
+    if old.count() != new.count() {
         return false;
     }
-    for i in 0..old.len() {
-        if !same_clip(&old[i], &new[i]) {
-            return false;
-        }
+    old.count() <= front || common_len(old, new, front) == old.count()
+}
+
+fn same_clip(old: &Clip, new: &Clip, front: usize) -> bool
+    requires known { HasFront front old.now.blocks new.now.blocks }
+    ensures { result ≡ change.same_clip old.now new.now }
+{
+    old.start == new.start && same_blocks(&old.blocks, &new.blocks, front)
+}
+
+/// Where all clips are the same, how many of the blocks that come after them are known.
+fn same_clips(old: &[Clip], new: &[Clip], front: usize) -> Option<usize>
+    requires known { HasFront front (layout_blocks old.now) (layout_blocks new.now) }
+    ensures value { is_some result ≡ change.same_clips old.now new.now }
+    ensures left { IfSome result (λ left. left ≡ front - length (layout_blocks old.now)) }
+{
+    if old.len() != new.len() {
+        return None;
     }
-    true
+    let mut left = front;
+    for i in 0..old.len() {
+        let clip = &old[i];
+        if !same_clip(clip, &new[i], left) {
+            return None;
+        }
+        left = left.saturating_sub(clip.blocks.count());
+    }
+    Some(left)
 }
 
 pub(crate) fn side_number(side: Side) -> u8
@@ -90,16 +107,21 @@ pub(crate) fn last_blocks(clips: &[Clip]) -> &Sequence
     &clips[clips.len() - 1].blocks
 }
 
-/// Whether all but the blocks of the last clip is the same, and there is one.
-fn same_but_last(old: &[Clip], new: &[Clip]) -> bool
-    ensures value { result ≡ change.same_but_last old.now new.now }
-    ensures old { IsTrue result → 0 < length old.now }
-    ensures new { IsTrue result → 0 < length new.now }
+/// Where there is a last clip, and all but its blocks is the same, how many of these are known.
+fn same_but_last(old: &[Clip], new: &[Clip], front: usize) -> Option<usize>
+    requires known { HasFront front (layout_blocks old.now) (layout_blocks new.now) }
+    ensures value { is_some result ≡ change.same_but_last old.now new.now }
+    ensures old { IsSome result → 0 < length old.now }
+    ensures new { IsSome result → 0 < length new.now }
+    ensures left { IfSome result (λ left. HasFront left (change.last_blocks old.now) (change.last_blocks new.now)) }
 {
     if old.is_empty() || new.is_empty() {
-        return false;
+        return None;
     }
-    last_start(old) == last_start(new) && same_clips(&old[..old.len() - 1], &new[..new.len() - 1])
+    if last_start(old) != last_start(new) {
+        return None;
+    }
+    same_clips(&old[..old.len() - 1], &new[..new.len() - 1], front)
 }
 
 /// Whether the layouts have one number, and it is not 0.
@@ -109,12 +131,13 @@ fn same_number(old: &Track, new: &Track) -> bool
     new.number == old.number && new.number > 0
 }
 
-/// How the last clip is told, where all others are the same, and it begins at the same place.
-fn last_change(old: &Sequence, new: &Sequence) -> Choice
+/// How the blocks of the last clip change, where all other clips are the same, and it begins at the same place.
+fn last_change(old: &Sequence, new: &Sequence, front: usize) -> Choice
+    requires known { HasFront front old.now new.now }
     ensures value { result ≡ last_choice old.now new.now }
     ensures few { length old.now ≤ MAX_CELLS }
 {
-    let kept = common_len(old, new);
+    let kept = common_len(old, new, front);
     let gone = old.count() - kept;
     if gone == 0 && old.count() == new.count() {
         return Choice::Same;
@@ -123,12 +146,13 @@ fn last_change(old: &Sequence, new: &Sequence) -> Choice
 }
 
 /// The shortest way to tell clips by others, in one pass over both.
-fn clips_change(old: &[Clip], new: &[Clip]) -> Choice
+fn clips_change(old: &[Clip], new: &[Clip], front: usize) -> Choice
+    requires known { HasFront front (layout_blocks old.now) (layout_blocks new.now) }
     ensures value { result ≡ clips_choice old.now new.now }
     ensures within { LiesIn new.now result }
 {
-    if same_but_last(old, new) {
-        return last_change(last_blocks(old), last_blocks(new));
+    if let Some(left) = same_but_last(old, new, front) {
+        return last_change(last_blocks(old), last_blocks(new), left);
     }
     if old.is_empty() && new.is_empty() {
         return Choice::Same;
@@ -136,10 +160,23 @@ fn clips_change(old: &[Clip], new: &[Clip]) -> Choice
     Choice::Whole
 }
 
+/// How many blocks both layouts are known to begin with. Layouts of one number may be two that have none, so nothing
+/// is known of them.
+fn known_front(old: &Track, new: &Track, kept: Kept) -> usize
+    requires kept { StaysOrKeeps kept old.now new.now }
+    ensures { HasFront result (layout_blocks old.now.layout) (layout_blocks new.now.layout) }
+{
+    if old.number == new.number {
+        return 0;
+    }
+    kept.front
+}
+
 /// The shortest way to tell a track by the one of the current point with the same id. Of layouts that have one number
-/// it reads no clip.
-pub(crate) fn choose(old: &Track, new: &Track) -> Choice
+/// it reads no clip, and of others it compares no block that is kept at the front.
+pub(crate) fn choose(old: &Track, new: &Track, kept: Kept) -> Choice
     requires numbers { NumbersAgree old.now new.now }
+    requires kept { StaysOrKeeps kept old.now new.now }
     ensures value { change_by new.now result ≡ change.change_of (Some old.now) new.now }
     ensures within { LiesWithin new.now result }
 {
@@ -149,5 +186,9 @@ pub(crate) fn choose(old: &Track, new: &Track) -> Choice
     if same_number(old, new) {
         return Choice::Same;
     }
-    clips_change(old.layout.as_slice(), new.layout.as_slice())
+    clips_change(
+        old.layout.as_slice(),
+        new.layout.as_slice(),
+        known_front(old, new, kept),
+    )
 }

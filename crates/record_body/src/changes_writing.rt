@@ -7,8 +7,9 @@ ghost use Rattle.record_body.specs.Changes as change;
 ghost use Rattle.record_body.specs.Choices.{change_by, LiesWithin};
 ghost use Rattle.record_body.specs.declared.kinds.TheConstants.{DELTA_KIND};
 ghost use Rattle.record_body.specs.Lengths.{body_tracks};
+ghost use Rattle.project_state.specs.Kept.{KeepsTrack, KeepsTracks};
 ghost use Rattle.project_state.specs.Numbers.{AgreeById, AgreesIfAny};
-ghost use Rattle.record_body.specs.Numbers.{BodyAgrees};
+ghost use Rattle.record_body.specs.Numbers.{BodyAgrees, BodyKeeps};
 ghost use Rattle.record_body.specs.Spelling.{block_bytes, side_byte, mute_byte, spelling};
 ghost use Rattle.project_state.specs.Tracks.{track_of};
 
@@ -20,17 +21,19 @@ use super::writing::{
 };
 use block_sequence::Sequence;
 use byteorder::{ByteOrder, LittleEndian};
+use clip_track::Kept;
 use pcm_base::NoMemory;
 use project_state::{Point, Track};
 
 /// How a track is written by the current point.
-fn choice_in(current: &Point, track: &Track) -> Choice
+fn choice_in(current: &Point, track: &Track, kept: Kept) -> Choice
     requires numbers { AgreesIfAny (track_of track.now.id current.now) track.now }
+    requires kept { KeepsTrack kept current.now track.now }
     ensures value { change_by track.now result ≡ change.change_of (track_of track.now.id current.now) track.now }
     ensures within { LiesWithin track.now result }
 {
     match current.track(track.id) {
-        Ok(old) => choose(old, track),
+        Ok(old) => choose(old, track, kept),
         Err(_) => Choice::Whole,
     }
 }
@@ -133,41 +136,44 @@ fn write_diff(choice: Choice, track: &Track, out: &mut [u8])
     write_change(choice, track, &mut out[8..]);
 }
 
-fn all_diff_len(current: &Point, point: &Point) -> usize
+fn all_diff_len(current: &Point, point: &Point, kept: Kept) -> usize
     requires numbers { AgreeById current.now point.now }
+    requires kept { KeepsTracks kept current.now point.now }
     ensures value { result ≡ length (flat_map (change.diff_bytes current.now) point.now) }
     ensures few { result ≤ 2 ^ 44 }
 {
     let mut len = 0;
     for i in 0..point.len() {
         let track = point.track_at(i);
-        len += diff_len(choice_in(current, track), track);
+        len += diff_len(choice_in(current, track, kept), track);
     }
     len
 }
 
-fn write_all_diff(current: &Point, point: &Point, out: &mut [u8])
+fn write_all_diff(current: &Point, point: &Point, kept: Kept, out: &mut [u8])
     requires numbers { AgreeById current.now point.now }
+    requires kept { KeepsTracks kept current.now point.now }
     requires size { length out.old ≡ length (flat_map (change.diff_bytes current.now) point.now) }
     ensures { out.new ≡ flat_map (change.diff_bytes current.now) point.now }
 {
     let mut at = 0;
     for i in 0..point.len() {
         let track = point.track_at(i);
-        let choice = choice_in(current, track);
+        let choice = choice_in(current, track, kept);
         let end = at + diff_len(choice, track);
         write_diff(choice, track, &mut out[at..end]);
         at = end;
     }
 }
 
-fn write_delta(current: &Point, point: &Point, out: &mut [u8])
+fn write_delta(current: &Point, point: &Point, kept: Kept, out: &mut [u8])
     requires numbers { AgreeById current.now point.now }
+    requires kept { KeepsTracks kept current.now point.now }
     requires size { length out.old ≡ length (change.delta_bytes current.now point.now) }
     ensures { out.new ≡ change.delta_bytes current.now point.now }
 {
     write_count(point.len(), out);
-    write_all_diff(current, point, &mut out[4..]);
+    write_all_diff(current, point, kept, &mut out[4..]);
 }
 
 fn write_edit_by(
@@ -176,29 +182,33 @@ fn write_edit_by(
     next_block: u64,
     next_track: u64,
     point: &Point,
+    kept: Kept,
     out: &mut [u8],
 )
     requires numbers { AgreeById current.now point.now }
+    requires kept { KeepsTracks kept current.now point.now }
     requires size { length out.old ≡ 25 + length (change.delta_bytes current.now point.now) }
     ensures { out.new ≡ DELTA_KIND ∷ (little_bytes 8 tag
         ++ (little_bytes 8 next_block ++ (little_bytes 8 next_track ++ change.delta_bytes current.now point.now))) }
 {
     write_numbers(tag, next_block, next_track, &mut out[1..25]);
-    write_delta(current, point, &mut out[25..]);
+    write_delta(current, point, kept, &mut out[25..]);
     out[0] = DELTA_KIND;
 }
 
 /// How many bytes the body has by the current point. Tracks that have one number there and in the body, other than 0,
-/// have the same layout, and none of their clips is read.
-pub fn delta_len(body: &Body, current: &Point) -> usize
+/// have the same layout, and none of their clips is read. Blocks that a track is known to keep at its front are not
+/// compared.
+pub fn delta_len(body: &Body, current: &Point, kept: Kept) -> usize
     requires numbers { BodyAgrees current.now body.now }
+    requires kept { BodyKeeps kept current.now body.now }
     ensures value { result ≡ length (change.delta_spelling current.now body.now) }
     ensures few { result ≤ 2 ^ 45 }
     // It passes the length of the body that is written by no point by one byte a track at most.
     ensures more { result ≤ length (spelling body.now) + length (body_tracks body.now) }
 {
     match body {
-        Body::Edit { point, .. } => 29 + all_diff_len(current, point),
+        Body::Edit { point, .. } => 29 + all_diff_len(current, point, kept),
         _ => body_len(body),
     }
 }
@@ -210,8 +220,14 @@ pub fn delta_len(body: &Body, current: &Point) -> usize
 /// # Errors
 ///
 /// There is no memory for the bytes. What was in `out` is left.
-pub fn write_delta_body(body: &Body, current: &Point, out: &mut Vec<u8>) -> Result<(), NoMemory>
+pub fn write_delta_body(
+    body: &Body,
+    current: &Point,
+    kept: Kept,
+    out: &mut Vec<u8>,
+) -> Result<(), NoMemory>
     requires numbers { BodyAgrees current.now body.now }
+    requires kept { BodyKeeps kept current.now body.now }
     ensures spelled { OnOk result (out.new.items ≡ change.delta_spelling current.now body.now) }
     ensures room { length (change.delta_spelling current.now body.now) ≤ vec_capacity out.old → IsOk result }
     ensures same { OnErr result (out.new.items ≡ out.old.items) }
@@ -224,7 +240,7 @@ pub fn write_delta_body(body: &Body, current: &Point, out: &mut Vec<u8>) -> Resu
             next_track,
             point,
         } => {
-            let len = delta_len(body, current);
+            let len = delta_len(body, current, kept);
             match out.resize_with(len, || 0) {
                 Ok(()) => {}
                 Err(_) => return Err(NoMemory),
@@ -235,6 +251,7 @@ pub fn write_delta_body(body: &Body, current: &Point, out: &mut Vec<u8>) -> Resu
                 *next_block,
                 *next_track,
                 point,
+                kept,
                 out.as_mut_slice(),
             );
             Ok(())

@@ -8,7 +8,7 @@ ghost use Rattle.record_body.specs.FirstFault.{Tells, Finds};
 use super::bounds::{least, most, place};
 use super::limits::{BadBody, Limits};
 use super::writing::clip_len;
-use block_sequence::Sequence;
+use block_sequence::{RowList, Sequence, row_size};
 use clip_track::{Clip, Layout};
 use pcm_base::{BlockRef, FIRST_BLOCK, MAX_CELLS};
 use project_journal::{Damaged, first_failure, u32_at, u64_at};
@@ -79,7 +79,7 @@ pub(crate) struct Row {
 }
 
 /// The blocks of a row, of a clip that may have several. The first begins at the cell `start`.
-pub(crate) fn read_blocks(
+fn read_blocks(
     alloc: Global,
     bytes: &[u8],
     row: Row,
@@ -97,9 +97,37 @@ pub(crate) fn read_blocks(
     for i in 0..row.count {
         let block = read_block(bytes, row.at + 12 * i as usize, limits, several, before)?;
         before += block.len as u64;
-        blocks.push(block)?;
+        blocks.push_reserved(block);
     }
     Ok(blocks)
+}
+
+/// The same blocks, in rows of a sequence. So no list of all of them is made.
+pub(crate) fn read_rows(
+    alloc: Global,
+    bytes: &[u8],
+    row: Row,
+    limits: Limits,
+    several: bool,
+    start: u64,
+) -> Result<RowList, BadBody>
+    requires within { row.at + 12 * row.count ≤ length bytes.now }
+    requires near { start ≤ MAX_CELLS }
+    ensures { Finds (test.blocks_tests limits several row.count start row.at bytes.now)
+        (λ l. l ≡ there.blocks_at row.count row.at bytes.now) result }
+{
+    let mut rows = RowList::new(alloc);
+    let mut at = row.at;
+    let mut left = row.count;
+    while left > 0 {
+        let count = row_size(left as usize).min(left as usize) as u32;
+        let before = start + rows.len();
+        let blocks = read_blocks(alloc, bytes, Row { at, count }, limits, several, before)?;
+        rows.push(blocks)?;
+        at += 12 * count as usize;
+        left -= count;
+    }
+    Ok(rows)
 }
 
 /// The clip at a place, which may begin at a cell or later.
@@ -122,8 +150,8 @@ fn read_clip(
         least(place(limits.base, at + 8), 1, count as u64),
     ])?;
     let row = Row { at: at + 12, count };
-    let blocks = read_blocks(alloc, bytes, row, limits, count > 1, start)?;
-    let blocks = Sequence::new(blocks)?;
+    let rows = read_rows(alloc, bytes, row, limits, count > 1, start)?;
+    let blocks = Sequence::of_rows(rows);
     Ok(Clip { start, blocks })
 }
 

@@ -18,10 +18,9 @@ use super::bounds::{least, most, place};
 use super::changes::{last_blocks, last_start};
 use super::limits::{BadBody, Limits};
 use super::old_blocks::len_to;
-use super::reading_clips::{Row, read_blocks};
-use block_sequence::Sequence;
+use super::reading_clips::{Row, read_rows};
+use block_sequence::{RowList, Sequence};
 use clip_track::{Clip, Layout};
-use pcm_base::BlockRef;
 use project_journal::{Damaged, first_failure, u32_at};
 use project_state::Track;
 use std::alloc::Global;
@@ -59,11 +58,11 @@ fn read_fresh(
     limits: Limits,
     start: u64,
     olds: &Sequence,
-) -> Result<Vec<BlockRef>, BadBody>
+) -> Result<RowList, BadBody>
     requires within { at + (17 + 12 * there.fresh_at at bytes.now) ≤ length bytes.now }
     requires near { start + blocks_len olds.now ≤ MAX_CELLS }
     ensures { Finds (test.tail_tests limits start olds.now at bytes.now)
-        (λ v. v.items ≡ place.blocks_at (there.fresh_at at bytes.now) (at + 17) bytes.now) result }
+        (λ l. l ≡ place.blocks_at (there.fresh_at at bytes.now) (at + 17) bytes.now) result }
 {
     test_tail(bytes, at, limits, olds)?;
     let gone = u32_at(bytes, at + 9);
@@ -72,7 +71,7 @@ fn read_fresh(
     let several = kept + count as usize > 1;
     let row = Row { at: at + 17, count };
     let before = start + len_to(olds.rows(), kept);
-    Ok(read_blocks(alloc, bytes, row, limits, several, before)?)
+    Ok(read_rows(alloc, bytes, row, limits, several, before)?)
 }
 
 /// The clips with other blocks in the last.
@@ -113,7 +112,7 @@ pub(crate) fn read_tail(
     let count = olds.count();
     let gone = u32_at(bytes, at + 9);
     let kept = count - gone as usize;
-    let blocks = olds.splice(kept, count, fresh.as_slice())?;
+    let blocks = olds.ended(kept, &fresh)?;
     let clips = with_last(alloc, clips, blocks)?;
     let layout = Layout::from_clips(clips)?;
     Ok(Track {

@@ -157,11 +157,11 @@ fn what_two_have_in_common_is_counted_over_rows(rt: HostRuntime) -> Result<(), F
     let front = refs(alloc, 0, 3)?;
     // The same blocks, with the first rows cut elsewhere.
     let other = spliced(alloc, &one, 0, 3, front.as_slice())?;
-    assert!(rt; one.common(&other) == 4000);
+    assert!(rt; one.common(&other, 0) == 4000);
     let new = refs(alloc, 9000, 9001)?;
     let changed = spliced(alloc, &other, 2500, 2501, new.as_slice())?;
-    assert!(rt; one.common(&changed) == 2500);
+    assert!(rt; one.common(&changed, 0) == 2500);
     let end = spliced(alloc, &other, 3999, 4000, &[])?;
-    assert!(rt; one.common(&end) == 3999);
+    assert!(rt; one.common(&end, 0) == 3999);
     Ok(())
 }

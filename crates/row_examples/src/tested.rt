@@ -52,7 +52,7 @@ impl Tested {
             return Err("an id is not there".into());
         }
         let most = with_more(self.most, ids)?;
-        self.ledger.hold_list(number, base, ids)?;
+        self.ledger.hold_list(number, base, 0, 0, ids)?;
         self.most = most;
         Ok(())
     }

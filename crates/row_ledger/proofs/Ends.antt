@@ -1,6 +1,6 @@
 -- Rows that stand at the front or at the end of some ids.
 use Rattle.std.proofs.Common.{◌≡◌, ℕ, ◌+◌, ◌-◌, ◌<◌, ◌≤◌, List, ◌++◌, length, get_or, take, drop, sym, ap, ◌∙◌, arith}
-use Rattle.std.proofs.Common.{Option, None, Some, append_assoc, length-append, refl, subst, take-append-drop}
+use Rattle.std.proofs.Common.{Option, None, Some, append_assoc, length-append, refl, take-append-drop}
 use Rattle.std.proofs.lemmas.List.{take_at, drop_at, take_more, length-drop, length-take}
 use Rattle.std.specs.Prelude.{IfSome, MatchOption}
 use Rattle.pcm_base.specs.declared.limits.TheConstants.{COUNTER_LIMIT}

@@ -18,3 +18,4 @@ pub mod Shares
 pub mod Room
 pub mod Holding
 pub mod Ends
+pub mod LikeLists

@@ -3,7 +3,7 @@ use Rattle.std.specs.Prelude.{◌≡◌, ◌≢◌, ℕ, ◌+◌, ◌<◌, ◌�
 use Rattle.std.specs.Prelude.{[], ◌∷◌, ◌++◌, length, map, slice_index}
 use Rattle.std.specs.List.{AllByRecursion}
 use Rattle.row_ledger.specs.declared.row.{Row.Row, Listed.Listed}
-use Rattle.row_ledger.specs.Rows.{TableState, flat, uses_at, counts, singles, Held}
+use Rattle.row_ledger.specs.Rows.{TableState, flat, uses_at, counts, singles, Held, like}
 use Rattle.block_ledger.specs.{Counts.Counts, Counts.times, Counts.AreThere, Entries.places}
 
 -- what contracts see of a ledger of rows: by `counts_of`, `singles_of` and `list_of` alone
@@ -40,6 +40,15 @@ listed rows (l ∷ ls) number = if l.number == number then Some (flat rows l.row
 -- the ids of the list of a number
 abbrev pub list_of : RowsState → ℕ → Option (List ℕ)
 list_of kept = listed kept.table.rows kept.lists
+
+-- the ids of a list, none where there is no list
+abbrev pub ids_or_none : Option (List ℕ) → List ℕ
+ids_or_none None = []
+ids_or_none (Some ids) = ids
+
+-- so many of the first ids of the list of a number and of its last ones, and others between
+abbrev pub list_like : RowsState → ℕ → ℕ → ℕ → List ℕ → List ℕ
+list_like kept number front back middle = like (ids_or_none (list_of kept number)) front back middle
 
 -- the rows that lists have, list by list
 abbrev pub all_rows : List Listed → List ℕ

@@ -124,6 +124,10 @@ pub record IsEdge (rows : List Row) (ks : List ℕ) (row at : ℕ) : Type 0 wher
 abbrev pub spliced : List ℕ → ℕ → ℕ → List ℕ → List ℕ
 spliced xs from to middle = take from xs ++ (middle ++ drop to xs)
 
+-- the first ids of a list and its last ones, so many of each, and others between
+abbrev pub like : List ℕ → ℕ → ℕ → List ℕ → List ℕ
+like xs front back middle = spliced xs front (length xs - back) middle
+
 -- With others in place of the ids from one place up to another, a list becomes these ids. No number is great.
 pub record IsChange (xs ids : List ℕ) (from to : ℕ) (middle : List ℕ) : Type 0 where
   pub all : length xs ≤ COUNTER_LIMIT

@@ -13,7 +13,7 @@ pub(crate) const ROW_MOST: usize = 1024;
 const ROW_LEAST: usize = 256;
 
 // How many ids a list has at most.
-const IDS_MOST: usize = COUNTER_LIMIT as usize;
+pub(crate) const IDS_MOST: usize = COUNTER_LIMIT as usize;
 
 // A place between two rows: how many rows lie before it, and how many ids.
 #[derive(Clone, Copy)]
@@ -31,7 +31,7 @@ pub(crate) struct Span {
 
 // How many ids the rows have, if that is no great number.
 #[tactic(auto, using(crate::proofs::FlatRows::flat_count))]
-fn count_ids(table: &RowTable, rows: &[usize]) -> Option<usize>
+pub(crate) fn count_ids(table: &RowTable, rows: &[usize]) -> Option<usize>
     ensures value { IfSome result (λ count. length (flat table.now.rows rows.now) ≡ count) }
     ensures few { IfSome result (λ count. count ≤ COUNTER_LIMIT) }
 {

@@ -102,7 +102,7 @@ fn append_row(out: &mut Vec<u64>, row: &[u64], from: usize, to: usize) -> Result
 }
 
 // The ids of rows from one place up to another come after those of `out`.
-fn append_ids(
+pub(crate) fn append_ids(
     out: &mut Vec<u64>,
     table: &RowTable,
     rows: &[usize],

@@ -4,6 +4,7 @@
 mod edges;
 mod ids;
 mod laying;
+mod likes;
 mod row;
 mod row_ledger;
 mod table;

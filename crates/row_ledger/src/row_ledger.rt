@@ -5,11 +5,12 @@ ghost use Rattle.std.specs.Prelude.{is_some};
 ghost use Rattle.std.specs.List.{insert};
 ghost use Rattle.block_ledger.specs.Counts.{AreNamed, IsFirstFree, IsFreshCount, IsNamed, IsNextFree, SetsCount};
 ghost use Rattle.block_ledger.specs.Counts.{occurrences, times};
-ghost use Rattle.row_ledger.specs.Rows.{AreHad, AreThere, Comes, HasSameRoom};
-ghost use Rattle.row_ledger.specs.Lists.{HasPlaces, IsAt, IsGap, IsSame, ListComes, ListGoes, all_rows, counts_of};
-ghost use Rattle.row_ledger.specs.Lists.{list_of, places_of, singles_of, spare_of};
+ghost use Rattle.row_ledger.specs.declared.row.Row.{Row};
+ghost use Rattle.row_ledger.specs.Rows.{AreHad, AreThere, Comes, HasSameRoom, flat};
+ghost use Rattle.row_ledger.specs.Lists.{HasPlaces, IsAt, IsGap, IsRising, IsSame, ListComes, ListGoes, all_rows, counts_of};
+ghost use Rattle.row_ledger.specs.Lists.{ids_or_none, list_like, list_of, listed, places_of, singles_of, spare_of};
 
-use super::laying::lay_near;
+use super::likes::lay_like;
 use super::row::Listed;
 use super::table::RowTable;
 use pcm_base::NoMemory;
@@ -158,22 +159,38 @@ impl RowLedger {
         self.table.forget(id);
     }
 
-    /// A number comes to have these ids. At their front and at their end it shares the rows of the list of another
-    /// number, if that has one, where these have the same ids. Where there is too little memory, nothing changes.
-    pub fn hold_list(&mut self, number: u64, base: u64, ids: &[u64]) -> Result<(), NoMemory>
+    /// A number comes to have a list of ids that the ledger has: the first `front` ids of the list of the number `base`
+    /// and the last `back` of them, none where it has no list, and those of `middle` between. The lists share the rows of
+    /// the ids that they both have. Where `front` and `back` are 0, they share the rows in which they are found to be the
+    /// same at their front and at their end.
+    ///
+    /// # Errors
+    ///
+    /// There is too little memory, or too many lists have a row. Nothing changes then.
+    pub fn hold_list(
+        &mut self,
+        number: u64,
+        base: u64,
+        front: usize,
+        back: usize,
+        middle: &[u64],
+    ) -> Result<(), NoMemory>
         requires new { list_of self.old number ≡ None }
-        requires there { AreThere (counts_of self.old) ids.now }
-        requires few { (id : ℕ) → occurrences (counts_of self.old id) + times id ids.now < 2 ^ 128 }
-        ensures ok { OnOk result (ListComes self.old self.new number ids.now) }
+        requires within { front + back ≤ length (ids_or_none (list_of self.old base)) }
+        requires there { AreThere (counts_of self.old) (list_like self.old base front back middle.now) }
+        requires few { (id : ℕ) → occurrences (counts_of self.old id)
+            + times id (list_like self.old base front back middle.now) < 2 ^ 128 }
+        ensures ok { OnOk result (ListComes self.old self.new number
+            (list_like self.old base front back middle.now)) }
         ensures fresh { OnOk result ((xs : List ℕ) → IsFreshCount xs (counts_of self.old)
-            → IsFreshCount (ids.now ++ xs) (counts_of self.new)) }
+            → IsFreshCount (list_like self.old base front back middle.now ++ xs) (counts_of self.new)) }
         ensures err { OnErr result (IsSame self.old self.new) }
     {
         let place = self.gap(number);
         self.lists.reserve(1)?;
         let base = rows_of(self.lists.as_slice(), base);
         let mut rows = Vec::new(self.table.alloc());
-        let laid = lay_near(&mut self.table, &mut rows, base, ids);
+        let laid = lay_like(&mut self.table, &mut rows, base, front, back, middle);
         let list = Listed { number, rows };
         finish(&mut self.table, &mut self.lists, place, list, laid)
     }
@@ -231,7 +248,9 @@ impl RowLedger {
 
 // The rows of the list of a number, none where it has no list.
 fn rows_of(lists: &[Listed], number: u64) -> &[usize]
-    ensures { (k : ℕ) → times k result.now ≤ times k (all_rows lists.now) }
+    requires { IsRising lists.now }
+    ensures among { (k : ℕ) → times k result.now ≤ times k (all_rows lists.now) }
+    ensures ids { (rows : List Row) → flat rows result.now ≡ ids_or_none (listed rows lists.now number) }
 {
     match lists.binary_search_by_key(&number, |list| list.number) {
         Ok(at) => lists[at].rows.as_slice(),

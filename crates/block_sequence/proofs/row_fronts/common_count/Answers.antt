@@ -1,8 +1,26 @@
 -- The blocks in common are passed, and those that are left decide.
-use Rattle.std.proofs.Common.{◌≡◌, length, drop, sym, ap, ◌∙◌, arith, length-append, length-drop}
-use Rattle.block_sequence.specs.Rows.{flat}
-use Rattle.block_sequence.proofs.Fronts.{common_none, count_more}
+use Rattle.std.proofs.Common.{◌≡◌, ◌+◌, length, drop, sym, ap, ap₂, ◌∙◌, arith, length-append, length-drop}
+use Rattle.block_sequence.specs.{Fronts.common, Rows.flat}
+use Rattle.block_sequence.proofs.Fronts.{common_none, common_past, count_more}
 use Rattle.block_sequence.proofs.row_fronts.common_count.Goals as goal
+
+pub rows-init : goal.rows-init
+rows-init c =
+    let a = c.left_after-left.ensures in
+    let b = c.left_after-other.ensures in
+    let r = c.requires in
+    let n = c.args.kept in
+    let past = common_past n (flat c.args.a.now) (flat c.args.b.now) r.a r.b r.same in
+    let same = c.common_blocks-same.ensures in
+    record {
+      all = ap (λ k. n + k) (ap₂ common a.all b.all) ∙ sym past;
+      same = same.value;
+      a = same.a;
+      b = same.b;
+      size = omega (arith, ap length a.all, length-drop n (flat c.args.a.now), r.a);
+      first = a.first;
+      other_first = b.first;
+    }
 
 pub rows-preserved : goal.rows-preserved
 rows-preserved c =

@@ -1,5 +1,5 @@
 -- One block alone is full where it is tested.
-use Rattle.edit_ops.proofs.Common.{◌≡◌, arith}
+use Rattle.edit_ops.proofs.Common.{arith}
 use Rattle.edit_ops.proofs.WindowBlocks.{all_full}
 use Rattle.edit_ops.proofs.joins.are_full.Goals.{else-count-eq1-via-then-count-eq1+else-size-block_size}
 use Rattle.edit_ops.proofs.joins.are_full.Goals.{else-count-eq1-via-else-count-eq1}

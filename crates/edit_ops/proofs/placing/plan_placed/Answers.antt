@@ -26,6 +26,7 @@ returns c =
     (tame_layout m c.args.t.now _ w.items (w.fit m h) (w.short m h) (w.smooth m h)) c.requires.clip) in
     record {
       plan = c.in_ok-plan_strip.ensures.plan old 0 t.origin;
+      kept = c.in_ok-plan_strip.ensures.kept (layout_blocks c.args.t.now);
       cells = λ src k.
           c.in_ok-plan_strip.ensures.cells src k
           ∙ ap (λ (xs : List Item). trimmed (strip_cells src xs)) c.in_ok-strip.ensures.items

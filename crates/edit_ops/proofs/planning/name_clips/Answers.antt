@@ -4,6 +4,7 @@ use Rattle.edit_ops.proofs.Common.{into_iter_items, LaidClip, named}
 use Rattle.std.proofs.{lemmas.Grind.common_steps}
 use Rattle.edit_ops.proofs.Named.{AllLaid, AllLaid-from, count_laid_le, half_full_named, none_empty, len_named}
 use Rattle.edit_ops.proofs.Named.{next_after_le, IsLayout-named}
+use Rattle.clip_track.proofs.KeptLists.{keeps_none}
 use Rattle.edit_ops.specs.LaidClips as laid
 use Rattle.edit_ops.proofs.planning.name_clips.Goals as goal
 
@@ -83,3 +84,6 @@ from_clips-requires c =
     ∙ c.loop-clip.invariant.all_clips in
     rw e (IsLayout-named c.args.planner.block_size c.args.planner.next c.args.clips.items c.args.planner.some
     c.requires.apart c.requires.few)
+
+pub returns-clause-kept : goal.returns-clause-kept
+returns-clause-kept c old = keeps_none _ old _ c.none.ensures.front c.none.ensures.back

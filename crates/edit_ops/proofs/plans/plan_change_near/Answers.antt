@@ -35,7 +35,7 @@ returns-clause-plan c =
     c.in_ok-put_back.field-0
     (λ p a. plan_near start t n c.args.from c.args.to old new 0 small p h a
     c.in_ok-plan.ensures.plan)
-    c.in_ok-put_back.ensures
+    c.in_ok-put_back.ensures.placed
 
 pub returns-clause-cells : goal.returns-clause-cells
 returns-clause-cells c =
@@ -52,7 +52,7 @@ returns-clause-cells c =
     let W : List NewBlock → Type 0 = AreWritten src in
     let e = c.in_ok-plan.ensures.cells src (subst W a.makes written) in
     means_changed src m (cell_change c.args.change) t n old c.args.from c.args.to small p h c.len-old.ensures.value c.requires.rising a e)
-    c.in_ok-put_back.ensures
+    c.in_ok-put_back.ensures.placed
 
 pub returns-clause-few_made : goal.returns-clause-few_made
 returns-clause-few_made c =
@@ -72,7 +72,7 @@ returns-clause-few_made c =
     let G : List NewBlock → Type 0 = λ ns. length ns ≤ 8 + sample_count cells / m + clip_count cells in
     subst G (sym a.makes) (subst F (part_near src m c.args.from c.args.to t n h c.requires.rising)
     (c.in_ok-plan.ensures.few_made src)))
-    c.in_ok-put_back.ensures
+    c.in_ok-put_back.ensures.placed
 
 pub put_back-requires-clause-far : goal.put_back-requires-clause-far
 put_back-requires-clause-far c =

@@ -21,6 +21,9 @@ returns-clause-plan c =
     c.in_ok-plan_strip.ensures.plan old 0 (subst P (sym c.in_ok-strip.ensures.items)
     (from_change old 0 c.args.change c.args.from c.args.to c.in_ok-whole.whole w.ok f))
 
+pub returns-clause-kept : goal.returns-clause-kept
+returns-clause-kept c = c.in_ok-plan_strip.ensures.kept (layout_blocks c.args.t.now)
+
 pub returns-clause-cells : goal.returns-clause-cells
 returns-clause-cells c src w =
     let o = subst AllOld (sym c.in_ok-whole.ensures.items) (AllOld-items 0 c.args.t.now) in

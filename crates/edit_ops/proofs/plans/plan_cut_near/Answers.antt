@@ -33,7 +33,7 @@ returns-clause-plan c =
     c.in_ok-put_back.field-0
     (λ p a. plan_near start t n c.args.from c.args.to old new 0 small p h a
     c.in_ok-plan.ensures.plan)
-    c.in_ok-put_back.ensures
+    c.in_ok-put_back.ensures.placed
 
 pub returns-clause-cells : goal.returns-clause-cells
 returns-clause-cells c =
@@ -51,7 +51,7 @@ returns-clause-cells c =
     let W : List NewBlock → Type 0 = AreWritten src in
     let e = c.in_ok-plan.ensures.cells src (subst W a.makes written) in
     means_cut src m c.args.cut t n old new c.args.from c.args.to small p h c.len-old.ensures.value c.requires.rising left a e)
-    c.in_ok-put_back.ensures
+    c.in_ok-put_back.ensures.placed
 
 pub plan_cut_whole-requires-clause-within : goal.plan_cut_whole-requires-clause-within
 plan_cut_whole-requires-clause-within c =

@@ -20,6 +20,9 @@ returns-clause-plan c =
     (tame_cut m c.args.cut c.args.from c.args.to c.args.t.now _ _ w.items w.ok (w.fit m h) (w.short m h) (w.smooth m h)
     c.in_ok-strip.ensures.items).origin
 
+pub returns-clause-kept : goal.returns-clause-kept
+returns-clause-kept c = c.in_ok-plan_strip.ensures.kept (layout_blocks c.args.t.now)
+
 pub returns-clause-cells : goal.returns-clause-cells
 returns-clause-cells c src w =
     c.in_ok-plan_strip.ensures.cells src w

@@ -36,7 +36,7 @@ returns-clause-plan c =
     c.in_ok-put_back.field-0
     (λ p a. plan_near start t n c.args.at c.args.at old new c.args.count small p h a
     c.in_ok-plan.ensures.plan)
-    c.in_ok-put_back.ensures
+    c.in_ok-put_back.ensures.placed
 
 pub returns-clause-cells : goal.returns-clause-cells
 returns-clause-cells c =
@@ -55,7 +55,7 @@ returns-clause-cells c =
     let e = c.in_ok-plan.ensures.cells src (subst W a.makes written) in
     means_inserted src m t n old c.args.count c.args.at small p (as_cells (stretch src.given 0 c.args.count)) h
     c.len-old.ensures.value a (length-map _ _ ∙ length-stretch src.given 0 c.args.count) e)
-    c.in_ok-put_back.ensures
+    c.in_ok-put_back.ensures.placed
 
 pub plan_given_whole-requires-clause-few : goal.plan_given_whole-requires-clause-few
 plan_given_whole-requires-clause-few c =

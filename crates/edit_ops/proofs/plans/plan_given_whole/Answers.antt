@@ -34,6 +34,9 @@ returns-clause-plan c =
     c.in_ok-plan_strip.ensures.plan old c.args.count (subst P (sym c.in_ok-strip.ensures.items)
     (from_inserted old c.args.count c.args.at _ c.in_ok-whole.whole w.ok f g))
 
+pub returns-clause-kept : goal.returns-clause-kept
+returns-clause-kept c = c.in_ok-plan_strip.ensures.kept (layout_blocks c.args.t.now)
+
 pub returns-clause-cells : goal.returns-clause-cells
 returns-clause-cells c src w =
     c.in_ok-plan_strip.ensures.cells src w

@@ -1,13 +1,12 @@
 -- What is added to the clips before a window.
-use Rattle.edit_ops.proofs.Common.{ℕ, ◌++◌, [], ◌∷◌, List, sym, ap, ap₂, subst, ◌∙◌, arith, AllHalfFull}
-use Rattle.edit_ops.proofs.Common.{BlockRef, Clip, IsHalfFull}
+use Rattle.edit_ops.proofs.Common.{ℕ, ◌++◌, [], ◌∷◌, List, ap₂, subst, ◌∙◌, arith}
+use Rattle.edit_ops.proofs.Common.{BlockRef, Clip}
 use Rattle.std.proofs.Common.{IfSome, Option}
-use Rattle.pcm_base.specs.Blocks.{NoneEmpty, block_lens, blocks_len}
 use Rattle.edit_ops.specs.Windows.{back_of, front_of}
 use Rattle.edit_ops.specs.Joins.{Adds, joined_clips, moved}
 use Rattle.edit_ops.specs.Windows.{IsJoined, back_clip}
 use Rattle.edit_ops.specs.declared.joins.Joining.{Joining}
-use Rattle.edit_ops.proofs.WindowBlocks.{end_before_next, half_from_full, half_full_parts, starts_fit}
+use Rattle.edit_ops.proofs.WindowBlocks.{half_from_full}
 use Rattle.edit_ops.proofs.WindowLayouts.{none_empty_parts, window_len}
 use Rattle.edit_ops.proofs.WindowPlans.{if_some}
 use Rattle.edit_ops.proofs.putting.join_around.Goals as goal

@@ -1,7 +1,7 @@
 -- One clip of the window's blocks.
 use Rattle.edit_ops.proofs.Common.{◌≡◌, ◌<◌, ◌++◌, [], ◌∷◌, List, length, sym, ap, ap₂, subst, ◌∙◌, arith, BlockRef, Clip}
 use Rattle.clip_track.specs.Clips.{IsLayout}
-use Rattle.edit_ops.specs.{Joins.clip_of, Windows.middle_of}
+use Rattle.edit_ops.specs.{Windows.middle_of}
 use Rattle.edit_ops.proofs.TouchingClips.{of_any, of_none}
 use Rattle.edit_ops.proofs.WindowBlocks.{part_length, some_len}
 use Rattle.edit_ops.proofs.windows.window_layout.Goals as goal

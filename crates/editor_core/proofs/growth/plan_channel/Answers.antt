@@ -26,6 +26,6 @@ returns-clause-plan c =
     c.new.ensures c.in_ok-plan.ensures.plan in
     let means = subst (λ (cs : List Clip). Means (λ src. inserted 0 (as_cells (stretch src.given 0 count))) cs p)
     c.new.ensures c.in_ok-plan.ensures.cells in
-    channel_plan c.args.from count m next p.next p.layout p.makes c.new-3.result
+    channel_plan c.args.from count m next p c.new-3.result
     (subst IsLayout c.layout.view_is c.layout.invariant) plan means c.in_ok-plan.ensures.few_made
     (c.new-3.ensures ∙ c.in_ok-makes.ensures ∙ ap (map (block_behind c.args.from)) c.as_slice.ensures)

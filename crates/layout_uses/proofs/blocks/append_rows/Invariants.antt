@@ -1,7 +1,8 @@
 -- The ids so far.
-use Rattle.layout_uses.proofs.Common.{◌≡◌, ◌++◌, take, ids_of}
+use Rattle.layout_uses.proofs.Common.{take}
 use Rattle.block_sequence.specs.Rows.{flat}
+use Rattle.layout_uses.proofs.Parts.{IsPart}
 use Rattle.layout_uses.proofs.blocks.append_rows.Given as goal
 
 abbrev pub invariant-loop-row : goal.invariant-loop-row
-invariant-loop-row l = l.ids.items ≡ l.fn.ids.items ++ ids_of (flat (take l.row-index l.rows))
+invariant-loop-row l = IsPart l.from l.to (flat (take l.row-index l.rows)) l.fn.ids.items l.ids.items l.skip l.end

@@ -1,8 +1,18 @@
 -- A point comes after the current one, and others go.
 use Rattle.layout_uses.proofs.Common.{◌≡◌, sym, subst, ◌∙◌, ap, ℕ, ◌+◌, ◌-◌, take, drop, arith, points_of}
-use Rattle.layout_uses.proofs.Common.{points_tracks, Has}
+use Rattle.layout_uses.proofs.Common.{points_tracks, slice_get, Has, Some}
 use Rattle.layout_uses.proofs.Histories.{became_edited, goes_rest, has_last, has_oldest, rest_is}
+use Rattle.layout_uses.proofs.Stays.{keeps_edit}
 use Rattle.layout_uses.proofs.points.count_edit.Goals as goal
+
+pub use_point-requires-clause-kept : goal.use_point-requires-clause-kept
+use_point-requires-clause-kept c =
+    let h = c.args.history.now.history in
+    let base = c.point.result.now in
+    let here = subst (λ (n : ℕ). slice_get (points_of h) n ≡ Some base) c.cursor-cursor.ensures.cursor
+    c.point.ensures in
+    keeps_edit c.args.kept h base c.args.point.now h.cursor c.args.tally.now here c.requires.counted
+    (c.requires.kept base here)
 
 pub leave_points-requires-clause-all : goal.leave_points-requires-clause-all
 leave_points-requires-clause-all c =

@@ -6,7 +6,8 @@ use Rattle.record_body.proofs.changes.choose.Goals as goal
 pub returns-then-same_number-clause-value : goal.returns-then-same_number-clause-value
 returns-then-same_number-clause-value c = same_told c.args.old.now c.args.new.now
     (sym c.same_settings.ensures ∙ c.if-not-same_settings.false)
-    (alike_are_same c.args.old.now c.args.new.now c.requires.numbers (sym c.same_number.ensures ∙ c.if-same_number.true))
+    (alike_are_same c.args.old.now c.args.new.now c.requires.numbers
+    (sym c.same_number.ensures ∙ c.if-same_number.true))
 
 pub returns-clause-value : goal.returns-clause-value
 returns-clause-value c = search (

@@ -1,10 +1,14 @@
 -- One track more is counted.
 use Rattle.record_body.proofs.Common.{arith, diff_bytes, drop_some}
-use Rattle.record_body.proofs.{Agreeing.agrees_at, Chosen.diff_size, Parts.parts_left}
+use Rattle.record_body.proofs.{Agreeing.agrees_at, Agreeing.keeps_at, Chosen.diff_size, Parts.parts_left}
 use Rattle.record_body.proofs.changes_writing.all_diff_len.Goals as goal
 
-pub choice_in-requires : goal.choice_in-requires
-choice_in-requires c = search (arith, c.requires.numbers, c.track_at-track.ensures, agrees_at)
+pub choice_in-requires-clause-numbers : goal.choice_in-requires-clause-numbers
+choice_in-requires-clause-numbers c = search (arith, c.requires.numbers, c.track_at-track.ensures, agrees_at)
+
+pub choice_in-requires-clause-kept : goal.choice_in-requires-clause-kept
+choice_in-requires-clause-kept c =
+    keeps_at c.args.kept c.args.current.now c.args.point.now c.loop-i.i _ c.requires.kept c.track_at-track.ensures
 
 pub loop-i-preserved : goal.loop-i-preserved
 loop-i-preserved c =

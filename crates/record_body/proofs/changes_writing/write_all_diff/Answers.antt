@@ -1,11 +1,15 @@
 -- One track more is written.
 use Rattle.record_body.proofs.Common.{length, ap, ◌∙◌, arith, diff_bytes, take_some, drop_some}
-use Rattle.record_body.proofs.{Agreeing.agrees_at, Chosen.diff_size, Chosen.diff_told, Parts.part_next}
-use Rattle.record_body.proofs.Parts.{parts_left}
+use Rattle.record_body.proofs.{Agreeing.agrees_at, Agreeing.keeps_at, Chosen.diff_size, Chosen.diff_told}
+use Rattle.record_body.proofs.Parts.{part_next, parts_left}
 use Rattle.record_body.proofs.changes_writing.write_all_diff.Goals as goal
 
-pub choice_in-choice-requires : goal.choice_in-choice-requires
-choice_in-choice-requires c = search (arith, c.requires.numbers, c.track_at-track.ensures, agrees_at)
+pub choice_in-choice-requires-clause-numbers : goal.choice_in-choice-requires-clause-numbers
+choice_in-choice-requires-clause-numbers c = search (arith, c.requires.numbers, c.track_at-track.ensures, agrees_at)
+
+pub choice_in-choice-requires-clause-kept : goal.choice_in-choice-requires-clause-kept
+choice_in-choice-requires-clause-kept c =
+    keeps_at c.args.kept c.args.current.now c.args.point.now c.loop-i.i _ c.requires.kept c.track_at-track.ensures
 
 pub slice_bounds-write_diff-end : goal.slice_bounds-write_diff-end
 slice_bounds-write_diff-end c =

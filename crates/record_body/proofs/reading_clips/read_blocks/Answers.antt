@@ -25,8 +25,10 @@ loop-i-preserved c =
     let pass =
     all_pass (block_tests c.args.limits c.args.several before at bytes) c.in_ok-block.ensures.0 in (
       row_next _ _ _ _ _ _ _ _ c.loop-i.invariant.0 (λ n. refl) (λ n. refl) _ _ _ _ _ some less
-          c.in_ok-block.ensures.0 (sym c.in_ok-block.ensures.1) len ends c.in_ok-push.ensures.items,
+          c.in_ok-block.ensures.0 (sym c.in_ok-block.ensures.1) len ends c.push_reserved.ensures.items,
       omega (arith, pass.1.1.0, len, c.loop-i.invariant.1),
+      omega (arith, c.push_reserved.ensures.len, c.loop-i.invariant.2),
+      omega (arith, c.push_reserved.ensures.capacity, c.loop-i.invariant.3),
     )
 
 pub returns : goal.returns

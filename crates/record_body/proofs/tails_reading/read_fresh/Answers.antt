@@ -10,8 +10,8 @@ overflow_add-before c =
     let kept = take_len (c.count.result - c.u32_at-gone.result) rows in
     omega (arith, c.len_to.ensures, kept, ap blocks_len c.rows.ensures.value, c.requires.near)
 
-pub read_blocks-requires-clause-near : goal.read_blocks-requires-clause-near
-read_blocks-requires-clause-near c =
+pub read_rows-requires-clause-near : goal.read_rows-requires-clause-near
+read_rows-requires-clause-near c =
     let rows = flat c.rows.result.now in
     let kept = take_len (c.count.result - c.u32_at-gone.result) rows in
     omega (arith, c.len_to.ensures, kept, ap blocks_len c.rows.ensures.value, c.requires.near)

@@ -1,9 +1,9 @@
 -- All tests of the end passed.
-use Rattle.record_body.proofs.Common.{◌≡◌, ℕ, ◌+◌, ◌-◌, ◌^◌, ◌≤◌, ◌<◌, ◌++◌, None, List, length, sym, ap, ap₂, subst, ◌∙◌, arith}
-use Rattle.record_body.proofs.Common.{BlockRef, IsHalfFull, NoneEmpty, block_lens, blocks_len, Clip, AllHalfFull}
-use Rattle.record_body.proofs.Common.{IsLayout, first_failed, fresh_at, gone_at, kept_blocks, tail_tests, last_blocks}
-use Rattle.record_body.proofs.Common.{last_start, with_last, blocks_at, Limits, all_pass}
-use Rattle.record_body.proofs.Tails.{IsTail, end_last, last_end, valid_tail, layout_with, splice_tail, tail_within}
+use Rattle.record_body.proofs.Common.{◌≡◌, ℕ, ◌+◌, ◌-◌, ◌^◌, ◌≤◌, ◌<◌, ◌++◌, None, List, length, sym, ap, ap₂, subst}
+use Rattle.record_body.proofs.Common.{◌∙◌, arith, BlockRef, IsHalfFull, NoneEmpty, block_lens, blocks_len, Clip}
+use Rattle.record_body.proofs.Common.{AllHalfFull, IsLayout, first_failed, fresh_at, gone_at, kept_blocks, tail_tests}
+use Rattle.record_body.proofs.Common.{last_blocks, last_start, with_last, blocks_at, Limits, all_pass}
+use Rattle.record_body.proofs.Tails.{IsTail, end_last, last_end, valid_tail, layout_with, ended_tail, tail_within}
 use Rattle.record_body.proofs.tails_reading.read_tail.Goals as goal
 
 -- the last clip of a layout, by the start and the blocks that were read of it
@@ -37,16 +37,15 @@ overflow_sub-kept c =
     c.in_ok-fresh.ensures.0) in
     omega (arith, within, c.count-count.ensures.value, c.u32_at-gone.ensures)
 
-pub splice-requires : goal.splice-requires
-splice-requires c =
+pub ended-requires : goal.ended-requires
+ended-requires c =
     let olds = c.last_blocks-olds.result.now in
-    let are = splice_tail olds _ _ _ _ (gone_at c.args.at c.args.bytes.now) c.count-count.ensures.value
-    (ap (λ g. c.count-count.result - g) c.u32_at-gone.ensures) (c.as_slice.ensures.value ∙ c.in_ok-fresh.ensures.1) in
+    let are = ended_tail olds _ _ _ _ (gone_at c.args.at c.args.bytes.now) c.count-count.ensures.value
+    (ap (λ g. c.count-count.result - g) c.u32_at-gone.ensures) c.in_ok-fresh.ensures.1 in
     let end = tail c.args.old.now.layout _ _ _ c.as_slice-clips.ensures.value c.last_start.ensures
     c.last_blocks-olds.ensures c.as_slice-clips.ensures.apart c.requires.some c.args.limits c.args.at
     c.args.bytes.now _ c.requires.half_full c.in_ok-fresh.ensures.0 are in
     record {
-      rising = omega arith;
       within = omega (arith, c.count-count.ensures.value);
       full = (c.args.limits.block_size, end.half_full);
       none_empty = end.none_empty;
@@ -58,8 +57,8 @@ from_clips-requires c =
     let layout = c.args.old.now.layout in
     let same = c.as_slice-clips.ensures.value in
     let olds = c.last_blocks-olds.result.now in
-    let are = splice_tail olds _ _ _ _ (gone_at c.args.at c.args.bytes.now) c.count-count.ensures.value
-    (ap (λ g. c.count-count.result - g) c.u32_at-gone.ensures) (c.as_slice.ensures.value ∙ c.in_ok-fresh.ensures.1) in
+    let are = ended_tail olds _ _ _ _ (gone_at c.args.at c.args.bytes.now) c.count-count.ensures.value
+    (ap (λ g. c.count-count.result - g) c.u32_at-gone.ensures) c.in_ok-fresh.ensures.1 in
     let end = tail layout _ _ _ same c.last_start.ensures
     c.last_blocks-olds.ensures c.as_slice-clips.ensures.apart c.requires.some c.args.limits c.args.at
     c.args.bytes.now _ c.requires.half_full c.in_ok-fresh.ensures.0 (c.in_ok-blocks.ensures ∙ are) in
@@ -76,10 +75,11 @@ returns c =
     let bs = blocks_at (fresh_at c.args.at c.args.bytes.now) (c.args.at + 17) c.args.bytes.now in
     let start = c.last_start.ensures ∙ ap last_start same in
     let are_olds = c.last_blocks-olds.ensures ∙ ap last_blocks same in
-    let are = splice_tail olds _ _ _ _ gone c.count-count.ensures.value
-    (ap (λ g. c.count-count.result - g) c.u32_at-gone.ensures) (c.as_slice.ensures.value ∙ c.in_ok-fresh.ensures.1) in
+    let are = ended_tail olds _ _ _ _ gone c.count-count.ensures.value
+    (ap (λ g. c.count-count.result - g) c.u32_at-gone.ensures) c.in_ok-fresh.ensures.1 in
     let blocks = c.in_ok-blocks.ensures ∙ are ∙ ap (λ os. kept_blocks os gone ++ bs) are_olds in
-    let clips = c.in_ok-clips.ensures ∙ ap (with_last c.in_ok-blocks.blocks) same ∙ ap (λ os. with_last os layout) blocks in (
+    let clips =
+    c.in_ok-clips.ensures ∙ ap (with_last c.in_ok-blocks.blocks) same ∙ ap (λ os. with_last os layout) blocks in (
       ap₂ (λ s os. first_failed (tail_tests c.args.limits s os c.args.at c.args.bytes.now)) (sym start) (sym are_olds)
           ∙ c.in_ok-fresh.ensures.0,
       ap (λ l. record c.args.old.now { number = 0; layout = l }) (c.in_ok-layout.ensures ∙ clips),

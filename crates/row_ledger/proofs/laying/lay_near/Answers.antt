@@ -1,6 +1,4 @@
 -- The ids are the rows with others in place of some.
-use Rattle.std.proofs.Common.{◌+◌, ◌^◌, ◌<◌, ℕ, List, sym, subst}
-use Rattle.block_ledger.specs.Counts.{occurrences, times}
 use Rattle.row_ledger.specs.Rows.{counts, flat}
 use Rattle.row_ledger.proofs.Ends.{middle_there}
 use Rattle.row_ledger.proofs.laying.lay_near.Goals as goal

@@ -1,6 +1,6 @@
 -- A root that is tested is the one that is meant.
 use Rattle.std.proofs.Common.{◌∙◌}
-use Rattle.script_text.proofs.RootLemmas.{root_is}
+use Rattle.pcm_base.proofs.RootLemmas.{root_is}
 use Rattle.script_text.proofs.roots.root.Goals as goal
 
 pub returns-then-is_root : goal.returns-then-is_root

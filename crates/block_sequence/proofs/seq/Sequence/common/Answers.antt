@@ -4,8 +4,8 @@ use Rattle.block_sequence.specs.{Fronts.common, Rows.flat}
 use Rattle.block_sequence.proofs.{FlatRows.length_few, Fronts.common_within}
 use Rattle.block_sequence.proofs.seq.Sequence.common.Goals as goal
 
-pub common_count-requires : goal.common_count-requires
-common_count-requires c =
+pub common_count-requires-clause-few : goal.common_count-requires-clause-few
+common_count-requires-clause-few c =
     let r = c.rows-mine.ensures in
     omega (arith, ap length r.value, length_few _ r.none_empty, r.few)
 

@@ -2,9 +2,10 @@
 use Rattle.editor_core.proofs.Common.{◌⊎◌, inr, refl, sym, ap, subst, ℕ, ◌+◌, IfErr, List, length, Err, Ok, arith}
 use Rattle.editor_core.proofs.Common.{after_err, Done, History, IsUndamaged, Track, point_blocks, Took, as_reply}
 use Rattle.editor_core.proofs.Common.{with_sound, Lasts, Core, IfCutShort, Carried, IsStill, IsInsideOr, RefusedBrought}
-use Rattle.editor_core.proofs.Common.{HasIds, history_tracks, MayBecome, core_of, Few}
+use Rattle.editor_core.proofs.Common.{HasIds, history_tracks, MayBecome, core_of, current_tracks, Few}
 use Rattle.std.proofs.Common.{pos}
 use Rattle.edit_ops.specs.Plans.{AreNew}
+use Rattle.project_state.specs.Kept.{KeepsTracks}
 use Rattle.editor_state.specs.Edits.{Committed, TaggedEdit, tagged_by}
 use Rattle.editor_state.specs.{Made.PiecesReadable}
 use Rattle.editor_edits.proofs.EditBodies.{carried_at, commit_of, body_point}
@@ -67,6 +68,9 @@ carry-requires-clause-numbers g c =
     let s = core_of c.args.self.now in
     came_agrees g.S.Store s c.requires.studio c.args.edit.point (s.next_layout + c.args.edit.layouts)
     (c.requires.planned (λ _. pos 0)).layouts
+
+pub carry-requires-clause-kept : goal.carry-requires-clause-kept
+carry-requires-clause-kept g c = (c.requires.planned (λ _. pos 0)).kept
 
 pub carry-requires-clause-new : goal.carry-requires-clause-new
 carry-requires-clause-new g c =
@@ -159,6 +163,13 @@ take_recorded-requires-clause-counted g c =
     (λ i. (sym c.in_ok-carry.ensures.history i, ap body_point c.in-Edit.is i))
     (recorded_counted g.S.Store (core_of c.args.self.now) c.requires.studio c.requires.going (done_as g at)
     (c.requires.planned c.in_ok-carry.ensures.carried.0) (core_of c.carry.new.self) (committed g at) tally refl refl)
+
+-- the current project is that of before it
+pub take_recorded-requires-clause-kept : goal.take_recorded-requires-clause-kept
+take_recorded-requires-clause-kept g c =
+    subst (λ (w : History (List Track) × List Track). KeepsTracks c.args.edit.kept (current_tracks w.0) w.1)
+    (λ i. (sym c.in_ok-carry.ensures.history i, ap body_point c.in-Edit.is i))
+    (c.requires.planned c.in_ok-carry.ensures.carried.0).kept
 
 pub take_recorded-requires-clause-layouts : goal.take_recorded-requires-clause-layouts
 take_recorded-requires-clause-layouts g c =

@@ -1,9 +1,20 @@
 -- Nothing was asked of the disk, or the record was added whose body was written.
 use Rattle.editor_core.proofs.Common.{◌≤◌, ◌∷◌, [], refl, sym, subst, List, ℕ, after_err, all_bytes, all_len}
-use Rattle.editor_core.proofs.Common.{body_bytes, single, whole_len, Adds, AddsBody, Core, is_block, AllPass, core_of}
+use Rattle.editor_core.proofs.Common.{current_tracks, body_bytes, single, whole_len, Adds, AddsBody, Core, is_block, AllPass, core_of}
 use Rattle.editor_commits.proofs.AppendFaults.{adds_nothing, exceeds}
 use Rattle.pcm_base.specs.declared.refusal.Refusal.TheVariants as refusal
+use Rattle.editor_core.proofs.KeptBodies.{body_keeps_none}
 use Rattle.editor_core.proofs.studio.Studio.commit_body.Goals as goal
+
+pub may_record-requires-clause-kept : goal.may_record-requires-clause-kept
+may_record-requires-clause-kept g c =
+    body_keeps_none c.none.result (current_tracks (core_of c.args.self.now).history) c.args.body.now
+    c.none.ensures.front c.none.ensures.back
+
+pub write_record-requires-clause-kept : goal.write_record-requires-clause-kept
+write_record-requires-clause-kept g c =
+    body_keeps_none c.none-2.result (current_tracks (core_of c.args.self.now).history) c.args.body.now
+    c.none-2.ensures.front c.none-2.ensures.back
 
 pub returns-in_err-may_record-clause-record : goal.returns-in_err-may_record-clause-record
 returns-in_err-may_record-clause-record g c =

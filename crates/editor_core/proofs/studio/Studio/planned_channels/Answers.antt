@@ -102,7 +102,7 @@ returns-clause-plan g c =
     let all = take_all i c.args.counts.now (omega (arith, c.channels-test.false)) in
     let is = c.planned_of.ensures in
     all_grown s c.args.counts.now i c.channels.growing c.planned_of.result c.channels.invariant.grown all
-    is.0 is.1 is.2 is.3 is.4
+    is.0 is.1 is.2 is.3 is.4 is.6
 
 pub returns-clause-clip : goal.returns-clause-clip
 returns-clause-clip g c = c.planned_of.ensures.5

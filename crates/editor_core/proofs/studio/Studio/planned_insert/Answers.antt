@@ -62,6 +62,7 @@ returns-clause-plan g c =
       is_plan = subst
           (λ (m : ℕ). IsPlan (record { block_size = m; next = s.next_block }) (layout_blocks t.layout)
           c.args.count plan) size c.in_ok-plan.ensures.plan;
+      keeps = c.in_ok-plan.ensures.kept;
       means = c.in_ok-plan.ensures.cells;
       layout = c.in_ok-planned.ensures.layout;
       few =
@@ -71,4 +72,5 @@ returns-clause-plan g c =
       makes_is = c.in_ok-planned.ensures.makes;
       after_is = c.in_ok-planned.ensures.next;
       layouts_is = c.in_ok-planned.ensures.layouts;
+      kept_is = c.in_ok-planned.ensures.kept;
     }

@@ -61,6 +61,7 @@ returns-clause-plan g c =
       plan = plan;
       is_plan = subst (λ (m : ℕ). IsPlan (record { block_size = m; next = s.next_block }) (layout_blocks t.layout)
           0 plan) size c.in_ok-plan.ensures.plan;
+      keeps = c.in_ok-plan.ensures.kept;
       means = c.in_ok-plan.ensures.cells;
       layout = c.in_ok-planned.ensures.layout;
       few = λ src. subst (λ (m : ℕ). length plan.makes ≤ blocks_of_edit c.args.edit m
@@ -73,4 +74,5 @@ returns-clause-plan g c =
       makes_is = c.in_ok-planned.ensures.makes;
       after_is = c.in_ok-planned.ensures.next;
       layouts_is = c.in_ok-planned.ensures.layouts;
+      kept_is = c.in_ok-planned.ensures.kept;
     }

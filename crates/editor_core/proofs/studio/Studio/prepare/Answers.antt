@@ -3,6 +3,7 @@
 use Rattle.editor_core.proofs.Common.{ℕ, inl, inr, ⊎_elim, subst, sym, ◌∙◌, ◌+◌, IfErr, after_err, record_test}
 use Rattle.editor_core.proofs.Common.{Writing, all_len, whole_len, writing, Undrawn, NotPrepared, Core, current_tracks}
 use Rattle.editor_core.proofs.Common.{BodyAgrees, AgreeById, core_of, ◌otherwise◌}
+use Rattle.record_body.specs.Numbers.{BodyKeeps}
 use Rattle.editor_state.proofs.Refusals.CommitTests.{outgrows}
 use Rattle.editor_core.proofs.studio.Studio.prepare.Goals as goal
 
@@ -10,6 +11,11 @@ pub write_records-requires-clause-numbers : goal.write_records-requires-clause-n
 write_records-requires-clause-numbers g c =
     subst (λ (z : Core g.row.S.Denot). BodyAgrees (current_tracks z.history) c.args.body.now)
     (sym c.ready_counts.ensures.same) c.requires.numbers
+
+pub write_records-requires-clause-kept : goal.write_records-requires-clause-kept
+write_records-requires-clause-kept g c =
+    subst (λ (z : Core g.row.S.Denot). BodyKeeps c.args.kept (current_tracks z.history) c.args.body.now)
+    (sym c.ready_counts.ensures.same) c.requires.kept
 
 pub write_records-requires-clause-again : goal.write_records-requires-clause-again
 write_records-requires-clause-again g c =

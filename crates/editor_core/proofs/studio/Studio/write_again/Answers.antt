@@ -3,15 +3,19 @@ use Rattle.editor_core.proofs.Common.{◌≡◌, ◌∙◌, ap, [], List, ℕ, s
 use Rattle.editor_core.proofs.Common.{BodyAgrees, again_agrees, body_bytes, core_of}
 use Rattle.std.proofs.lemmas.Result.{on_ok_weaker}
 use Rattle.editor_commits.proofs.RecordRows.{again_waits}
+use Rattle.editor_core.proofs.KeptBodies.{body_keeps_none}
 use Rattle.editor_core.proofs.studio.Studio.write_again.Goals as goal
 
-pub write_record-requires : goal.write_record-requires
-write_record-requires g c =
+pub write_record-requires-clause-numbers : goal.write_record-requires-clause-numbers
+write_record-requires-clause-numbers g c =
     let current = current_tracks (core_of c.args.self.now).history in
-    record {
-      numbers = subst (λ (b : Body). BodyAgrees current b) (sym c.in_ok-again.ensures)
-          (again_agrees current c.args.body.now c.requires.again);
-    }
+    subst (λ (b : Body). BodyAgrees current b) (sym c.in_ok-again.ensures)
+    (again_agrees current c.args.body.now c.requires.again)
+
+pub write_record-requires-clause-kept : goal.write_record-requires-clause-kept
+write_record-requires-clause-kept g c =
+    body_keeps_none c.none.result (current_tracks (core_of c.args.self.now).history) c.in_ok-again.again
+    c.none.ensures.front c.none.ensures.back
 
 pub returns-clause-rows : goal.returns-clause-rows
 returns-clause-rows g c =

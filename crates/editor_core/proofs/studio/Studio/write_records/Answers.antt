@@ -2,14 +2,19 @@
 use Rattle.editor_core.proofs.Common.{◌≡◌, ◌∙◌, ap, ℕ, List, [], ◌∷◌, ◌++◌, length, arith, subst, sym, Stored, Track}
 use Rattle.editor_core.proofs.Common.{current_tracks, BodyAgrees, body_bytes, Core, core_of}
 use Rattle.project_journal.specs.Journal.{opened}
+use Rattle.record_body.specs.Numbers.{BodyKeeps}
 use Rattle.editor_commits.proofs.RecordRows.{all_wait, last_short}
 use Rattle.editor_core.proofs.studio.Studio.write_records.Goals as goal
 
-pub write_record-requires : goal.write_record-requires
-write_record-requires g c = record {
-  numbers = subst (λ (h : Stored (List Track)). BodyAgrees (current_tracks h.history) c.args.body.now)
-      (sym c.write_again.ensures.history) c.requires.numbers;
-}
+pub write_record-requires-clause-numbers : goal.write_record-requires-clause-numbers
+write_record-requires-clause-numbers g c =
+    subst (λ (h : Stored (List Track)). BodyAgrees (current_tracks h.history) c.args.body.now)
+    (sym c.write_again.ensures.history) c.requires.numbers
+
+pub write_record-requires-clause-kept : goal.write_record-requires-clause-kept
+write_record-requires-clause-kept g c =
+    subst (λ (h : Stored (List Track)). BodyKeeps c.args.kept (current_tracks h.history) c.args.body.now)
+    (sym c.write_again.ensures.history) c.requires.kept
 
 pub add_record-requires : goal.add_record-requires
 add_record-requires g c =
